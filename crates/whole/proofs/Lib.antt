@@ -1,0 +1,5 @@
+pub mod Ring
+pub mod Order
+pub mod Floor
+pub mod Nearest
+pub mod Fit

@@ -1,0 +1,121 @@
+-- The order of whole numbers with a sign. a ≤ b says that b is a and a natural number more (`le-gap`, `le-of`), so each law is an identity of `Ring`.
+use mathlib.Core.Path.{_≡_, refl, sym, ap, _∙_, subst}
+use mathlib.Core.List.{List, [], _∷_}
+use Prim.Native.Nat.{ℕ, zero, suc, _+_, _*_, _-_, _≤_, _<_}
+use native.Mathlib.Omega.{arith}
+use lib.Dec.{T, leb, ltb, leb→le, le→leb, ltb→lt, lt→ltb, nltb→le}
+use lib.IntN.{ℤ, pos, negsuc, negℤ, subℕ, natAbs, _+ℤ_, _-ℤ_, _*ℤ_, +ℤ-idl, +ℤ-idr}
+use lib.Signed.{_≤ℤ_, _<ℤ_, leZ, ltZ, mag}
+use Rattle.whole.proofs.Ring.{var, lit, _⊕_, _⊖_, _⊗_, solve, cond-ind}
+
+pub pos-injective : {m n : ℕ} → pos m ≡ pos n → m ≡ n
+pos-injective e = ap natAbs e
+
+-- a − b of two naturals is minus n + 1 or n, whichever makes up the difference
+pub subℕ-ind : (a b : ℕ) (P : ℤ → Type 0) → ((n : ℕ) → b ≡ suc n + a → P (negsuc n)) → ((n : ℕ) → a ≡ n + b → P (pos n)) → P (subℕ a b)
+subℕ-ind a b P f g = cond-ind (ltb a b) (negsuc (b - suc a)) (pos (a - b)) P (λ t. f (b - suc a) (below (ltb→lt a b t))) (λ t. g (a - b) (above (nltb→le a b t)))
+  where
+    below : a < b → b ≡ suc (b - suc a) + a
+    below h = omega arith
+
+    above : b ≤ a → a ≡ a - b + b
+    above h = omega arith
+
+pub subℕ-pos : (a b n : ℕ) → a ≡ n + b → subℕ a b ≡ pos n
+subℕ-pos a b n e = subℕ-ind a b (λ z. z ≡ pos n) (λ m f. absurd (clash m f)) (λ m f. ap pos (same m f))
+  where
+    clash : (m : ℕ) → b ≡ suc m + a → ⊥
+    clash m f = omega arith
+
+    same : (m : ℕ) → a ≡ m + b → m ≡ n
+    same m f = omega arith
+
+pub subℕ-negsuc : (a b n : ℕ) → b ≡ suc n + a → subℕ a b ≡ negsuc n
+subℕ-negsuc a b n e = subℕ-ind a b (λ z. z ≡ negsuc n) (λ m f. ap negsuc (same m f)) (λ m f. absurd (clash m f))
+  where
+    clash : (m : ℕ) → a ≡ m + b → ⊥
+    clash m f = omega arith
+
+    same : (m : ℕ) → b ≡ suc m + a → m ≡ n
+    same m f = omega arith
+
+gap : (a b : ℤ) → T (leZ a b) → (n : ℕ) × (b ≡ a +ℤ pos n)
+gap (pos x) (pos y) t = let h : x ≤ y = leb→le x y t in let e : y ≡ x + (y - x) = omega arith in (y - x, ap pos e)
+gap (pos x) (negsuc y) t = absurd t
+gap (negsuc x) (pos y) t = (y + suc x, sym (subℕ-pos (y + suc x) (suc x) y refl))
+gap (negsuc x) (negsuc y) t =
+    let h : y ≤ x = leb→le y x t in
+    let e : suc x ≡ suc y + (x - y) = omega arith in
+    (x - y, sym (subℕ-negsuc (x - y) (suc x) y e))
+
+pub le-gap : {a b : ℤ} → a ≤ℤ b → (n : ℕ) × (b ≡ a +ℤ pos n)
+le-gap {a} {b} h = gap a b (h .le)
+
+le-more : (a : ℤ) (n : ℕ) → T (leZ a (a +ℤ pos n))
+le-more (pos x) n = le→leb x (x + n) (omega arith)
+le-more (negsuc x) n = subℕ-ind n (suc x) (λ z. T (leZ (negsuc x) z)) (λ m e. le→leb m x (omega arith)) (λ m e. tt)
+
+pub le-of : (n : ℕ) {a b : ℤ} → b ≡ a +ℤ pos n → a ≤ℤ b
+le-of n {a} {b} e = record { le = subst (λ z. T (leZ a z)) (sym e) (le-more a n) }
+
+-- a < b says that a + 1 ≤ b
+pub lt-gap : {a b : ℤ} → a <ℤ b → (n : ℕ) × (b ≡ a +ℤ pos (suc n))
+lt-gap {a} {b} h = go a b (h .lt)
+  where
+    go : (a b : ℤ) → T (ltZ a b) → (n : ℕ) × (b ≡ a +ℤ pos (suc n))
+    go (pos x) (pos y) t = let h : x < y = ltb→lt x y t in let e : y ≡ x + suc (y - suc x) = omega arith in (y - suc x, ap pos e)
+    go (pos x) (negsuc y) t = absurd t
+    go (negsuc x) (pos y) t = let e : suc (y + x) ≡ y + suc x = omega arith in (y + x, sym (subℕ-pos (suc (y + x)) (suc x) y e))
+    go (negsuc x) (negsuc y) t =
+        let h : y < x = ltb→lt y x t in
+        let e : suc x ≡ suc y + suc (x - suc y) = omega arith in
+        (x - suc y, sym (subℕ-negsuc (suc (x - suc y)) (suc x) y e))
+
+lt-more : (a : ℤ) (n : ℕ) → T (ltZ a (a +ℤ pos (suc n)))
+lt-more (pos x) n = lt→ltb x (x + suc n) (omega arith)
+lt-more (negsuc x) n = subℕ-ind (suc n) (suc x) (λ z. T (ltZ (negsuc x) z)) (λ m e. lt→ltb m x (omega arith)) (λ m e. tt)
+
+pub lt-of : (n : ℕ) {a b : ℤ} → b ≡ a +ℤ pos (suc n) → a <ℤ b
+lt-of n {a} {b} e = record { lt = subst (λ z. T (ltZ a z)) (sym e) (lt-more a n) }
+
+-- ---- laws
+
+pub ≤ℤ-trans : {a b c : ℤ} → a ≤ℤ b → b ≤ℤ c → a ≤ℤ c
+≤ℤ-trans {a} h k =
+    let (m, e) = le-gap h in
+    let (n, f) = le-gap k in
+    le-of (m + n) (f ∙ ap (λ z. z +ℤ pos n) e ∙ solve (a ∷ pos m ∷ pos n ∷ []) (var 0 ⊕ var 1 ⊕ var 2) (var 0 ⊕ (var 1 ⊕ var 2)) tt)
+
+pub +-mono : {a b c d : ℤ} → a ≤ℤ b → c ≤ℤ d → (a +ℤ c) ≤ℤ (b +ℤ d)
++-mono {a} {b} {c} {d} h k =
+    let (m, e) = le-gap h in
+    let (n, f) = le-gap k in
+    le-of (m + n) (ap (λ z. z +ℤ d) e ∙ ap (λ z. a +ℤ pos m +ℤ z) f ∙ solve (a ∷ pos m ∷ c ∷ pos n ∷ []) (var 0 ⊕ var 1 ⊕ (var 2 ⊕ var 3)) (var 0 ⊕ var 2 ⊕ (var 1 ⊕ var 3)) tt)
+
+-- a weight that is not negative keeps the order
+pub *-mono : (w : ℕ) {a b : ℤ} → a ≤ℤ b → (pos w *ℤ a) ≤ℤ (pos w *ℤ b)
+*-mono w {a} h =
+    let (n, e) = le-gap h in
+    le-of (w * n) (ap (λ z. pos w *ℤ z) e ∙ solve (pos w ∷ a ∷ pos n ∷ []) (var 0 ⊗ (var 1 ⊕ var 2)) (var 0 ⊗ var 1 ⊕ var 0 ⊗ var 2) tt)
+
+-- what is added on both sides may go
+pub ≤ℤ-cancel : (c : ℤ) {a b : ℤ} → (a +ℤ c) ≤ℤ (b +ℤ c) → a ≤ℤ b
+≤ℤ-cancel c {a} {b} h =
+    let (n, e) = le-gap h in
+    le-of n
+    (solve (b ∷ c ∷ []) (var 0) (var 0 ⊕ var 1 ⊖ var 1) tt
+    ∙ ap (λ z. z -ℤ c) e
+    ∙ solve (a ∷ c ∷ pos n ∷ []) (var 0 ⊕ var 1 ⊕ var 2 ⊖ var 1) (var 0 ⊕ var 2) tt)
+
+pub ≤ℤ-pos : {m n : ℕ} → m ≤ n → pos m ≤ℤ pos n
+≤ℤ-pos {m} {n} h = record { le = le→leb m n h }
+
+pub ≤ℤ-pos⁻¹ : {m n : ℕ} → pos m ≤ℤ pos n → m ≤ n
+≤ℤ-pos⁻¹ {m} {n} h = leb→le m n (h .le)
+
+-- the product of two numbers that are not negative
+pub *-nonneg : {a b : ℤ} → pos 0 ≤ℤ a → pos 0 ≤ℤ b → pos 0 ≤ℤ (a *ℤ b)
+*-nonneg {a} {b} h k =
+    let (m, e) = le-gap h in
+    let (n, f) = le-gap k in
+    le-of (m * n) (ap (λ z. z *ℤ b) e ∙ ap (λ z. (pos 0 +ℤ pos m) *ℤ z) f ∙ solve (pos m ∷ pos n ∷ []) ((lit (pos 0) ⊕ var 0) ⊗ (lit (pos 0) ⊕ var 1)) (lit (pos 0) ⊕ var 0 ⊗ var 1) tt)

@@ -1,0 +1,17 @@
+-- Rounding once, as document 01 has it ("The curve, exactly"): a fraction z / d goes to the nearest whole number, and an exact half to the greater.
+-- Definitions only; the laws that other crates use are in proofs/Nearest.antt.
+use Prim.Native.Nat.{ℕ, _*_, _/_}
+use lib.IntN.{ℤ, pos, negsuc, _+ℤ_, _*ℤ_}
+
+-- The greatest whole number that is at most z / d, for d above 0. Of -(n + 1) it is -(n / d + 1).
+unfoldable pub floor : ℤ → ℕ → ℤ
+floor (pos n) d = pos (n / d)
+floor (negsuc n) d = negsuc (n / d)
+
+-- The whole number nearest to z / d, a half to the greater: the floor of z / d + 1/2, which is (2z + d) / 2d.
+unfoldable pub nearest : ℤ → ℕ → ℤ
+nearest z d = floor (pos 2 *ℤ z +ℤ pos d) (2 * d)
+
+-- Six times the Bezier controls of a span are whole for every basis, so a sum of them is rounded over six times a power of two.
+abbrev pub sixfold : ℕ
+sixfold = 6
