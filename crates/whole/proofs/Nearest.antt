@@ -3,13 +3,13 @@ use mathlib.Core.Path.{_≡_, refl, sym, ap, _∙_, subst}
 use mathlib.Core.List.{List, [], _∷_}
 use Prim.Native.Nat.{ℕ, zero, suc, _+_, _*_, _-_, _^_, _≤_, _<_}
 use native.Mathlib.Omega.{arith}
-use native.Mathlib.Nat.{mul-left-comm, mul-pos}
+use native.Mathlib.Nat.{mul-comm, mul-left-comm, mul-pos, mul-zero}
 use lib.Pow.{pow-pos}
-use lib.IntN.{ℤ, pos, negsuc, negℤ, _+ℤ_, _-ℤ_, _*ℤ_, +ℤ-idl, +ℤ-idr}
+use lib.IntN.{ℤ, pos, negsuc, negℤ, natAbs, _+ℤ_, _-ℤ_, _*ℤ_, *ℤ-zero}
 use lib.Signed.{_≤ℤ_, _<ℤ_}
 use Rattle.whole.specs.Nearest.{floor, nearest}
 use Rattle.whole.proofs.Ring.{var, lit, _⊕_, _⊖_, _⊗_, solve}
-use Rattle.whole.proofs.Order.{le-gap, le-of, lt-gap, lt-of, *-mono, +-mono, pos-injective}
+use Rattle.whole.proofs.Order.{le-gap, le-of, lt-gap, lt-of, *-mono, pos-injective, size-above, size-below, size-between}
 use Rattle.whole.proofs.Floor.{rest, rest-lt, floor-rest, floor-unique, floor-add, floor-scale, floor-floor, floor-mono}
 
 -- ---- what it means: with n = nearest z d, twice the distance z - d·n is from -d up to, and not with, d.
@@ -100,6 +100,17 @@ nearest-by-steps z c e hc he =
     ap (λ x. floor x (2 * (2 * c * e)))
     (solve (z ∷ pos c ∷ pos e ∷ []) (lit (pos 2) ⊗ var 0 ⊕ lit (pos 2) ⊗ var 1 ⊗ var 2) (lit (pos 2) ⊗ (var 0 ⊕ var 2 ⊗ var 1)) tt)
     ∙ floor-scale 2 (z +ℤ pos e *ℤ pos c) (2 * c * e) (omega arith) (mul-pos (omega arith) he)
-    ∙ ap (λ x. floor (z +ℤ pos e *ℤ pos c) x) (native.Mathlib.Nat.mul-comm (2 * c) e)
+    ∙ ap (λ x. floor (z +ℤ pos e *ℤ pos c) x) (mul-comm (2 * c) e)
     ∙ sym (floor-floor (z +ℤ pos e *ℤ pos c) e (2 * c))
     ∙ ap (λ x. floor x (2 * c)) (floor-add z e (pos c) he)
+
+-- a fraction within n either way rounds to a number within n either way
+pub nearest-size : (z : ℤ) (d n : ℕ) → 0 < d → natAbs z ≤ d * n → natAbs (nearest z d) ≤ n
+nearest-size z d n h k =
+    size-between
+    (nearest-above d h (subst (λ x. x ≤ℤ z) (minus-product d n) (size-below k)))
+    (nearest-below d h (size-above k))
+  where
+    minus-product : (d n : ℕ) → negℤ (pos (d * n)) ≡ pos d *ℤ negℤ (pos n)
+    minus-product d zero = ap (λ (m : ℕ). negℤ (pos m)) (mul-zero d) ∙ sym (*ℤ-zero (pos d))
+    minus-product d (suc n) = refl

@@ -119,3 +119,28 @@ pub *-nonneg : {a b : ℤ} → pos 0 ≤ℤ a → pos 0 ≤ℤ b → pos 0 ≤�
     let (m, e) = le-gap h in
     let (n, f) = le-gap k in
     le-of (m * n) (ap (λ z. z *ℤ b) e ∙ ap (λ z. (pos 0 +ℤ pos m) *ℤ z) f ∙ solve (pos m ∷ pos n ∷ []) ((lit (pos 0) ⊕ var 0) ⊗ (lit (pos 0) ⊕ var 1)) (lit (pos 0) ⊕ var 0 ⊗ var 1) tt)
+
+-- a bound on the size is a bound from both sides
+pub size-above : {z : ℤ} {n : ℕ} → natAbs z ≤ n → z ≤ℤ pos n
+size-above {z} {n} h = record { le = go z h }
+  where
+    go : (z : ℤ) → natAbs z ≤ n → T (leZ z (pos n))
+    go (pos m) h = le→leb m n h
+    go (negsuc m) h = tt
+
+pub size-below : {z : ℤ} {n : ℕ} → natAbs z ≤ n → negℤ (pos n) ≤ℤ z
+size-below {z} {n} h = record { le = go z n h }
+  where
+    go : (z : ℤ) (n : ℕ) → natAbs z ≤ n → T (leZ (negℤ (pos n)) z)
+    go (pos m) zero h = le→leb 0 m (omega arith)
+    go (pos m) (suc n) h = tt
+    go (negsuc m) zero h = absurd (omega arith)
+    go (negsuc m) (suc n) h = le→leb m n (omega arith)
+
+pub size-between : {z : ℤ} {n : ℕ} → negℤ (pos n) ≤ℤ z → z ≤ℤ pos n → natAbs z ≤ n
+size-between {z} {n} h k = go z n (h .le) (k .le)
+  where
+    go : (z : ℤ) (n : ℕ) → T (leZ (negℤ (pos n)) z) → T (leZ z (pos n)) → natAbs z ≤ n
+    go (pos m) n h k = leb→le m n k
+    go (negsuc m) zero h k = absurd h
+    go (negsuc m) (suc n) h k = let b = leb→le m n h in omega arith

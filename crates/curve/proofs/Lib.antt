@@ -1,0 +1,9 @@
+pub mod Tab
+pub mod Reflect
+pub mod Published
+pub mod BSpline
+pub mod Span
+pub mod Powers
+pub mod Ways
+pub mod Table
+pub mod Limits

@@ -1,0 +1,55 @@
+-- The sixfold Bezier controls of document 01 draw the published curves, and a span ends where the next one starts. Each is an identity of polynomials.
+use mathlib.Core.Path.{_≡_, refl, sym, ap, _∙_}
+use mathlib.Core.List.{List, [], _∷_}
+use Prim.Native.Nat.{ℕ, zero, suc, _+_, _*_, _^_}
+use native.Mathlib.Omega.{arith}
+use lib.IntN.{ℤ, pos, _+ℤ_, _-ℤ_, _*ℤ_}
+use Rattle.whole.specs.Nearest.{nearest, sixfold}
+use Rattle.whole.proofs.Ring.{Ex, var, lit, _⊕_, _⊖_, _⊗_, ev, Same, solve}
+use Rattle.curve.specs.declared.Four.{Four}
+use Rattle.curve.specs.declared.Basis.{Basis}
+use Rattle.curve.specs.declared.Basis.the-variants.{Bezier, BSpline, Cardinal, Hermite}
+use Rattle.curve.specs.Numbers.{four, dot}
+use Rattle.curve.specs.Published.{published, denominator, cubic, weights, bezierMatrix, hermiteMatrix, cardinalMatrix, bSplineMatrix}
+use Rattle.curve.specs.Span.{firstRecord, records, sixfoldControls, weighted, divisor, point}
+use Rattle.curve.proofs.Reflect.{fourᵉ, num, p, i, h, values, cubicᵉ, weightedᵉ, sixfoldᵉ}
+
+-- For every basis, i and h: the weighted sum of the sixfold controls over 6·h^3 is the published value, a numerator over `denominator`·h^3.
+pub sixfold-is-published : (b : Basis) (q : Four) (x y : ℤ) → weighted (sixfoldControls b q) x y *ℤ pos (denominator b) ≡ published b q x y *ℤ pos sixfold
+unfolding weighted sixfoldControls published weights cubic dot
+sixfold-is-published Bezier q x y = solve (values q x y) (weightedᵉ (sixfoldᵉ Bezier p) i h ⊗ num 1) (cubicᵉ bezierMatrix p i h ⊗ num 6) tt
+sixfold-is-published BSpline q x y = solve (values q x y) (weightedᵉ (sixfoldᵉ BSpline p) i h ⊗ num 6) (cubicᵉ bSplineMatrix p i h ⊗ num 6) tt
+sixfold-is-published Cardinal q x y = solve (values q x y) (weightedᵉ (sixfoldᵉ Cardinal p) i h ⊗ num 2) (cubicᵉ (cardinalMatrix (pos 1) (pos 2)) p i h ⊗ num 6) tt
+sixfold-is-published Hermite q x y = solve (values q x y) (weightedᵉ (sixfoldᵉ Hermite p) i h ⊗ num 1) (cubicᵉ hermiteMatrix (fourᵉ (p .a) (p .c) (p .b) (p .d)) i h ⊗ num 6) tt
+
+-- ---- joints
+
+-- The sum at t = 0 has the first control alone, and at t = 1 the last.
+pub weighted-start : (q : Four) (y : ℤ) → weighted q (pos 0) y ≡ y *ℤ y *ℤ y *ℤ q .a
+unfolding weighted weights dot
+weighted-start q y = solve (values q (pos 0) y) (weightedᵉ p (num 0) h) (h ⊗ h ⊗ h ⊗ p .a) tt
+
+pub weighted-end : (q : Four) (y : ℤ) → weighted q y y ≡ y *ℤ y *ℤ y *ℤ q .d
+unfolding weighted weights dot
+weighted-end q y = solve (values q (pos 0) y) (weightedᵉ p h h) (h ⊗ h ⊗ h ⊗ p .d) tt
+
+-- the last sixfold control of a span is the first of the next one
+controls-meet : (b : Basis) (s : ℕ) (at : ℕ → ℤ) → sixfoldControls b (records b s at) .d ≡ sixfoldControls b (records b (suc s) at) .a
+unfolding sixfoldControls records firstRecord
+controls-meet Bezier s at = ap (λ r. pos 6 *ℤ at r) (omega arith)
+controls-meet BSpline s at =
+    let e : s + 1 ≡ suc s = omega arith in
+    let f : s + 2 ≡ suc s + 1 = omega arith in
+    let g : s + 3 ≡ suc s + 2 = omega arith in
+    rw (e, f, g)
+controls-meet Cardinal s at = ap (λ r. pos 6 *ℤ at r) (omega arith)
+controls-meet Hermite s at = ap (λ r. pos 6 *ℤ at r) (omega arith)
+
+-- For each basis a span's end, at t = 1, is the next span's start, at t = 0.
+pub joint : (b : Basis) (k s : ℕ) (at : ℕ → ℤ) → point b k (records b s at) (2 ^ k) ≡ point b k (records b (suc s) at) 0
+unfolding point
+joint b k s at =
+    ap (λ z. nearest z (divisor k))
+    (weighted-end (sixfoldControls b (records b s at)) (pos (2 ^ k))
+    ∙ ap (λ z. pos (2 ^ k) *ℤ pos (2 ^ k) *ℤ pos (2 ^ k) *ℤ z) (controls-meet b s at)
+    ∙ sym (weighted-start (sixfoldControls b (records b (suc s) at)) (pos (2 ^ k))))

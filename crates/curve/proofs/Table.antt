@@ -1,0 +1,50 @@
+-- Row i·2^(6-k) of the depth-6 weights serves depth k: both the sum and its divisor grow by the cube of 2^(6-k), and `nearest` does not see a common factor.
+use mathlib.Core.Path.{_≡_, refl, sym, ap, _∙_}
+use Prim.Native.Nat.{ℕ, _+_, _*_, _-_, _^_, _≤_, _<_}
+use native.Mathlib.Nat.{mul-left-comm, mul-comm, mul-pos, mul-assoc}
+use native.Mathlib.Omega.{arith}
+use lib.Dec.{lit<}
+use lib.Pow.{pow-add, pow-pos}
+use lib.IntN.{ℤ, pos, _*ℤ_}
+use Rattle.whole.specs.Nearest.{nearest, sixfold}
+use Rattle.whole.proofs.Ring.{Ex, var, lit, _⊕_, _⊖_, _⊗_, solve}
+use Rattle.whole.proofs.Nearest.{nearest-scale}
+use Rattle.curve.specs.declared.Four.{Four}
+use Rattle.curve.specs.Numbers.{dot}
+use Rattle.curve.specs.Published.{weights}
+use Rattle.curve.specs.Span.{weighted, divisor}
+use Rattle.curve.specs.Ways.{deepest, row}
+use Rattle.curve.proofs.Powers.{cube, cube-mul, cube-pos, thrice}
+use Rattle.curve.proofs.Reflect.{p, i, h, weightedᵉ}
+use mathlib.Core.List.{List, [], _∷_}
+
+-- i and h both m times as large
+pub weighted-scale : (m : ℤ) (q : Four) (x y : ℤ) → weighted q (x *ℤ m) (y *ℤ m) ≡ m *ℤ m *ℤ m *ℤ weighted q x y
+unfolding weighted weights dot
+weighted-scale m q x y = solve (q .a ∷ q .b ∷ q .c ∷ q .d ∷ x ∷ y ∷ m ∷ []) (weightedᵉ p (i ⊗ var 6) (h ⊗ var 6)) (var 6 ⊗ var 6 ⊗ var 6 ⊗ weightedᵉ p i h) tt
+
+-- the divisor of depth e + k is the cube of 2^e times that of depth k
+divisor-scale : (k e : ℕ) → divisor (k + e) ≡ cube (2 ^ e) * divisor k
+divisor-scale k e =
+    ap (λ (n : ℕ). sixfold * n) (thrice (k + e) ∙ ap cube (pow-add 2 k e) ∙ cube-mul (2 ^ k) (2 ^ e) ∙ ap (λ (n : ℕ). n * cube (2 ^ e)) (sym (thrice k)) ∙ mul-comm (2 ^ (3 * k)) (cube (2 ^ e)))
+    ∙ mul-left-comm sixfold (cube (2 ^ e)) (2 ^ (3 * k))
+
+pub divisor-pos : (k : ℕ) → 0 < divisor k
+divisor-pos k = mul-pos (lit< tt) (pow-pos (3 * k))
+
+-- a coarser depth's point, worked at a finer depth
+finer : (k e : ℕ) (q : Four) (j : ℕ) → nearest (weighted q (pos (j * 2 ^ e)) (pos (2 ^ (k + e)))) (divisor (k + e)) ≡ nearest (weighted q (pos j) (pos (2 ^ k))) (divisor k)
+unfolding cube
+finer k e q j =
+    ap (λ (n : ℕ). nearest (weighted q (pos (j * 2 ^ e)) (pos n)) (divisor (k + e))) (pow-add 2 k e)
+    ∙ ap (λ z. nearest z (divisor (k + e))) (weighted-scale (pos (2 ^ e)) q (pos j) (pos (2 ^ k)))
+    ∙ ap (nearest (pos (cube (2 ^ e)) *ℤ weighted q (pos j) (pos (2 ^ k)))) (divisor-scale k e)
+    ∙ nearest-scale (cube (2 ^ e)) (weighted q (pos j) (pos (2 ^ k))) (divisor k) (cube-pos (2 ^ e) (pow-pos e)) (divisor-pos k)
+
+-- The table's row of depth k gives depth k's point.
+pub by-table : (k : ℕ) → k ≤ deepest → (q : Four) (j : ℕ) → nearest (weighted q (pos (row k j)) (pos (2 ^ deepest))) (divisor deepest) ≡ nearest (weighted q (pos j) (pos (2 ^ k))) (divisor k)
+unfolding row
+by-table k b q j = ap (λ (n : ℕ). nearest (weighted q (pos (j * 2 ^ (deepest - k))) (pos (2 ^ n))) (divisor n)) whole ∙ finer k (deepest - k) q j
+  where
+    whole : deepest ≡ k + (deepest - k)
+    whole = omega arith

@@ -1,0 +1,44 @@
+-- One span on one axis, as document 01 works it ("The curve, exactly"): six times the Bezier controls, their weighted sum, rounded once.
+use Prim.Native.Nat.{ℕ, _+_, _*_, _^_}
+use lib.IntN.{ℤ, pos, _+ℤ_, _-ℤ_, _*ℤ_}
+use Rattle.whole.specs.Nearest.{nearest, sixfold}
+use Rattle.curve.specs.declared.Four.{Four}
+use Rattle.curve.specs.declared.Basis.{Basis}
+use Rattle.curve.specs.declared.Basis.the-variants.{Bezier, BSpline, Cardinal, Hermite}
+use Rattle.curve.specs.Numbers.{four, dot}
+use Rattle.curve.specs.Published.{weights}
+
+-- The first of the four records that span s uses (document 01, the table of bases).
+unfoldable pub firstRecord : Basis → ℕ → ℕ
+firstRecord Bezier s = 3 * s
+firstRecord BSpline s = s
+firstRecord Cardinal s = s
+firstRecord Hermite s = 2 * s
+
+-- The four records of span s on an axis, where `at r` is the coordinate of record r there.
+unfoldable pub records : Basis → ℕ → (ℕ → ℤ) → Four
+records b s at = let r = firstRecord b s in four (at r) (at (r + 1)) (at (r + 2)) (at (r + 3))
+
+-- Six times the four Bezier controls.
+unfoldable pub sixfoldControls : Basis → Four → Four
+sixfoldControls Bezier p = four (pos 6 *ℤ p .a) (pos 6 *ℤ p .b) (pos 6 *ℤ p .c) (pos 6 *ℤ p .d)
+sixfoldControls BSpline p =
+    four
+    (p .a +ℤ pos 4 *ℤ p .b +ℤ p .c)
+    (pos 4 *ℤ p .b +ℤ pos 2 *ℤ p .c)
+    (pos 2 *ℤ p .b +ℤ pos 4 *ℤ p .c)
+    (p .b +ℤ pos 4 *ℤ p .c +ℤ p .d)
+sixfoldControls Cardinal p = four (pos 6 *ℤ p .b) (pos 6 *ℤ p .b +ℤ p .c -ℤ p .a) (pos 6 *ℤ p .c -ℤ p .d +ℤ p .b) (pos 6 *ℤ p .c)
+sixfoldControls Hermite p = four (pos 6 *ℤ p .a) (pos 6 *ℤ p .a +ℤ pos 2 *ℤ p .b) (pos 6 *ℤ p .c -ℤ pos 2 *ℤ p .d) (pos 6 *ℤ p .c)
+
+-- The weighted sum of four controls at t = i / h, times h^3.
+unfoldable pub weighted : Four → ℤ → ℤ → ℤ
+weighted q i h = dot (weights i h) q
+
+-- What the sixfold sum at depth k is divided by: 6 · 2^(3k).
+abbrev pub divisor : ℕ → ℕ
+divisor k = sixfold * 2 ^ (3 * k)
+
+-- The point of a span at t = i / 2^k: worked exactly and rounded once.
+unfoldable pub point : Basis → ℕ → Four → ℕ → ℤ
+point b k p i = nearest (weighted (sixfoldControls b p) (pos i) (pos (2 ^ k))) (divisor k)
