@@ -1,7 +1,9 @@
 -- How far controls and points may lie from zero, in micrometres (document 01).
 use Prim.Native.Nat.{ℕ, _≤_}
 use lib.IntN.{ℤ, natAbs}
+use lib.Signed.{_≤ℤ_}
 use Rattle.curve.specs.declared.Four.{Four}
+use Rattle.curve.specs.Numbers.{four}
 
 -- A control coordinate is from -4,000,000 to 4,000,000.
 abbrev pub limit : ℕ
@@ -17,3 +19,18 @@ pub record Inside (n : ℕ) (p : Four) : Type 0 where
   pub b : natAbs (p .b) ≤ n
   pub c : natAbs (p .c) ≤ n
   pub d : natAbs (p .d) ≤ n
+
+-- Four numbers, each at most its fellow.
+pub record AtMost (q r : Four) : Type 0 where
+  pub a : q .a ≤ℤ r .a
+  pub b : q .b ≤ℤ r .b
+  pub c : q .c ≤ℤ r .c
+  pub d : q .d ≤ℤ r .d
+
+abbrev pub all : ℤ → Four
+all z = four z z z z
+
+-- The box of four records on an axis: all are from lo to hi.
+pub record Box (lo hi : ℤ) (p : Four) : Type 0 where
+  pub low : AtMost (all lo) p
+  pub high : AtMost p (all hi)
