@@ -7,3 +7,4 @@ pub mod Powers
 pub mod Ways
 pub mod Table
 pub mod Limits
+pub mod Machine

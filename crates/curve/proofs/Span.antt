@@ -11,7 +11,7 @@ use Rattle.curve.specs.declared.Basis.{Basis}
 use Rattle.curve.specs.declared.Basis.the-variants.{Bezier, BSpline, Cardinal, Hermite}
 use Rattle.curve.specs.Numbers.{four, dot}
 use Rattle.curve.specs.Published.{published, denominator, cubic, weights, bezierMatrix, hermiteMatrix, cardinalMatrix, bSplineMatrix}
-use Rattle.curve.specs.Span.{firstRecord, records, sixfoldControls, weighted, divisor, point}
+use Rattle.curve.specs.Span.{firstRecord, recordsFrom, records, sixfoldControls, weighted, divisor, point}
 use Rattle.curve.proofs.Reflect.{fourᵉ, num, p, i, h, values, cubicᵉ, weightedᵉ, sixfoldᵉ}
 
 -- For every basis, i and h: the weighted sum of the sixfold controls over 6·h^3 is the published value, a numerator over `denominator`·h^3.
@@ -35,7 +35,7 @@ weighted-end q y = solve (values q (pos 0) y) (weightedᵉ p h h) (h ⊗ h ⊗ h
 
 -- the last sixfold control of a span is the first of the next one
 controls-meet : (b : Basis) (s : ℕ) (at : ℕ → ℤ) → sixfoldControls b (records b s at) .d ≡ sixfoldControls b (records b (suc s) at) .a
-unfolding sixfoldControls records firstRecord
+unfolding sixfoldControls recordsFrom firstRecord
 controls-meet Bezier s at = ap (λ r. pos 6 *ℤ at r) (omega arith)
 controls-meet BSpline s at =
     let e : s + 1 ≡ suc s = omega arith in

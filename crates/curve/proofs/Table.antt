@@ -1,21 +1,22 @@
 -- Row i·2^(6-k) of the depth-6 weights serves depth k: both the sum and its divisor grow by the cube of 2^(6-k), and `nearest` does not see a common factor.
 use mathlib.Core.Path.{_≡_, refl, sym, ap, _∙_}
-use Prim.Native.Nat.{ℕ, _+_, _*_, _-_, _^_, _≤_, _<_}
-use native.Mathlib.Nat.{mul-left-comm, mul-comm, mul-pos, mul-assoc}
+use Prim.Native.Nat.{ℕ, zero, suc, _+_, _*_, _-_, _/_, _%_, _^_, _≤_, _<_}
+use native.Mathlib.Nat.{le-trans, mul-left-comm, mul-comm, mul-pos}
 use native.Mathlib.Omega.{arith}
-use lib.Dec.{lit<}
+use lib.Dec.{lit<, lit≤}
 use lib.Pow.{pow-add, pow-pos}
-use lib.IntN.{ℤ, pos, _*ℤ_}
+use lib.IntN.{ℤ, pos, natAbs, _+ℤ_, _*ℤ_}
 use Rattle.whole.specs.Nearest.{nearest, sixfold}
 use Rattle.whole.proofs.Ring.{Ex, var, lit, _⊕_, _⊖_, _⊗_, solve}
+use Rattle.whole.proofs.Fit.{ev-size}
 use Rattle.whole.proofs.Nearest.{nearest-scale}
 use Rattle.curve.specs.declared.Four.{Four}
 use Rattle.curve.specs.Numbers.{dot}
 use Rattle.curve.specs.Published.{weights}
 use Rattle.curve.specs.Span.{weighted, divisor}
-use Rattle.curve.specs.Ways.{deepest, row}
+use Rattle.curve.specs.Ways.{deepest, row, nth, tableEntry}
 use Rattle.curve.proofs.Powers.{cube, cube-mul, cube-pos, thrice}
-use Rattle.curve.proofs.Reflect.{p, i, h, weightedᵉ}
+use Rattle.curve.proofs.Reflect.{num, p, i, h, weightsᵉ, weightedᵉ}
 use mathlib.Core.List.{List, [], _∷_}
 
 -- i and h both m times as large
@@ -48,3 +49,31 @@ by-table k b q j = ap (λ (n : ℕ). nearest (weighted q (pos (j * 2 ^ (deepest 
   where
     whole : deepest ≡ k + (deepest - k)
     whole = omega arith
+
+-- ---- the table's entries
+
+-- entry 4·row + r is weight r of that row
+pub row-entry : (m r : ℕ) → r < 4 → tableEntry (4 * m + r) ≡ nth (weights (pos m) (pos (2 ^ deepest))) r
+unfolding tableEntry
+row-entry m r k = entry-of (omega arith) (omega arith)
+  where
+    entry-of : (4 * m + r) / 4 ≡ m → (4 * m + r) % 4 ≡ r → nth (weights (pos ((4 * m + r) / 4)) (pos (2 ^ deepest))) ((4 * m + r) % 4) ≡ nth (weights (pos m) (pos (2 ^ deepest))) r
+    entry-of e f = rw (e, f)
+
+-- the rule's four numbers in a row sum to 64^3, for every row
+pub row-sum : (m : ℕ) → tableEntry (4 * m + 0) +ℤ tableEntry (4 * m + 1) +ℤ tableEntry (4 * m + 2) +ℤ tableEntry (4 * m + 3) ≡ pos 262144
+unfolding nth weights
+row-sum m =
+    cong (row-entry m 0 (omega arith)) (row-entry m 1 (omega arith)) (row-entry m 2 (omega arith)) (row-entry m 3 (omega arith))
+    ∙ solve (pos m ∷ []) (weightsᵉ (var 0) (num 64) .a ⊕ weightsᵉ (var 0) (num 64) .b ⊕ weightsᵉ (var 0) (num 64) .c ⊕ weightsᵉ (var 0) (num 64) .d) (num 262144) tt
+  where
+    cong : {a b c d a′ b′ c′ d′ : ℤ} → a ≡ a′ → b ≡ b′ → c ≡ c′ → d ≡ d′ → a +ℤ b +ℤ c +ℤ d ≡ a′ +ℤ b′ +ℤ c′ +ℤ d′
+    cong e f g k = cc
+
+-- no weight of the table is above 2^22
+pub weight-size : (m r : ℕ) → m ≤ 2 ^ deepest → natAbs (nth (weights (pos m) (pos (2 ^ deepest))) r) ≤ 2 ^ 22
+unfolding nth weights
+weight-size m zero k = le-trans (ev-size (pos m ∷ []) (64 ∷ []) (k, tt) (weightsᵉ (var 0) (num 64) .a)) (lit≤ tt)
+weight-size m (suc zero) k = le-trans (ev-size (pos m ∷ []) (64 ∷ []) (k, tt) (weightsᵉ (var 0) (num 64) .b)) (lit≤ tt)
+weight-size m (suc (suc zero)) k = le-trans (ev-size (pos m ∷ []) (64 ∷ []) (k, tt) (weightsᵉ (var 0) (num 64) .c)) (lit≤ tt)
+weight-size m (suc (suc (suc r))) k = le-trans (ev-size (pos m ∷ []) (64 ∷ []) (k, tt) (weightsᵉ (var 0) (num 64) .d)) (lit≤ tt)

@@ -1,6 +1,8 @@
 -- One span on one axis, as document 01 works it ("The curve, exactly"): six times the Bezier controls, their weighted sum, rounded once.
+use mathlib.Core.List.{List}
 use Prim.Native.Nat.{ℕ, _+_, _*_, _^_}
 use lib.IntN.{ℤ, pos, _+ℤ_, _-ℤ_, _*ℤ_}
+use lib.ListN.{getD}
 use Rattle.whole.specs.Nearest.{nearest, sixfold}
 use Rattle.curve.specs.declared.Four.{Four}
 use Rattle.curve.specs.declared.Basis.{Basis}
@@ -15,9 +17,17 @@ firstRecord BSpline s = s
 firstRecord Cardinal s = s
 firstRecord Hermite s = 2 * s
 
--- The four records of span s on an axis, where `at r` is the coordinate of record r there.
-unfoldable pub records : Basis → ℕ → (ℕ → ℤ) → Four
-records b s at = let r = firstRecord b s in four (at r) (at (r + 1)) (at (r + 2)) (at (r + 3))
+-- The coordinate of record r on an axis (0 is x, 1 is y) in a list of controls, x then y.
+unfoldable pub coordinate : List ℤ → ℕ → ℕ → ℤ
+coordinate l axis r = getD l (2 * r + axis) (pos 0)
+
+-- The four records from record r on, where `at` gives the coordinate of each.
+unfoldable pub recordsFrom : ℕ → (ℕ → ℤ) → Four
+recordsFrom r at = four (at r) (at (r + 1)) (at (r + 2)) (at (r + 3))
+
+-- The four records of span s.
+abbrev pub records : Basis → ℕ → (ℕ → ℤ) → Four
+records b s at = recordsFrom (firstRecord b s) at
 
 -- Six times the four Bezier controls.
 unfoldable pub sixfoldControls : Basis → Four → Four

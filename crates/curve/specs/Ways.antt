@@ -1,6 +1,6 @@
 -- Three ways to the points of a span at depth k, from the four sixfold controls of an axis: each lists the 2^k + 1 exact sums, all over the divisor 6 · 2^(3k).
 use mathlib.Core.List.{List, [], _∷_, _++_}
-use Prim.Native.Nat.{ℕ, zero, suc, _*_, _-_, _^_}
+use Prim.Native.Nat.{ℕ, zero, suc, _*_, _-_, _/_, _%_, _^_}
 use lib.IntN.{ℤ, pos, _+ℤ_, _*ℤ_}
 use Rattle.curve.specs.declared.Four.{Four}
 use Rattle.curve.specs.declared.Differences.{Differences}
@@ -19,6 +19,16 @@ deepest = 6
 
 unfoldable pub row : ℕ → ℕ → ℕ
 row k i = i * 2 ^ (deepest - k)
+
+-- Entry e of the table of 260: of row e / 4, and there weight number e % 4.
+unfoldable pub nth : Four → ℕ → ℤ
+nth w zero = w .a
+nth w (suc zero) = w .b
+nth w (suc (suc zero)) = w .c
+nth w (suc (suc (suc r))) = w .d
+
+unfoldable pub tableEntry : ℕ → ℤ
+tableEntry e = nth (weights (pos (e / 4)) (pos (2 ^ deepest))) (e % 4)
 
 -- ---- halving by midpoints: 000 chapter 2 (5), (6) and the splitting matrices H1, H2; 003 "Efficient Form". A midpoint is a half of a sum, so with each level
 -- eight times as large all stays whole: sums of neighbours are twice, sums of those four times, and the last sum eight times a point.

@@ -1,4 +1,10 @@
-// The curve, exactly, on one axis.
+// The curve, exactly, on one axis: what a span's records mean and the three ways to its sums. No call here refuses anything: each says what it requires, and the
+// crates above it check that before they call.
+pub mod forward;
+pub mod halving;
+pub mod records;
+pub mod rounding;
+pub mod weights;
 
 // The four bases of document 01, numbered 1 to 4 there.
 pub enum Basis {
@@ -16,10 +22,17 @@ pub struct Four {
     pub d: i64,
 }
 
-// A value of the curve and its first, second and third forward differences.
+// A sum of the curve and its first, second and third forward differences.
 pub struct Differences {
     pub value: i64,
     pub first: i64,
     pub second: i64,
     pub third: i64,
 }
+
+// A control coordinate is at most this far from zero, in micrometres.
+pub const LIMIT: i32 = 4_000_000;
+// No point of an outline is further than this from zero.
+pub const REACH: i32 = 5_000_000;
+// The deepest outline: a span has at most 2^6 steps.
+pub const DEEPEST: usize = 6;

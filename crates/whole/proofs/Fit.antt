@@ -6,11 +6,11 @@ use mathlib.Core.Bool.{Bool, true, false, _&&_}
 use mathlib.Core.List.{List, [], _∷_}
 use Prim.Native.Nat.{ℕ, zero, suc, _+_, _*_, _-_, _^_, _≤_, _<_}
 use native.Mathlib.Omega.{arith}
-use native.Mathlib.Nat.{mul-le-mul, le-refl, le-trans, lt-of-le-of-lt, le-of-eq}
-use lib.Dec.{T, ltb, ltb→lt}
+use native.Mathlib.Nat.{mul-le-mul, le-refl, le-trans, lt-of-le-of-lt, lt-of-lt-of-le, le-of-eq}
+use lib.Dec.{T, ltb, ltb→lt, lit≤}
 use lib.IntN.{ℤ, pos, negsuc, negℤ, natAbs, subℕ, _+ℤ_, _-ℤ_, _*ℤ_}
 use lib.Signed.{mag}
-use mir.Syntax.{Width}
+use mir.Syntax.{Width, w32, w64}
 use mir.Val.{SFits, toZ, ofZ, hbits}
 use mir.ValLaws.{toZ-ofZ}
 use Rattle.whole.proofs.Ring.{Ex, var, lit, _⊕_, _⊖_, _⊗_, look, ev, and-left, and-right}
@@ -155,3 +155,14 @@ module _ (w : Width) (r : List ℤ) (bs : List ℕ) (ok : Bounded r bs) where
   need (a ⊗ b) t =
       let (n, u, v) = tests (size bs a * size bs b) a b t in
       operated w _*ℤ_ (size bs a * size bs b) (exact a u) (exact b v) (ev-size r bs ok (a ⊗ b)) n
+
+-- ---- a 32-bit number, taken as one of 64 bits
+
+wider : (z : ℤ) → SFits w32 z → SFits w64 z
+wider z f = record { sfits = lt-of-lt-of-le (f .sfits) (lit≤ tt) }
+
+pub widened-fits : (z : ℤ) → SFits w32 z → SFits w64 (kept w32 z)
+widened-fits z f = subst (SFits w64) (sym (kept-is w32 z f)) (wider z f)
+
+pub widened : (z : ℤ) → SFits w32 z → kept w64 (kept w32 z) ≡ z
+widened z f = ap (kept w64) (kept-is w32 z f) ∙ kept-is w64 z (wider z f)

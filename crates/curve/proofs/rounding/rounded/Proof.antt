@@ -1,0 +1,60 @@
+-- A sum within the divisor times 5,000,000 rounds within 5,000,000, which 32 bits hold.
+use mathlib.Core.Path.{_≡_, sym, ap, _∙_, subst}
+use Prim.Native.Nat.{ℕ, _*_, _^_, _≤_, _<_}
+use native.Mathlib.Nat.{le-trans, lt-of-le-of-lt, mul-le-mul, le-refl}
+use native.Mathlib.Omega.{arith}
+use borrow.Author.Needs.{needs}
+use lib.Dec.{lit<}
+use lib.IntN.{ℤ, natAbs}
+use lib.Pow.{pow-mono}
+use lib.Signed.{mag}
+use mir.Syntax.{w32, w64}
+use mir.Val.{SFits}
+use Rattle.whole.specs.Nearest.{nearest}
+use Rattle.whole.proofs.Nearest.{nearest-size}
+use Rattle.whole.proofs.Fit.{kept, kept-is, mag-le, sfits}
+use Rattle.curve.specs.Limits.{reach}
+use Rattle.curve.specs.Span.{divisor}
+use Rattle.curve.specs.Ways.{deepest}
+use Rattle.curve.proofs.Table.{divisor-pos}
+use Rattle.curve.proofs.rounding.rounded.Statement.{statement}
+use Rattle.curve.proofs.rounding.rounded.Tie as tie
+
+-- the widest sum of any depth
+pub sum-bound : (k : ℕ) → k ≤ deepest → divisor k * reach ≤ divisor deepest * reach
+sum-bound k h = mul-le-mul (mul-le-mul (le-refl 6) (pow-mono {i = 3 * k} {j = 3 * deepest} (omega arith))) (le-refl reach)
+
+mul-bits : tie.Need-mul-bits
+mul-bits c = search needs
+
+cast-bits : tie.Need-cast-bits
+cast-bits c = search needs
+
+round-sixfold-requires : tie.Need-round-sixfold-requires
+round-sixfold-requires c κs =
+    let z = c .args .sum in (
+      subst (λ x. mag x < 2 ^ 62) (sym (kept-is w64 z (c .fits .sum)))
+          (lt-of-le-of-lt (le-trans (mag-le z) (le-trans (c .pre .1) (sum-bound (c .args .depth) (c .pre .0)))) (lit< tt)),
+      omega arith,
+    )
+
+-- what the callee answers, for the sum as it was passed
+rounds : (c : tie.After-round-sixfold) → c .round-sixfold .result ≡ nearest (c .before .args .sum) (divisor (c .before .args .depth))
+rounds c = c .round-sixfold .ensures ∙ ap (λ z. nearest z (divisor (c .before .args .depth))) (kept-is w64 (c .before .args .sum) (c .before .fits .sum))
+
+-- the rounded number is in range
+small : (c : tie.After-round-sixfold) → natAbs (c .round-sixfold .result) ≤ reach
+small c =
+    subst (λ z. natAbs z ≤ reach) (sym (rounds c))
+    (nearest-size (c .before .args .sum) (divisor (c .before .args .depth)) reach (divisor-pos (c .before .args .depth)) (c .before .pre .1))
+
+cast-result : tie.Need-cast-result
+cast-result c = subst (SFits w32) (sym (kept-is w64 (c .round-sixfold .result) (sfits w64 (c .round-sixfold .result) reach (small c) tt))) (sfits w32 (c .round-sixfold .result) reach (small c) tt)
+
+returns : tie.Need-returns
+returns c =
+    let z = c .round-sixfold .result in
+    ap (kept w32) (kept-is w64 z (sfits w64 z reach (small c) tt)) ∙ kept-is w32 z (sfits w32 z reach (small c) tt) ∙ rounds c
+
+pub rounded-spec : {M : Type 1} → statement M
+rounded-spec = tie.close (tie.spec mul-bits cast-bits round-sixfold-requires cast-result returns)

@@ -1,0 +1,113 @@
+// Which records a span uses, and six times its Bezier controls.
+ghost use mathlib.Core.Path.{_≡_};
+ghost use Prim.Native.Nat.{_+_, _*_, _<_};
+ghost use lib.ListN.{length};
+ghost use Rattle.curve.specs.Limits.{Inside, limit};
+ghost use Rattle.curve.specs.Span.{firstRecord, recordsFrom, coordinate, sixfoldControls};
+use crate::Basis;
+use crate::Four;
+
+// The first of the four records that a span uses.
+pub fn first_record(basis: Basis, span: usize) -> usize
+    requires { ⌜ span < 64 ⌝ }
+    ensures { λ r. ⌜ r ≡ firstRecord basis span ⌝ }
+{
+    match basis {
+        Basis::Bezier => 3 * span,
+        Basis::BSpline => span,
+        Basis::Cardinal => span,
+        Basis::Hermite => 2 * span,
+    }
+}
+
+// The four records from `first` on, on an axis: 0 is x, 1 is y.
+pub fn four_records(controls: &[i32], first: usize, axis: usize) -> Four
+    requires { ⌜ 2 * first + axis + 6 < length (now controls) ⌝ }
+    ensures { λ r. ⌜ r ≡ recordsFrom first (coordinate (now (controls .entry)) axis) ⌝ }
+{
+    let at = 2 * first + axis;
+    Four {
+        a: controls[at] as i64,
+        b: controls[at + 2] as i64,
+        c: controls[at + 4] as i64,
+        d: controls[at + 6] as i64,
+    }
+}
+
+// Six times the four Bezier controls of a span.
+pub fn sixfold_controls(basis: Basis, p: Four) -> Four
+    requires { ⌜ Inside limit p ⌝ }
+    ensures { λ r. ⌜ r ≡ sixfoldControls basis p ⌝ }
+{
+    match basis {
+        Basis::Bezier => bezier_controls(p),
+        Basis::BSpline => bspline_controls(p),
+        Basis::Cardinal => cardinal_controls(p),
+        Basis::Hermite => hermite_controls(p),
+    }
+}
+
+fn bezier_controls(p: Four) -> Four
+    requires { ⌜ Inside limit p ⌝ }
+    ensures { λ r. ⌜ r ≡ sixfoldControls Basis.Bezier p ⌝ }
+{
+    let a = p.a;
+    let b = p.b;
+    let c = p.c;
+    let d = p.d;
+    Four {
+        a: 6 * a,
+        b: 6 * b,
+        c: 6 * c,
+        d: 6 * d,
+    }
+}
+
+fn bspline_controls(p: Four) -> Four
+    requires { ⌜ Inside limit p ⌝ }
+    ensures { λ r. ⌜ r ≡ sixfoldControls Basis.BSpline p ⌝ }
+{
+    let a = p.a;
+    let b = p.b;
+    let c = p.c;
+    let d = p.d;
+    Four {
+        a: a + 4 * b + c,
+        b: 4 * b + 2 * c,
+        c: 2 * b + 4 * c,
+        d: b + 4 * c + d,
+    }
+}
+
+fn cardinal_controls(p: Four) -> Four
+    requires { ⌜ Inside limit p ⌝ }
+    ensures { λ r. ⌜ r ≡ sixfoldControls Basis.Cardinal p ⌝ }
+{
+    let a = p.a;
+    let b = p.b;
+    let c = p.c;
+    let d = p.d;
+    Four {
+        a: 6 * b,
+        b: 6 * b + c - a,
+        c: 6 * c - d + b,
+        d: 6 * c,
+    }
+}
+
+// The records of a Hermite span are its start, its start tangent, its end and its end tangent.
+fn hermite_controls(p: Four) -> Four
+    requires { ⌜ Inside limit p ⌝ }
+    ensures { λ r. ⌜ r ≡ sixfoldControls Basis.Hermite p ⌝ }
+{
+    let start = p.a;
+    let leaving = p.b;
+    let end = p.c;
+    let arriving = p.d;
+    Four {
+        a: 6 * start,
+        b: 6 * start + 2 * leaving,
+        c: 6 * end - 2 * arriving,
+        d: 6 * end,
+    }
+}
