@@ -1,0 +1,4 @@
+pub mod Rounding
+pub mod Measures
+pub mod Patterns
+pub mod Exact
