@@ -2,3 +2,4 @@ pub mod Rounding
 pub mod Measures
 pub mod Patterns
 pub mod Exact
+pub mod Over

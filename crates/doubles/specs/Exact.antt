@@ -2,8 +2,9 @@
 -- A double is the library's account of IEEE 754 binary64, where `fin s m e` is m · 2^e with the sign s and 2^e is the fraction up e / down e.
 -- Definitions only; that nothing is lost at our sizes is proved in proofs/Exact.antt.
 use mathlib.Core.Path.{_≡_}
-use mathlib.Core.Bool.{Bool, true, false}
+use mathlib.Core.Bool.{Bool, true, false, _&&_}
 use Prim.Native.Nat.{ℕ, suc, _*_, _^_}
+use lib.Dec.{eqb}
 use lib.IntN.{ℤ, pos, negsuc, negℤ, _*ℤ_}
 use lib.Ieee.{Float, nan, inf, fin, binary64, up, down, round}
 
@@ -23,3 +24,9 @@ unfoldable pub Value : Float → ℤ → ℕ → Type 0
 Value nan z d = ⊥
 Value (inf s) z d = ⊥
 Value (fin s m e) z d = signed s (m * up e) *ℤ pos d ≡ z *ℤ pos (down e)
+
+-- The double x is -0, which document 01 keeps out: zero is written as positive zero.
+unfoldable pub minusZero : Float → Bool
+minusZero nan = false
+minusZero (inf s) = false
+minusZero (fin s m e) = s && eqb m 0
