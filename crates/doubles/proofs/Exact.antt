@@ -17,7 +17,8 @@ use lib.Ieee.Fits.{round-fits, down-pos}
 use Rattle.whole.proofs.Ring.{var, lit, _⊕_, _⊖_, _⊗_, solve}
 use Rattle.doubles.specs.Exact.{signed, dyadic, Value, minusZero}
 use Rattle.doubles.specs.Midpoint.{two, mid}
-use Rattle.doubles.proofs.Over.{over, over-same, signed-times, add-values, half-value}
+use Rattle.doubles.proofs.Values.{value-of, value-unique}
+use Rattle.doubles.proofs.Over.{over, over-same, add-values, half-value}
 
 -- ---- nothing is lost
 
@@ -53,13 +54,6 @@ round-value f s n k hn hk =
       | inl e ↦ subst (λ x. HasValue (round f s x (2 ^ k)) s x (2 ^ k)) (sym e) (round-top f s k hk)
       | inr l ↦ round-below f s n k l hk
     ]
-
-value-of : (x : Float) (s : Bool) (a c : ℕ) → HasValue x s a c → Value x (signed s a) c
-unfolding Value
-value-of nan s a c v = v
-value-of (inf t) s a c v = v
-value-of (fin t m e) s a c v =
-    ap (λ u. signed u (m * up e) *ℤ pos c) (v .0) ∙ sym (signed-times s (m * up e) c) ∙ ap (signed s) (v .1) ∙ signed-times s a (down e)
 
 pub dyadic-exact : (z : ℤ) (k : ℕ) → natAbs z ≤ 2 ^ 53 → k ≤ 1074 → Value (dyadic z k) z (2 ^ k)
 unfolding dyadic
@@ -109,6 +103,11 @@ over-dyadic (negsuc n) k = refl
 
 pub dyadic-same : (y : ℤ) (j : ℕ) (z : ℤ) (k : ℕ) → y *ℤ pos (2 ^ k) ≡ z *ℤ pos (2 ^ j) → dyadic y j ≡ dyadic z k
 dyadic-same y j z k e = sym (over-dyadic y j) ∙ over-same y (2 ^ j) z (2 ^ k) (pow-pos j) (pow-pos k) e ∙ over-dyadic z k
+
+-- and one double has one fraction
+pub dyadic-injective : (y : ℤ) (j : ℕ) (z : ℤ) (k : ℕ) → natAbs y ≤ 2 ^ 53 → j ≤ 1074 → natAbs z ≤ 2 ^ 53 → k ≤ 1074 → dyadic y j ≡ dyadic z k → y *ℤ pos (2 ^ k) ≡ z *ℤ pos (2 ^ j)
+dyadic-injective y j z k hy hj hz hk e =
+    value-unique (dyadic z k) y (2 ^ j) z (2 ^ k) (subst (λ x. Value x y (2 ^ j)) e (dyadic-exact y j hy hj)) (dyadic-exact z k hz hk)
 
 pub dyadic-scale : (z : ℤ) (j k : ℕ) → dyadic (z *ℤ pos (2 ^ j)) (k + j) ≡ dyadic z k
 dyadic-scale z j k =

@@ -1,5 +1,7 @@
 pub mod Rounding
+pub mod Values
+pub mod Over
+pub mod Exact
 pub mod Measures
 pub mod Patterns
-pub mod Exact
-pub mod Over
+pub mod Cases

@@ -17,7 +17,8 @@ use Rattle.whole.proofs.Ring.{var, lit, _⊕_, _⊖_, _⊗_, solve, cond-ind}
 use Rattle.whole.proofs.Fit.{natAbs-mul}
 use Rattle.doubles.specs.Exact.{signed, Value, minusZero}
 use Rattle.doubles.specs.Midpoint.{two}
-use Rattle.doubles.proofs.Rounding.{minus, signed-scale}
+use Rattle.doubles.proofs.Rounding.{minus}
+use Rattle.doubles.proofs.Values.{signed-times}
 
 unfoldable pub over : ℤ → ℕ → Float
 over (pos n) d = round binary64 false n d
@@ -107,10 +108,6 @@ sized : (s : Bool) (m : ℕ) {a b : ℕ} → 0 < a → 0 < b → T (not (s && eq
 sized false m ha hb t e = absurd (clash e)
 sized true zero ha hb t e = absurd t
 sized true (suc m) ha hb t e = mul-pos (mul-pos (omega arith) ha) hb
-
--- the sign before a product
-pub signed-times : (s : Bool) (a c : ℕ) → signed s (a * c) ≡ signed s a *ℤ pos c
-signed-times s a c = ap (signed s) (mul-comm a c) ∙ sym (signed-scale c s a) ∙ *ℤ-comm (pos c) (signed s a)
 
 -- x / e and y / f are u / c and v / d, so their sums are the same fraction
 sum-crossed : (x y e f u v c d : ℤ) → x *ℤ c ≡ u *ℤ e → y *ℤ d ≡ v *ℤ f → (x *ℤ f +ℤ y *ℤ e) *ℤ (c *ℤ d) ≡ (u *ℤ d +ℤ v *ℤ c) *ℤ (e *ℤ f)

@@ -17,12 +17,15 @@ use Rattle.doubles.specs.Number.{limit, thousand, within, measure}
 use Rattle.doubles.specs.declared.Measure.{Measure}
 use Rattle.doubles.specs.declared.Measure.the-variants.{NotFinite, Outside, Micrometres}
 use Rattle.doubles.proofs.Rounding.{nearest-same, nearest-tiny, nearest-far}
-use Rattle.doubles.proofs.Measures.{inside, outside, measure-value}
+use Rattle.doubles.proofs.Values.{signed-times, value-of}
+use Rattle.doubles.proofs.Measures.{inside, outside, measured}
 
 -- ---- q · 2^k / 2^l millimetres
 
 measure-odd : (d : ℕ) (s : Bool) (q k l : ℕ) → measure (odd d s q k l) ≡ within (nearest (signed s (q * 2 ^ k * thousand)) (2 ^ l))
-measure-odd d s q k l = measure-value (odd d s q k l) s (q * 2 ^ k) (2 ^ l) (pow-pos l) (odd-sign d s q k l)
+measure-odd d s q k l =
+    measured (odd d s q k l) (signed s (q * 2 ^ k)) (2 ^ l) (pow-pos l) (value-of (odd d s q k l) s (q * 2 ^ k) (2 ^ l) (odd-sign d s q k l))
+    ∙ ap (λ z. within (nearest z (2 ^ l))) (sym (signed-times s (q * 2 ^ k) thousand))
 
 tiny : (d : ℕ) (s : Bool) (q k l : ℕ) → q < 2 ^ 53 → 64 + k ≤ l → measure (odd d s q k l) ≡ Micrometres (pos 0)
 tiny d s q k l hq hl =
@@ -54,8 +57,10 @@ between : (d : ℕ) (s : Bool) (q k l j : ℕ) → k + j ≡ l → measure (odd 
 between d s q k l j e =
     measure-odd d s q k l
     ∙ ap within
-    (nearest-same s (q * 2 ^ k * thousand) (2 ^ l) (q * thousand) (2 ^ j) (pow-pos l) (pow-pos j)
-    (ap (λ x. x * 2 ^ j) (mul-right-comm q (2 ^ k) thousand) ∙ mul-assoc (q * thousand) (2 ^ k) (2 ^ j) ∙ ap (λ x. q * thousand * x) (sym (pow-add 2 k j) ∙ ap (λ x. 2 ^ x) e)))
+    (nearest-same (signed s (q * 2 ^ k * thousand)) (2 ^ l) (signed s (q * thousand)) (2 ^ j) (pow-pos l) (pow-pos j)
+    (sym (signed-times s (q * 2 ^ k * thousand) (2 ^ j))
+    ∙ ap (signed s) (ap (λ x. x * 2 ^ j) (mul-right-comm q (2 ^ k) thousand) ∙ mul-assoc (q * thousand) (2 ^ k) (2 ^ j) ∙ ap (λ x. q * thousand * x) (sym (pow-add 2 k j) ∙ ap (λ x. 2 ^ x) e))
+    ∙ signed-times s (q * thousand) (2 ^ l)))
 
 -- ---- by the field
 

@@ -4,10 +4,10 @@ use mathlib.Core.Path.{_≡_, refl, sym, ap, _∙_, subst}
 use mathlib.Core.Bool.{Bool, true, false}
 use mathlib.Core.List.{List, [], _∷_}
 use Prim.Native.Nat.{ℕ, zero, suc, _+_, _*_, _-_, _≤_, _<_}
-use native.Mathlib.Nat.{mul-comm, mul-pos}
+use native.Mathlib.Nat.{mul-comm}
 use native.Mathlib.Omega.{arith}
 use lib.Dec.{leb→le}
-use lib.IntN.{ℤ, pos, negsuc, negℤ, natAbs, _+ℤ_, _-ℤ_, _*ℤ_, +ℤ-idl}
+use lib.IntN.{ℤ, pos, negsuc, negℤ, natAbs, _+ℤ_, _-ℤ_, _*ℤ_, +ℤ-idl, *ℤ-comm}
 use lib.Signed.{_≤ℤ_, _<ℤ_}
 use Rattle.whole.specs.Nearest.{nearest}
 use Rattle.whole.proofs.Ring.{var, lit, _⊕_, _⊖_, _⊗_, solve}
@@ -19,20 +19,13 @@ use Rattle.doubles.specs.Exact.{signed}
 pub minus : (z : ℤ) → negℤ z ≡ pos 0 -ℤ z
 minus z = sym (+ℤ-idl (negℤ z))
 
-pub signed-scale : (c : ℕ) (s : Bool) (a : ℕ) → pos c *ℤ signed s a ≡ signed s (c * a)
-signed-scale c false a = refl
-signed-scale c true a =
-    ap (λ x. pos c *ℤ x) (minus (pos a))
-    ∙ solve (pos c ∷ pos a ∷ []) (var 0 ⊗ (lit (pos 0) ⊖ var 1)) (lit (pos 0) ⊖ var 0 ⊗ var 1) tt
-    ∙ sym (minus (pos (c * a)))
-
 -- equal fractions round alike
-pub nearest-same : (s : Bool) (a c b d : ℕ) → 0 < c → 0 < d → a * d ≡ b * c → nearest (signed s a) c ≡ nearest (signed s b) d
-nearest-same s a c b d hc hd e =
-    sym (nearest-scale d (signed s a) c hd hc)
-    ∙ ap (λ x. nearest x (d * c)) (signed-scale d s a ∙ ap (signed s) (mul-comm d a ∙ e ∙ mul-comm b c) ∙ sym (signed-scale c s b))
-    ∙ ap (λ x. nearest (pos c *ℤ signed s b) x) (mul-comm d c)
-    ∙ nearest-scale c (signed s b) d hc hd
+pub nearest-same : (y : ℤ) (c : ℕ) (z : ℤ) (d : ℕ) → 0 < c → 0 < d → y *ℤ pos d ≡ z *ℤ pos c → nearest y c ≡ nearest z d
+nearest-same y c z d hc hd e =
+    sym (nearest-scale d y c hd hc)
+    ∙ ap (λ x. nearest x (d * c)) (*ℤ-comm (pos d) y ∙ e ∙ *ℤ-comm z (pos c))
+    ∙ ap (nearest (pos c *ℤ z)) (mul-comm d c)
+    ∙ nearest-scale c z d hc hd
 
 -- less than a half either way rounds to nothing
 pub nearest-tiny : (s : Bool) (a c : ℕ) → 2 * a < c → nearest (signed s a) c ≡ pos 0
