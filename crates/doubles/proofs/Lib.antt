@@ -5,3 +5,4 @@ pub mod Exact
 pub mod Measures
 pub mod Patterns
 pub mod Cases
+pub mod Unique
