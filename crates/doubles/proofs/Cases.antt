@@ -1,12 +1,12 @@
 -- Document 01's sums on a drawing number (P12), computed from the definition. 0.0625 mm is 1 / 2^4, and the two about the limit are 4000 + 1 / 2^11 and 4000 + 1 / 2^10.
 use mathlib.Core.Path.{_≡_, refl}
 use mathlib.Core.Bool.{Bool, true, false}
-use Prim.Native.Nat.{ℕ, _+_, _*_, _-_, _^_}
-use lib.IntN.{ℤ, pos, negsuc, negℤ}
-use lib.Ieee.{Float, nan, inf, fin, binary64, ofBits}
+use Prim.Native.Nat.{_+_, _*_, _-_, _^_}
+use lib.IntN.{pos, negsuc, negℤ}
+use lib.Ieee.{Float, nan, inf, fin}
 use Rattle.whole.specs.Nearest.{floor, nearest}
 use Rattle.doubles.specs.Exact.{dyadic, Value}
-use Rattle.doubles.specs.Number.{within, measure}
+use Rattle.doubles.specs.Number.{measure}
 use Rattle.doubles.specs.declared.Measure.the-variants.{NotFinite, Outside, Micrometres}
 
 -- 0.0625, -0.0625, 4000.00048828125 and 4000.0009765625 as doubles, each by its numerator over a power of two

@@ -1,21 +1,21 @@
 -- Exact doubles. The double of z / 2^k, with |z| at most 2^53 and k at most 1074, has that very value: z has no more digits than a double keeps, and 2^-1074 is the
 -- smallest step that a double has. So sums and halves of such doubles, each rounded once, are again the doubles of the exact sums and halves.
 use mathlib.Core.Path.{_≡_, refl, sym, ap, _∙_, subst}
-use mathlib.Core.Bool.{Bool, true, false, not, _&&_}
-use mathlib.Core.List.{List, [], _∷_}
+use mathlib.Core.Bool.{Bool, true, false, not}
+use mathlib.Core.List.{[], _∷_}
 use mathlib.Core.Logic.{inl, inr}
 use Prim.Native.Nat.{ℕ, zero, suc, _+_, _*_, _-_, _^_, _≤_, _<_}
-use native.Mathlib.Nat.{lt-of-lt-of-le, mul-assoc, mul-comm, mul-pos, one-mul, eq-or-lt-of-le, pow-succ', lt-irrefl, le-of-eq, zero-mul}
-use borrow.Author.Tests.{ne-eqb}
+use native.Mathlib.Nat.{lt-of-lt-of-le, mul-assoc, mul-pos, one-mul, eq-or-lt-of-le, pow-succ', lt-irrefl, le-of-eq, zero-mul, zero-lt-suc}
 use native.Mathlib.Omega.{arith}
-use lib.Dec.{T, eqb, lit<}
+use borrow.Author.Tests.{ne-eqb}
+use lib.Dec.{T, lit<}
 use lib.Pow.{pow-add, pow-pos, pow-mono, pow-lt, shl-lt}
-use lib.IntN.{ℤ, pos, negsuc, negℤ, natAbs, _+ℤ_, _-ℤ_, _*ℤ_, *ℤ-comm}
-use lib.Ieee.{Float, nan, inf, fin, Format, binary32, binary64, prec, emax, low, up, down, fits, round, add, div, ofInt}
+use lib.IntN.{ℤ, pos, negsuc, natAbs, _+ℤ_, _*ℤ_}
+use lib.Ieee.{Float, nan, inf, fin, Format, binary32, binary64, prec, emax, low, up, fits, round, add, div, ofInt}
 use lib.Ieee.Exact.{HasValue, round-exact}
 use lib.Ieee.Fits.{round-fits, down-pos}
-use Rattle.whole.proofs.Ring.{var, lit, _⊕_, _⊖_, _⊗_, solve}
-use Rattle.doubles.specs.Exact.{signed, dyadic, Value, minusZero}
+use Rattle.whole.proofs.Ring.{var, _⊕_, _⊗_, solve}
+use Rattle.doubles.specs.Exact.{dyadic, Value, minusZero}
 use Rattle.doubles.specs.Midpoint.{two, mid}
 use Rattle.doubles.proofs.Values.{value-of, value-unique}
 use Rattle.doubles.proofs.Over.{over, over-same, add-values, half-value}
@@ -55,6 +55,7 @@ round-value f s n k hn hk =
       | inr l ↦ round-below f s n k l hk
     ]
 
+-- its value is z / 2^k
 pub dyadic-exact : (z : ℤ) (k : ℕ) → natAbs z ≤ 2 ^ 53 → k ≤ 1074 → Value (dyadic z k) z (2 ^ k)
 unfolding dyadic
 dyadic-exact (pos n) k hz hk = value-of (round binary64 false n (2 ^ k)) false n (2 ^ k) (round-value binary64 false n k hz hk)
@@ -71,6 +72,7 @@ dyadic-fits (negsuc n) k = round-fits binary64 true (suc n) (2 ^ k)
 clash : false ≡ true → ⊥
 clash e = let z : _≡_ {A = ℕ} 0 1 = cc in omega arith
 
+-- by its sign, or by its size
 plus : (x : Float) (a c : ℕ) → HasValue x false a c → T (not (minusZero x))
 unfolding minusZero
 plus nan a c v = tt
@@ -78,15 +80,12 @@ plus (inf t) a c v = tt
 plus (fin false m e) a c v = tt
 plus (fin true m e) a c v = absurd (clash (sym (v .0)))
 
-above : (a : ℕ) → 0 < suc a
-above a = omega arith
-
 nonzero : (x : Float) (a c : ℕ) → HasValue x true (suc a) c → T (not (minusZero x))
 unfolding minusZero
 nonzero nan a c v = tt
 nonzero (inf t) a c v = tt
 nonzero (fin false m e) a c v = tt
-nonzero (fin true zero e) a c v = absurd (lt-irrefl 0 (lt-of-lt-of-le (mul-pos (above a) (down-pos e)) (le-of-eq (sym (v .1) ∙ ap (λ x. x * c) (zero-mul (up e)) ∙ zero-mul c))))
+nonzero (fin true zero e) a c v = absurd (lt-irrefl 0 (lt-of-lt-of-le (mul-pos (zero-lt-suc a) (down-pos e)) (le-of-eq (sym (v .1) ∙ ap (λ x. x * c) (zero-mul (up e)) ∙ zero-mul c))))
 nonzero (fin true (suc m) e) a c v = subst (λ b. T (not b)) (sym (ne-eqb (suc m) 0 (λ h. omega arith))) tt
 
 pub dyadic-not-minus-zero : (z : ℤ) (k : ℕ) → natAbs z ≤ 2 ^ 53 → k ≤ 1074 → T (not (minusZero (dyadic z k)))
@@ -114,12 +113,14 @@ dyadic-scale z j k =
     dyadic-same (z *ℤ pos (2 ^ j)) (k + j) z k
     (solve (z ∷ pos (2 ^ j) ∷ pos (2 ^ k) ∷ []) (var 0 ⊗ var 1 ⊗ var 2) (var 0 ⊗ (var 2 ⊗ var 1)) tt ∙ ap (λ x. z *ℤ pos x) (sym (pow-add 2 k j)))
 
+-- zero is +0
 pub dyadic-zero : (k : ℕ) → dyadic (pos 0) k ≡ fin false 0 (pos 0)
 unfolding dyadic
 dyadic-zero k = dyadic-same (pos 0) k (pos 0) 0 (ap pos (sym (zero-mul (2 ^ k))))
 
 -- ---- sums
 
+-- of any two; the sum is exact too where its own numerator is within 2^53 (`dyadic-exact`)
 pub dyadic-add-any : (y : ℤ) (j : ℕ) (z : ℤ) (k : ℕ) → natAbs y ≤ 2 ^ 53 → j ≤ 1074 → natAbs z ≤ 2 ^ 53 → k ≤ 1074
     → add binary64 (dyadic y j) (dyadic z k) ≡ dyadic (y *ℤ pos (2 ^ k) +ℤ z *ℤ pos (2 ^ j)) (j + k)
 dyadic-add-any y j z k hy hj hz hk =
@@ -127,6 +128,7 @@ dyadic-add-any y j z k hy hj hz hk =
     ∙ ap (over (y *ℤ pos (2 ^ k) +ℤ z *ℤ pos (2 ^ j))) (sym (pow-add 2 j k))
     ∙ over-dyadic (y *ℤ pos (2 ^ k) +ℤ z *ℤ pos (2 ^ j)) (j + k)
 
+-- over the same power of two
 pub dyadic-add : (y z : ℤ) (k : ℕ) → natAbs y ≤ 2 ^ 53 → natAbs z ≤ 2 ^ 53 → k ≤ 1074 → add binary64 (dyadic y k) (dyadic z k) ≡ dyadic (y +ℤ z) k
 dyadic-add y z k hy hz hk =
     dyadic-add-any y k z k hy hk hz hk
@@ -147,6 +149,7 @@ dyadic-mid y z k hy hz hs hk = ap (λ x. div binary64 x two) (dyadic-add y z k h
 
 -- ---- conversions
 
+-- what `i32 as f64` makes of a whole number
 pub dyadic-whole : (z : ℤ) → ofInt binary64 z ≡ dyadic z 0
 unfolding ofInt dyadic
 dyadic-whole (pos n) = refl

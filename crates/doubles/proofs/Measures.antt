@@ -2,8 +2,8 @@
 use mathlib.Core.Path.{_≡_, refl, sym, ap, _∙_, subst}
 use mathlib.Core.Bool.{Bool, true, false, not, cond}
 use mathlib.Core.Logic.{_⊎_, inl, inr, ⊎-elim, _↔_}
-use mathlib.Core.List.{List, [], _∷_}
-use Prim.Native.Nat.{ℕ, suc, _*_, _≤_, _<_}
+use mathlib.Core.List.{[], _∷_}
+use Prim.Native.Nat.{ℕ, _*_, _≤_, _<_}
 use native.Mathlib.Omega.{arith}
 use borrow.Author.Tests.{le-leb, lt-leb, leb-true, leb-false}
 use lib.Dec.{T, leb}
@@ -14,9 +14,8 @@ use lib.Ieee.Scale.{finite}
 use Rattle.whole.specs.Nearest.{nearest}
 use Rattle.doubles.specs.Exact.{signed, Value}
 use Rattle.doubles.specs.Number.{limit, thousand, within, measure}
-use Rattle.doubles.specs.declared.Measure.{Measure}
 use Rattle.doubles.specs.declared.Measure.the-variants.{NotFinite, Outside, Micrometres}
-use Rattle.whole.proofs.Ring.{var, lit, _⊕_, _⊖_, _⊗_, solve}
+use Rattle.whole.proofs.Ring.{var, lit, _⊗_, solve}
 use Rattle.doubles.proofs.Rounding.{nearest-same}
 use Rattle.doubles.proofs.Values.{signed-times}
 

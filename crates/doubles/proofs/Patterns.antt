@@ -1,20 +1,19 @@
 -- The double that a sign s, an exponent's field x and the digits t stand for, measured by the field: below 1012 it is less than half a micrometre, 2047 is no number,
 -- any other above 1034 is 4,096 mm or more, and between it is (2^52 + t) / 2^(1075 - x) mm.
-use mathlib.Core.Path.{_≡_, refl, sym, ap, _∙_, subst}
+use mathlib.Core.Path.{_≡_, refl, sym, ap, _∙_}
 use mathlib.Core.Bool.{Bool, true, false, cond}
 use Prim.Native.Nat.{ℕ, zero, suc, _+_, _*_, _-_, _^_, _≤_, _<_}
-use native.Mathlib.Nat.{le-trans, lt-of-lt-of-le, lt-of-le-of-lt, le-of-eq, mul-comm, mul-assoc, mul-right-comm, mul-le-mul}
+use native.Mathlib.Nat.{lt-of-lt-of-le, lt-of-le-of-lt, le-of-eq, mul-assoc, mul-right-comm, mul-le-mul, mul-pos}
 use native.Mathlib.Omega.{arith}
 use borrow.Author.Tests.{ne-eqb, eq-eqb}
 use lib.Dec.{eqb, lit≤, lit<}
 use lib.Pow.{pow-add, pow-pos, pow-mono, shl-lt}
-use lib.IntN.{ℤ, pos}
-use lib.Ieee.{Float, nan, inf, fin, binary64, prec, low, hid, ones, odd, ofFields}
+use lib.IntN.{pos}
+use lib.Ieee.{nan, inf, binary64, prec, low, hid, ones, odd, ofFields}
 use lib.Ieee.Exact.{odd-sign}
 use Rattle.whole.specs.Nearest.{nearest}
 use Rattle.doubles.specs.Exact.{signed}
 use Rattle.doubles.specs.Number.{limit, thousand, within, measure}
-use Rattle.doubles.specs.declared.Measure.{Measure}
 use Rattle.doubles.specs.declared.Measure.the-variants.{NotFinite, Outside, Micrometres}
 use Rattle.doubles.proofs.Rounding.{nearest-same, nearest-tiny, nearest-far}
 use Rattle.doubles.proofs.Values.{signed-times, value-of}
@@ -53,14 +52,18 @@ far d s q k l hq hl =
     large = omega (arith, pow-mono hl, pow-add 2 40 k, mul-le-mul hq (le-of-eq {n = 2 ^ k} refl))
 
 -- one power of two taken out of both parts of the fraction
-between : (d : ℕ) (s : Bool) (q k l j : ℕ) → k + j ≡ l → measure (odd d s q k l) ≡ within (nearest (signed s (q * thousand)) (2 ^ j))
+between : (d : ℕ) (s : Bool) (q k l j : ℕ) → k + (2 + j) ≡ l → measure (odd d s q k l) ≡ within (nearest (signed s (q * thousand)) (4 * 2 ^ j))
 between d s q k l j e =
     measure-odd d s q k l
     ∙ ap within
-    (nearest-same (signed s (q * 2 ^ k * thousand)) (2 ^ l) (signed s (q * thousand)) (2 ^ j) (pow-pos l) (pow-pos j)
-    (sym (signed-times s (q * 2 ^ k * thousand) (2 ^ j))
-    ∙ ap (signed s) (ap (λ x. x * 2 ^ j) (mul-right-comm q (2 ^ k) thousand) ∙ mul-assoc (q * thousand) (2 ^ k) (2 ^ j) ∙ ap (λ x. q * thousand * x) (sym (pow-add 2 k j) ∙ ap (λ x. 2 ^ x) e))
-    ∙ signed-times s (q * thousand) (2 ^ l)))
+    (nearest-same (signed s (q * 2 ^ k * thousand)) (2 ^ l) (signed s (q * thousand)) (4 * 2 ^ j) (pow-pos l) (mul-pos (lit< tt) (pow-pos j))
+    (sym (signed-times s (q * 2 ^ k * thousand) (4 * 2 ^ j)) ∙ ap (signed s) crossed ∙ signed-times s (q * thousand) (2 ^ l)))
+  where
+    power : 2 ^ k * (4 * 2 ^ j) ≡ 2 ^ l
+    power = ap (λ x. 2 ^ k * x) (sym (pow-add 2 2 j)) ∙ sym (pow-add 2 k (2 + j)) ∙ ap (λ x. 2 ^ x) e
+
+    crossed : q * 2 ^ k * 1000 * (4 * 2 ^ j) ≡ q * 1000 * 2 ^ l
+    crossed = ap (λ x. x * (4 * 2 ^ j)) (mul-right-comm q (2 ^ k) 1000) ∙ mul-assoc (q * 1000) (2 ^ k) (4 * 2 ^ j) ∙ ap (λ x. q * 1000 * x) power
 
 -- ---- by the field
 
@@ -90,7 +93,7 @@ pub field-far : (s : Bool) (x t : ℕ) → 1034 < x → (x ≡ 2047 → ⊥) →
 field-far s zero t h n = absurd (omega arith)
 field-far s (suc x) t h n = ap measure (leading s x t n) ∙ far (prec binary64) s (hid binary64 + t) x (low binary64) (omega arith) (omega arith)
 
-pub field-between : (s : Bool) (x t : ℕ) → 0 < x → x ≤ 1034 → measure (ofFields binary64 s x t) ≡ within (nearest (signed s ((2 ^ 52 + t) * thousand)) (2 ^ suc (1074 - x)))
+pub field-between : (s : Bool) (x t : ℕ) → 0 < x → x ≤ 1034 → measure (ofFields binary64 s x t) ≡ within (nearest (signed s ((2 ^ 52 + t) * thousand)) (4 * 2 ^ (1073 - x)))
 field-between s zero t h k = absurd (omega arith)
 field-between s (suc x) t h k =
-    ap measure (leading s x t (λ e. omega arith)) ∙ between (prec binary64) s (hid binary64 + t) x (low binary64) (suc (1074 - suc x)) (omega arith)
+    ap measure (leading s x t (λ e. omega arith)) ∙ between (prec binary64) s (hid binary64 + t) x (low binary64) (1073 - suc x) (omega arith)

@@ -1,14 +1,14 @@
 -- What this crate asks of `nearest`, by its laws in crate `whole`: equal fractions round alike, less than a half rounds to nothing, and from a whole bound on the
--- rounded number keeps the bound. A change of the rounding rule is answered here and in `round_shifted`.
-use mathlib.Core.Path.{_≡_, refl, sym, ap, _∙_, subst}
+-- rounded number keeps the bound. A change of the rounding rule is answered here and in `round_quarters`.
+use mathlib.Core.Path.{_≡_, sym, ap, _∙_}
 use mathlib.Core.Bool.{Bool, true, false}
-use mathlib.Core.List.{List, [], _∷_}
-use Prim.Native.Nat.{ℕ, zero, suc, _+_, _*_, _-_, _≤_, _<_}
+use mathlib.Core.List.{[], _∷_}
+use Prim.Native.Nat.{ℕ, suc, _+_, _*_, _-_, _≤_, _<_}
 use native.Mathlib.Nat.{mul-comm}
 use native.Mathlib.Omega.{arith}
 use lib.Dec.{leb→le}
 use lib.IntN.{ℤ, pos, negsuc, negℤ, natAbs, _+ℤ_, _-ℤ_, _*ℤ_, +ℤ-idl, *ℤ-comm}
-use lib.Signed.{_≤ℤ_, _<ℤ_}
+use lib.Signed.{_≤ℤ_}
 use Rattle.whole.specs.Nearest.{nearest}
 use Rattle.whole.proofs.Ring.{var, lit, _⊕_, _⊖_, _⊗_, solve}
 use Rattle.whole.proofs.Order.{le-of, lt-of, ≤ℤ-pos}

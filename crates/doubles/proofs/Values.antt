@@ -1,16 +1,16 @@
 -- A finite double has one value: the library's account of it by a sign and a magnitude is `Value`, and two fractions that are both the value of one double are equal.
 use mathlib.Core.Path.{_≡_, refl, sym, ap, _∙_}
 use mathlib.Core.Bool.{Bool, true, false}
-use mathlib.Core.List.{List, [], _∷_}
+use mathlib.Core.List.{[], _∷_}
 use Prim.Native.Nat.{ℕ, zero, suc, _*_, _<_}
 use native.Mathlib.Nat.{mul-pos, lt-irrefl, lt-of-lt-of-le, le-of-eq, zero-lt-suc}
 use lib.Dec.{T}
-use lib.IntN.{ℤ, pos, negsuc, negℤ, natAbs, _-ℤ_, _*ℤ_, *ℤ-comm, zero-*ℤ}
+use lib.IntN.{ℤ, pos, negsuc, natAbs, _-ℤ_, _*ℤ_}
 use lib.Ieee.{Float, nan, inf, fin, up, down}
 use lib.Ieee.Exact.{HasValue}
 use lib.Ieee.Fits.{down-pos}
 use lib.Ieee.Scale.{finite}
-use Rattle.whole.proofs.Ring.{var, lit, _⊕_, _⊖_, _⊗_, solve, equal-of-sub}
+use Rattle.whole.proofs.Ring.{var, lit, _⊖_, _⊗_, solve, equal-of-sub}
 use Rattle.whole.proofs.Fit.{natAbs-mul}
 use Rattle.doubles.specs.Exact.{signed, Value}
 use Rattle.doubles.proofs.Rounding.{minus}

@@ -1,5 +1,4 @@
 -- The midpoint of document 01's halving ("Preview and drawing"), in doubles: a sum and a half of it, each as IEEE 754 rounds it. Definitions only.
-use Prim.Native.Nat.{ℕ}
 use mathlib.Core.Bool.{false}
 use lib.IntN.{pos}
 use lib.Ieee.{Float, fin, binary64, add, div}

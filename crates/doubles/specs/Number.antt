@@ -3,7 +3,7 @@
 use mathlib.Core.Bool.{cond}
 use Prim.Native.Nat.{ℕ, _*_}
 use lib.Dec.{leb}
-use lib.IntN.{ℤ, natAbs}
+use lib.IntN.{ℤ, pos, natAbs}
 use lib.Ieee.{Float, nan, inf, fin, up, down}
 use Rattle.whole.specs.Nearest.{nearest}
 use Rattle.doubles.specs.Exact.{signed}
@@ -28,3 +28,9 @@ unfolding within
 measure nan = NotFinite
 measure (inf s) = NotFinite
 measure (fin s m e) = within (nearest (signed s (m * up e * thousand)) (down e))
+
+-- Document 01's number and value for each answer: a refusal's number, with no value; or no refusal, 0, with the coordinate.
+abbrev pub paper : Measure → ℕ × ℤ
+paper NotFinite = (10, pos 0)
+paper Outside = (11, pos 0)
+paper (Micrometres n) = (0, n)

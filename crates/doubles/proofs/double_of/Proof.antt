@@ -1,6 +1,6 @@
 -- The conversion of a whole number rounds it over 1, which is 2^0.
 use borrow.Author.Needs.{needs}
-use mathlib.Core.Path.{_≡_, ap, _∙_}
+use mathlib.Core.Path.{ap, _∙_}
 use lib.Ieee.{binary64, ofInt}
 use mir.Syntax.{w32}
 use Rattle.whole.proofs.Fit.{kept-is}

@@ -43,4 +43,4 @@ returns-2 : tie.Need-returns-2
 returns-2 c = c .of-pattern .ensures ∙ ap measure (ofBits-toBits binary64 (c .before .before .args .mm) (held (c .before .before)))
 
 pub micrometres-spec : {M : Type 1} → statement M
-micrometres-spec = tie.close (tie.spec returns float-to-bits-of-pattern of-pattern-requires returns-2)
+micrometres-spec = tie.close (tie.spec float-to-bits-of-pattern of-pattern-requires returns returns-2)

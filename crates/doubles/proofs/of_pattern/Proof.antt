@@ -1,11 +1,11 @@
 -- The remainders and the quotient are the pattern's fields by IEEE 754, and each way out is a case of `Patterns`.
-use mathlib.Core.Path.{_≡_, sym, ap, _∙_}
-use Prim.Native.Nat.{ℕ, _/_, _%_, _^_, _<_}
+use mathlib.Core.Path.{sym, _∙_}
+use Prim.Native.Nat.{_/_, _%_, _^_}
 use native.Mathlib.Nat.{mod-lt}
 use native.Mathlib.Omega.{arith}
 use borrow.Author.Needs.{needs}
 use lib.Dec.{leb, lit<}
-use lib.Ieee.{binary64, ofBits}
+use lib.Ieee.{ofBits}
 use Rattle.doubles.proofs.Patterns.{field-tiny, field-ones, field-far, field-between}
 use Rattle.doubles.proofs.of_pattern.Statement.{statement}
 use Rattle.doubles.proofs.of_pattern.Tie as tie

@@ -1,11 +1,10 @@
 -- The digits times a thousand stay below 2^63, so the product and its negation are kept as they are; then the rounding and the limits by their own contracts.
-use mathlib.Core.Path.{_≡_, refl, sym, ap, _∙_, subst}
-use mathlib.Core.Bool.{Bool}
+use mathlib.Core.Path.{_≡_, sym, ap, _∙_, subst}
 use Prim.Native.Nat.{ℕ, zero, suc, _*_, _-_, _^_, _≤_, _<_}
 use native.Mathlib.Nat.{le-refl, lt-of-le-of-lt}
 use native.Mathlib.Omega.{arith}
 use borrow.Author.Needs.{needs}
-use lib.IntN.{ℤ, pos, negℤ, _-ℤ_, +ℤ-idl}
+use lib.IntN.{pos, negℤ, _-ℤ_, +ℤ-idl}
 use lib.Signed.{mag}
 use mir.Syntax.{w64}
 use mir.Val.{SFits}
@@ -16,7 +15,7 @@ use Rattle.doubles.specs.Number.{thousand, within}
 use Rattle.doubles.proofs.scaled.Statement.{statement}
 use Rattle.doubles.proofs.scaled.Tie as tie
 
-product : {n : ℕ} → n < 2 ^ 53 → n * 1000 < 2 ^ 63 - 1
+product : {n : ℕ} → n < 2 ^ 53 → n * 1000 < 2 ^ 63 - 2
 product h = omega arith
 
 product-fits : {n : ℕ} → n < 2 ^ 53 → SFits w64 (pos (n * 1000))
@@ -42,25 +41,25 @@ mul-z c = search needs
 cast-z : tie.Need-cast-z
 cast-z c = search needs
 
-sub-round-shifted : tie.Need-sub-round-shifted
-sub-round-shifted c =
+sub-round-quarters : tie.Need-sub-round-quarters
+sub-round-quarters c =
     let n = c .before .args .digits in
     subst (SFits w64) (sym (difference n (c .before .pre .0))) (negated-fits n (c .before .pre .0))
 
-round-shifted-requires : tie.Need-round-shifted-requires
-round-shifted-requires c κs =
+round-quarters-requires : tie.Need-round-quarters-requires
+round-quarters-requires c κs =
     let n = c .before .args .digits in
     let h = c .before .pre .0 in
-    (subst (λ x. mag x < 2 ^ 63 - 1) (sym (negated n h)) (lt-of-le-of-lt (mag-neg (n * 1000)) (product h)), c .before .pre .1)
+    (subst (λ x. mag x < 2 ^ 63 - 2) (sym (negated n h)) (lt-of-le-of-lt (mag-neg (n * 1000)) (product h)), c .before .pre .1)
 
 coordinate-requires : tie.Need-coordinate-requires
 coordinate-requires c κs = search needs
 
-round-shifted-requires-2 : tie.Need-round-shifted-requires-2
-round-shifted-requires-2 c κs =
+round-quarters-requires-2 : tie.Need-round-quarters-requires-2
+round-quarters-requires-2 c κs =
     let n = c .before .args .digits in
     let h = c .before .pre .0 in
-    (subst (λ x. mag x < 2 ^ 63 - 1) (sym (kept-is w64 (pos (n * 1000)) (product-fits h))) (product h), c .before .pre .1)
+    (subst (λ x. mag x < 2 ^ 63 - 2) (sym (kept-is w64 (pos (n * 1000)) (product-fits h))) (product h), c .before .pre .1)
 
 coordinate-requires-2 : tie.Need-coordinate-requires-2
 coordinate-requires-2 c κs = search needs
@@ -69,11 +68,11 @@ returns : tie.Need-returns
 returns c =
     let start = c .before .before .before in
     let n = start .args .digits in
-    let d = 2 ^ suc (start .args .bits) in
+    let d = 4 * 2 ^ start .args .bits in
     c .coordinate .ensures
     ∙ ap within
-    (kept-is w64 (c .before .round-shifted .result) (record { sfits = c .before .round-shifted .ok })
-    ∙ c .before .round-shifted .ensures
+    (kept-is w64 (c .before .round-quarters .result) (record { sfits = c .before .round-quarters .ok })
+    ∙ c .before .round-quarters .ensures
     ∙ ap (λ x. nearest x d) (negated n (start .pre .0)))
     ∙ ap (λ s. within (nearest (signed s (n * thousand)) d)) (sym (c .before .before .if1 .taken))
 
@@ -81,11 +80,11 @@ returns-2 : tie.Need-returns-2
 returns-2 c =
     let start = c .before .before .before in
     let n = start .args .digits in
-    let d = 2 ^ suc (start .args .bits) in
+    let d = 4 * 2 ^ start .args .bits in
     c .coordinate2 .ensures
     ∙ ap within
-    (kept-is w64 (c .before .round-shifted2 .result) (record { sfits = c .before .round-shifted2 .ok })
-    ∙ c .before .round-shifted2 .ensures
+    (kept-is w64 (c .before .round-quarters2 .result) (record { sfits = c .before .round-quarters2 .ok })
+    ∙ c .before .round-quarters2 .ensures
     ∙ ap (λ x. nearest x d) (kept-is w64 (pos (n * 1000)) (product-fits (start .pre .0))))
     ∙ ap (λ s. within (nearest (signed s (n * thousand)) d)) (sym (c .before .before .if1 .left))
 
@@ -95,10 +94,10 @@ scaled-spec =
     (tie.spec
     mul-z
     cast-z
-    sub-round-shifted
-    round-shifted-requires
+    sub-round-quarters
+    round-quarters-requires
     coordinate-requires
-    round-shifted-requires-2
+    round-quarters-requires-2
     coordinate-requires-2
     returns
     returns-2)
