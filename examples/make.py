@@ -1,0 +1,109 @@
+"""Writes the example record files beside this script: `python3 examples/make.py`.
+
+The pieces are measured in millimetres, x to the right and y up; a record holds
+whole micrometres.
+"""
+
+import struct
+from pathlib import Path
+
+BEZIER, B_SPLINE, CARDINAL, HERMITE = 1, 2, 3, 4
+
+# Distance of the inner controls along the tangents of a quarter circle, as a part of its radius.
+QUARTER = 0.5523
+
+
+def line(start, end):
+    """The three Bezier records after `start` that draw a straight edge."""
+    return [start, end, end]
+
+
+def mirrored(records):
+    """The same records on the other side of x = 0, in the other order."""
+    return [(-x, y) for x, y in reversed(records)]
+
+
+def arched_door():
+    """A door leaf, 826 mm by 2040 mm, under a half-round arch."""
+    half, spring, top = 413, 1627, 2040
+    reach = QUARTER * half
+    foot, jamb, crown = (half, 0), (half, spring), (0, top)
+    right_arch = [(half, spring + reach), (reach, top), crown]
+    left_arch = mirrored([jamb, *right_arch])[1:]
+    return BEZIER, 4, [(-half, 0), *line((-half, 0), foot), *line(foot, jamb), *right_arch, *left_arch,
+                       *line((-half, spring), (-half, 0))]
+
+
+def vase_splat():
+    """The splat of a chair back, 430 mm high, shaped like a vase."""
+    right = [
+        (62, 0), (62, 26), (26, 34), (26, 66),        # foot, drawn in to the stem
+        (26, 122), (92, 150), (92, 222),              # belly
+        (92, 282), (30, 286), (30, 338),              # shoulder and neck
+        (30, 380), (78, 382), (78, 430),              # lip, flared to meet the rail
+    ]
+    left = mirrored(right)
+    return BEZIER, 4, [*right, *line(right[-1], left[0]), *left[1:], *line(left[-1], right[0])]
+
+
+def bracket():
+    """A shelf bracket, 220 mm by 260 mm: each joint and the tangent there; none at a corner."""
+    corner = (0, 0)
+    joints = [
+        ((0, 0), corner), ((220, 0), corner),         # under the shelf
+        ((220, -24), corner),                         # square nose
+        ((150, -44), (-130, 10)),                     # ogee: the hollow
+        ((92, -118), (-70, -150)),                    # and where it turns
+        ((34, -196), (-80, -60)),                     # into the swell
+        ((24, -260), corner),                         # toe
+        ((0, -260), corner), ((0, 0), corner),        # along the wall
+    ]
+    return HERMITE, 4, [record for joint in joints for record in joint]
+
+
+def scalloped_apron():
+    """The lower edge of a table's apron, 900 mm long: five lobes, each a quarter as deep as it is wide."""
+    lobe = [(0.0, 0.0), (0.07, -0.56), (0.24, -0.91), (0.5, -1.0), (0.76, -0.91), (0.93, -0.56)]
+    edge, x = [], 0
+    for width in (150, 180, 240, 180, 150):
+        edge += [(x + across * width, down * width / 4) for across, down in lobe]
+        x += width
+    # The curve passes through every record but the first and the last.
+    return CARDINAL, 3, [(-10, -21), *edge, (x, 0), (x + 10, -21)]
+
+
+def cabriole_leg():
+    """The leg of a footstool, 320 mm high: from the post down the knee to the foot, and up the back."""
+    front = [(0, 320), (0, 298), (-5, 274), (-24, 254), (-41, 224), (-43, 188), (-31, 148), (-11, 108), (4, 74),
+             (0, 48), (-22, 34), (-44, 24)]
+    foot = [(-44, 10), (-26, 1), (4, 0), (34, 1), (56, 10)]
+    back = [(58, 26), (50, 48), (46, 78), (45, 112), (41, 150), (34, 184), (33, 216), (44, 244), (57, 268),
+            (60, 296), (60, 320)]
+    return CARDINAL, 4, [(0, 342), *front, *foot, *back, (60, 344)]
+
+
+def crest_rail():
+    """The top rail of a chair back, half a metre wide; its first three records come again to join the ends."""
+    right = [(60, 104), (130, 97), (190, 82), (232, 86), (268, 78), (266, 44), (226, 36), (160, 34), (90, 26),
+             (40, 14)]
+    around = [(0, 108), *right, (0, 10), *mirrored(right)]
+    return B_SPLINE, 4, around + around[:3]
+
+
+PIECES = {
+    "arched-door": arched_door,
+    "bracket": bracket,
+    "cabriole-leg": cabriole_leg,
+    "crest-rail": crest_rail,
+    "scalloped-apron": scalloped_apron,
+    "vase-splat": vase_splat,
+}
+
+
+def record_file(basis, depth, records):
+    return b"".join(struct.pack("<BBxxii", basis, depth, round(x * 1000), round(y * 1000)) for x, y in records)
+
+
+if __name__ == "__main__":
+    for name, piece in PIECES.items():
+        (Path(__file__).parent / f"{name}.rec").write_bytes(record_file(*piece()))

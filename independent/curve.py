@@ -1,0 +1,100 @@
+"""The curve, from the published basis matrices and in exact fractions.
+
+Document 000, (8): a cubic is C(t) = [t^3 t^2 t 1] M G, where M is the matrix of
+the basis and G holds the span's four records.  Nothing is rounded before the end.
+"""
+
+from fractions import Fraction
+from math import floor
+from typing import List, Sequence, Tuple
+
+from shape import B_SPLINE, BEZIER, CARDINAL, HERMITE, Shape, point_count, span_records, spans
+
+Matrix = Tuple[Tuple[Fraction, ...], ...]
+
+
+def scaled(factor: Fraction, rows: Sequence[Sequence[Fraction]]) -> Matrix:
+    return tuple(tuple(factor * entry for entry in row) for row in rows)
+
+
+def cardinal_matrix(s: Fraction) -> Matrix:
+    """Document 001, "Catmull-Rom Spline Matrix"; document 000, (20), with a for s."""
+    return scaled(Fraction(1), (
+        (-s, 2 - s, s - 2, s),
+        (2 * s, s - 3, 3 - 2 * s, -s),
+        (-s, 0, s, 0),
+        (0, 1, 0, 0),
+    ))
+
+
+MATRIX = {
+    # Document 000, (14); document 001, "The Bezier Spline Matrix".
+    BEZIER: scaled(Fraction(1), (
+        (-1, 3, -3, 1),
+        (3, -6, 3, 0),
+        (-3, 3, 0, 0),
+        (1, 0, 0, 0),
+    )),
+    # Document 001, "B-Spline Basis".  Document 000, (22), leaves out the 1/6
+    # that its own (23) to (25) need, and 002 prints another last row.
+    B_SPLINE: scaled(Fraction(1, 6), (
+        (-1, 3, -3, 1),
+        (3, -6, 3, 0),
+        (-3, 0, 3, 0),
+        (1, 4, 1, 0),
+    )),
+    CARDINAL: cardinal_matrix(Fraction(1, 2)),
+    # Document 000, (9); document 001, "The Cubic Hermite Spline Equation".
+    HERMITE: scaled(Fraction(1), (
+        (2, -2, 1, 1),
+        (-3, 3, -2, -1),
+        (0, 0, 1, 0),
+        (1, 0, 0, 0),
+    )),
+}
+
+# Which of a span's records stands in each row of G.  The Hermite equation has
+# both ends before both tangents; a record list has each end before its tangent.
+GEOMETRY = {
+    BEZIER: (0, 1, 2, 3),
+    B_SPLINE: (0, 1, 2, 3),
+    CARDINAL: (0, 1, 2, 3),
+    HERMITE: (0, 2, 1, 3),
+}
+
+
+def product(row: Sequence[Fraction], column: Sequence[Fraction]) -> Fraction:
+    return sum((a * b for a, b in zip(row, column)), Fraction(0))
+
+
+def cubic(basis: int, four: Sequence[int]) -> List[Fraction]:
+    """M G for one axis: the coefficients of t^3, t^2, t and 1."""
+    geometry = [four[place] for place in GEOMETRY[basis]]
+    return [product(row, geometry) for row in MATRIX[basis]]
+
+
+def powers(t: Fraction) -> Tuple[Fraction, ...]:
+    return (t ** 3, t ** 2, t, Fraction(1))
+
+
+def exact_outline(shape: Shape, controls: Sequence[int]) -> List[Fraction]:
+    """The exact x and y of every point: number s*2^k + i is span s at t = i/2^k."""
+    steps = 2 ** shape.depth
+    grid = [powers(Fraction(i, steps)) for i in range(steps + 1)]
+    cubics = [span_cubics(shape, controls, span) for span in range(spans(shape))]
+    values: List[Fraction] = []
+    for point in range(point_count(shape)):
+        span = min(point // steps, len(cubics) - 1)
+        values += (product(grid[point - span * steps], axis) for axis in cubics[span])
+    return values
+
+
+def span_cubics(shape: Shape, controls: Sequence[int], span: int) -> List[List[Fraction]]:
+    """The cubic of a span in x and the one in y."""
+    records = span_records(shape, span)
+    return [cubic(shape.basis, [controls[2 * j + axis] for j in records]) for axis in (0, 1)]
+
+
+def nearest(value: Fraction) -> int:
+    """The nearest whole number, an exact half to the greater (document 01)."""
+    return floor(value + Fraction(1, 2))

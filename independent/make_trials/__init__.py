@@ -1,0 +1,32 @@
+"""Makes the trials file: every kind of call from one fixed seed, weighted to edges."""
+
+from collections import Counter
+
+import refusal
+from make_trials import defects, drawings, edits, files, outlines
+from make_trials.script import Script
+
+SEED = 0x0123_4567_89AB_CDEF
+FEWEST_CALLS = 2000
+FEWEST_OF_EACH_REFUSAL = 3
+
+SECTIONS = (
+    outlines.every_way, outlines.ties, outlines.longest, outlines.views, outlines.previews, outlines.long_previews,
+    defects.every_pair, defects.any_defects, defects.at_the_limits,
+    edits.every_place, edits.rooms, edits.runs, edits.deep,
+    drawings.numbers, drawings.number_places, drawings.drawings, drawings.closings, drawings.states,
+    files.files, files.lengths, files.record_by_record, files.late_damage, files.deep_listings,
+)
+
+
+def make_trials() -> bytes:
+    """The file.  16 is the one refusal that no call can be brought to give."""
+    script = Script(SEED)
+    for section in SECTIONS:
+        section(script)
+    given: Counter = Counter()
+    for (_, number), times in script.tally.items():
+        given[number] += times
+    assert sum(given.values()) >= FEWEST_CALLS
+    assert all(given[number] >= FEWEST_OF_EACH_REFUSAL for number in range(refusal.BASIS, refusal.OVERSHOOT))
+    return b"".join(script.records)

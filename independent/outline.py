@@ -1,0 +1,54 @@
+"""The calls that read an outline's controls or points: draw, view and preview."""
+
+from typing import List, Sequence
+
+from checks import (check_controls_room, check_limits, check_offered, check_overshoot, check_points_room,
+                    check_shape)
+from curve import exact_outline, nearest
+from refusal import Refusal
+from shape import BEZIER, Shape, numbers_of, point_count, span_points, spans
+
+
+def formula_points(shape: Shape, controls: Sequence[int]) -> List[int]:
+    """The numbers of the outline that the formulas give; 16 where a point is too far out."""
+    outline = [nearest(value) for value in exact_outline(shape, controls)]
+    check_overshoot(outline)
+    return outline
+
+
+def draw(shape: Shape, controls: Sequence[int], points: List[int]) -> int:
+    """Fill the points with the outline and answer how many there are.
+
+    Weights, halving and differences are three ways to this one result.
+    """
+    check_shape(shape)
+    check_controls_room(controls, shape.count)
+    check_limits(controls, shape.count)
+    check_points_room(points, shape)
+    outline = formula_points(shape, controls)
+    points[:len(outline)] = outline
+    return point_count(shape)
+
+
+def view(shape: Shape, points: Sequence[int], span: int) -> Sequence[int]:
+    """The part of the points that is one span, or the empty part."""
+    try:
+        check_shape(shape)
+        check_points_room(points, shape)
+    except Refusal:
+        return []
+    return points[numbers_of(span_points(shape, span))] if span < spans(shape) else []
+
+
+def preview(shape: Shape, controls: Sequence[int], doubles: List[float]) -> int:
+    """Fill the preview with the unrounded outline of basis 1 and answer how many points."""
+    check_shape(shape)
+    check_offered(shape, (BEZIER,))
+    check_controls_room(controls, shape.count)
+    check_limits(controls, shape.count)
+    check_points_room(doubles, shape)
+    outline = exact_outline(shape, controls)
+    written = [float(value) for value in outline]
+    assert written == outline, "a preview value does not fit a double"
+    doubles[:len(written)] = written
+    return point_count(shape)

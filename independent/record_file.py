@@ -1,0 +1,54 @@
+"""The house record file and its listing: document 01, "Record file" and "Sums to hold it to"."""
+
+import struct
+from typing import List
+
+import refusal
+from checks import check_controls_room, check_limits, check_shape
+from outline import formula_points
+from refusal import Refusal
+from shape import MOST_RECORDS, Shape, spans
+
+# Basis, depth, two spare bytes, x and y, low byte first.
+RECORD = struct.Struct("<BBHii")
+LONGEST = MOST_RECORDS * RECORD.size
+
+
+def read(file: bytes, controls: List[int]) -> Shape:
+    """Write a file's records to the controls and answer its shape."""
+    if not 0 < len(file) <= LONGEST:
+        raise Refusal(refusal.COUNT)
+    if len(file) % RECORD.size:
+        raise Refusal(refusal.FILE_LENGTH)
+    records = list(RECORD.iter_unpack(file))
+    basis, depth = records[0][:2]
+    for place, record in enumerate(records):
+        check_record(record, basis, depth, place)
+    shape = Shape(basis, depth, len(records))
+    numbers = [number for record in records for number in record[3:]]
+    check_shape(shape)
+    check_controls_room(controls, shape.count)
+    check_limits(numbers, shape.count)
+    controls[:len(numbers)] = numbers
+    return shape
+
+
+def check_record(record: tuple, basis: int, depth: int, place: int) -> None:
+    """14 and then 15, at one record."""
+    if record[2] != 0:
+        raise Refusal(refusal.SPARE_BYTES, place)
+    if record[:2] != (basis, depth):
+        raise Refusal(refusal.UNLIKE_FIRST, place)
+
+
+def listing(file: bytes) -> List[str]:
+    """What outline-list writes for a file, line by line."""
+    controls = [0] * (2 * MOST_RECORDS)
+    try:
+        shape = read(file, controls)
+        outline = formula_points(shape, controls)
+    except Refusal as refused:
+        return [str(refused)]
+    points = list(zip(outline[0::2], outline[1::2]))
+    head = f"{shape.basis} {shape.depth} {spans(shape)} {len(points)}"
+    return [head] + [f"{number} {x} {y}" for number, (x, y) in enumerate(points)]

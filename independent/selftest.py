@@ -1,0 +1,317 @@
+"""The program's own tests: `python3 selftest.py`.
+
+Document 01's sums stand here as they are printed there.  The curve is computed
+again by other published formulas, and the edits are read again point by point.
+"""
+
+import sys
+import unittest
+from fractions import Fraction
+from typing import List, Sequence
+
+sys.dont_write_bytecode = True
+
+import trials  # noqa: E402
+from checks import CONTROL_LIMIT, POINT_LIMIT  # noqa: E402
+from curve import cubic, nearest, powers, product  # noqa: E402
+from drawing import NOTHING_DRAWN, Step, micrometres, take  # noqa: E402
+from edits import BASES_THAT_GROW, insert, move, remove  # noqa: E402
+from make_trials import defects, drawings, edits, files  # noqa: E402
+from make_trials.dice import ALL_BASES, Dice  # noqa: E402
+from make_trials.script import ACCEPTED, CALLS, Script, encode, file_of  # noqa: E402
+from outline import draw, formula_points, preview, view  # noqa: E402
+from record_file import listing, read  # noqa: E402
+from refusal import Refusal  # noqa: E402
+from shape import B_SPLINE, BEZIER, CARDINAL, HERMITE, Shape, point_count, spans  # noqa: E402
+from sums import sums  # noqa: E402
+
+SUMS = """\
+P1 Bezier 0 0 0 4 depth 1: 0 1 4
+P2 Bezier 0 0 0 -4 depth 1: 0 0 -4
+P3 B-spline 0 6 12 18 depth 1: 6 9 12
+P4 B-spline 0 1 0 0 depth 1: 1 0 0
+P5 cardinal 0 1000 1000 0 depth 1: 1000 1125 1000
+P6 cardinal -4000000 4000000 4000000 -4000000 depth 1: 4000000 5000000 4000000
+P7 Hermite 0 0 1000 0 depth 2: 0 156 500 844 1000
+P8 Hermite 0 8 0 -8 depth 1: 0 2 0
+cardinal 0 10 20 30 40 50 depth 0: 10 20 30 40
+P9 insert 60 at 6: 10 20 30 40 50 first 3 count 1
+P10 remove at 0: 20 30 40 first 0 count 0 fourth 40
+P11 move 3 to 33: 10 20 33 40 first 0 count 3
+P12 0.0625 mm: 63
+P12 -0.0625 mm: -62
+P12 4000.00048828125 mm: 4000000
+P12 4000.0009765625 mm: refused 11 0
+Bezier 0 0 0 4 depth 6: drawn 65
+Bezier 0 0 0 4 depth 7: refused 2 0
+Bezier 64 records of 0 depth 1: drawn 43
+Bezier 5 records of 0 depth 1: refused 3 0
+Bezier 0 0 0 4000000 depth 1: 0 500000 4000000
+Bezier 0 0 0 4000001 depth 1: refused 8 3
+"""
+
+SEED = 2024
+JUNK = 77
+
+
+def de_casteljau(four: Sequence[Fraction], t: Fraction) -> Fraction:
+    """Document 004, after (79): interpolations of interpolations of interpolations."""
+    while len(four) > 1:
+        four = [(1 - t) * p + t * q for p, q in zip(four, four[1:])]
+    return four[0]
+
+
+def bezier_of_hermite(start, start_tangent, end, end_tangent) -> List[Fraction]:
+    """Document 000, (11), solved for the four points."""
+    return [start, start + Fraction(start_tangent, 3), end - Fraction(end_tangent, 3), end]
+
+
+def hermite_of_cardinal(p0, p1, p2, p3) -> tuple:
+    """Document 000, (18), with a = 1/2."""
+    return p1, Fraction(p2 - p0, 2), p2, Fraction(p3 - p1, 2)
+
+
+def uniform(i: int, order: int, t: Fraction) -> Fraction:
+    """Document 004, (94)."""
+    if order == 1:
+        return Fraction(i <= t < i + 1)
+    return ((t - i) * uniform(i, order - 1, t) + (i + order - t) * uniform(i + 1, order - 1, t)) / (order - 1)
+
+
+def by_recursion(four: Sequence[int], t: Fraction) -> Fraction:
+    """Document 004, (88), over the one interval, from knot 3 on, where all four have a share."""
+    return sum(p * uniform(i, 4, 3 + t) for i, p in enumerate(four))
+
+
+OTHER_FORMULA = {
+    BEZIER: de_casteljau,
+    B_SPLINE: by_recursion,
+    CARDINAL: lambda four, t: de_casteljau(bezier_of_hermite(*hermite_of_cardinal(*four)), t),
+    HERMITE: lambda four, t: de_casteljau(bezier_of_hermite(*four), t),
+}
+
+
+class Curve(unittest.TestCase):
+    def test_other_formulas_agree(self):
+        dice = Dice(SEED)
+        for basis in ALL_BASES:
+            for _ in range(60):
+                four = [dice.coordinate() for _ in range(4)]
+                t = Fraction(dice.below(64), 64)
+                value = product(powers(t), cubic(basis, four))
+                self.assertEqual(value, OTHER_FORMULA[basis](four, t))
+
+    def test_b_spline_ends(self):
+        """Document 000, (23) to (25): position, tangent and curvature at t = 0."""
+        p0, p1, p2, p3 = 5, -7, 12, 100
+        _, b, c, d = cubic(B_SPLINE, (p0, p1, p2, p3))
+        self.assertEqual((d, c, 2 * b), (Fraction(p0 + 4 * p1 + p2, 6), Fraction(p2 - p0, 2), p2 - 2 * p1 + p0))
+
+    def test_spans_meet(self):
+        for basis in ALL_BASES:
+            stride = {BEZIER: 3, B_SPLINE: 1, CARDINAL: 1, HERMITE: 2}[basis]
+            records = Dice(SEED).numbers(4)
+            end = sum(cubic(basis, records[:4]))
+            self.assertEqual(end, cubic(basis, records[stride:stride + 4])[3])
+
+    def test_rounding(self):
+        halves = {Fraction(1, 2): 1, Fraction(-1, 2): 0, Fraction(-3, 2): -1, Fraction(5, 2): 3, Fraction(-7, 4): -2}
+        for value, whole in halves.items():
+            self.assertEqual(nearest(value), whole)
+
+    def test_boxes_and_bounds(self):
+        """No point of basis 1 or 2 leaves its controls' box; none of 3 or 4 passes the bound."""
+        for signs in range(16):
+            four = [CONTROL_LIMIT if signs >> place & 1 else -CONTROL_LIMIT for place in range(4)]
+            controls = [number for p in four for number in (p, p)]
+            for basis in ALL_BASES:
+                outline = formula_points(Shape(basis, 6, 4), controls)
+                bound = POINT_LIMIT if basis in (CARDINAL, HERMITE) else CONTROL_LIMIT
+                self.assertLessEqual(max(abs(number) for number in outline), bound)
+
+
+class Outline(unittest.TestCase):
+    def test_numbers_past_the_last_point_stay(self):
+        points = [JUNK] * 9
+        self.assertEqual(draw(Shape(BEZIER, 1, 4), [0, 0, 0, 0, 0, 0, 4, 4], points), 3)
+        self.assertEqual(points, [0, 0, 1, 1, 4, 4, JUNK, JUNK, JUNK])
+
+    def test_point_counts(self):
+        most = {BEZIER: 21, B_SPLINE: 61, CARDINAL: 61, HERMITE: 31}
+        for basis, m in most.items():
+            self.assertEqual(spans(Shape(basis, 6, 64)), m)
+            self.assertEqual(point_count(Shape(basis, 6, 64)), m * 64 + 1)
+
+    def test_view(self):
+        points = list(range(14))
+        self.assertEqual(view(Shape(B_SPLINE, 1, 6), points, 1), [4, 5, 6, 7, 8, 9])
+        for shape, span, lent in ((Shape(B_SPLINE, 1, 6), 3, points), (Shape(B_SPLINE, 1, 6), 0, points[:13]),
+                                  (Shape(5, 1, 6), 0, points), (Shape(B_SPLINE, 7, 6), 0, points)):
+            self.assertEqual(list(view(shape, lent, span)), [])
+
+    def test_preview(self):
+        doubles = [float(JUNK)] * 7
+        preview(Shape(BEZIER, 1, 4), [0, -8, 0, 8, 0, -8, 1, 8], doubles)
+        self.assertEqual(doubles, [0.0, -8.0, 0.125, 0.0, 1.0, 8.0, JUNK])
+        self.assertEqual(str(doubles[3]), "0.0")
+
+
+def point_by_point(old: List[int], shape: Shape, outline: List[int], fresh: range, carried: int,
+                   shift: int) -> List[int]:
+    """The points after an edit: fresh, or from span `carried` on moved by whole spans, or as they were."""
+    steps = 2 ** shape.depth
+    points = list(old)
+    for point in range(point_count(shape)):
+        source, at = old, point
+        if fresh and fresh.start * steps <= point <= fresh.stop * steps:
+            source = outline
+        elif point >= carried * steps:
+            at = point + shift * steps
+        points[2 * point:2 * point + 2] = source[2 * at:2 * at + 2]
+    return points
+
+
+class Edits(unittest.TestCase):
+    def setUp(self):
+        self.dice = Dice(SEED)
+
+    def test_any_contents(self):
+        for _ in range(150):
+            shape = self.dice.shape(BASES_THAT_GROW, 2, 12)
+            controls = self.dice.numbers(shape.count + 2)
+            points = [self.dice.junk() for _ in range(2 * point_count(shape._replace(count=shape.count + 2)))]
+            self.one_insert(shape, list(controls), list(points))
+            if shape.count > 4:
+                self.one_remove(shape, controls, points)
+
+    def one_insert(self, shape, controls, points):
+        place, record = self.dice.below(shape.count + 1), self.dice.record()
+        before, kept = list(points), controls[2 * shape.count + 2:]
+        wanted = controls[:2 * place] + list(record) + controls[2 * place:2 * shape.count] + kept
+        answer = insert(shape, controls, points, place, record)
+        fresh = range(max(place - 3, 0), min(place + 1, spans(answer.shape)))
+        self.assertEqual((answer.first, answer.fresh), (fresh.start, len(fresh)))
+        self.assertEqual(controls, wanted)
+        outline = formula_points(answer.shape, controls)
+        self.assertEqual(points, point_by_point(before, answer.shape, outline, fresh, place + 1, -1))
+
+    def one_remove(self, shape, controls, points):
+        place = self.dice.below(shape.count)
+        before, kept = list(points), controls[2 * shape.count - 2:]
+        wanted = controls[:2 * place] + controls[2 * place + 2:2 * shape.count] + kept
+        answer = remove(shape, controls, points, place)
+        fresh = range(max(place - 3, 0), min(place, spans(answer.shape)))
+        self.assertEqual((answer.first, answer.fresh), (fresh.start, len(fresh)) if fresh else (0, 0))
+        self.assertEqual(controls, wanted)
+        outline = formula_points(answer.shape, controls)
+        self.assertEqual(points, point_by_point(before, answer.shape, outline, fresh, place, 1))
+
+    def test_drawn_outlines_stay_drawn(self):
+        for basis in ALL_BASES:
+            shape = Shape(basis, 2, 10)
+            controls = self.dice.numbers(20)
+            points = [JUNK] * (2 * point_count(shape._replace(count=19 if basis == BEZIER else 20)))
+            draw(shape, controls, points)
+            for _ in range(40):
+                shape = self.any_edit(shape, controls, points)
+                outline = formula_points(shape, controls)
+                self.assertEqual(points[:len(outline)], outline)
+
+    def any_edit(self, shape, controls, points):
+        edit = self.dice.pick((move, insert, remove) if shape.basis in BASES_THAT_GROW else (move,))
+        record = () if edit is remove else (self.dice.record(),)
+        try:
+            return edit(shape, controls, points, self.dice.place(shape.count), *record).shape
+        except Refusal:
+            return shape
+
+    def test_move_of_a_joint_works_both_spans(self):
+        controls, points = [0] * 14, [JUNK] * 10
+        answer = move(Shape(BEZIER, 1, 7), controls, points, 3, (8, 8))
+        self.assertEqual((answer.first, answer.fresh), (0, 2))
+        self.assertEqual(points, [0, 0, 1, 1, 8, 8, 1, 1, 0, 0])
+
+
+class Drawing(unittest.TestCase):
+    def test_numbers(self):
+        for number, whole in ((0.0005, 1), (-0.0005, -1), (0.0, 0), (-0.0, 0), (5e-324, 0), (-5e-324, 0),
+                              (3999.9375, 3999938), (-3999.9375, -3999937), (4000.0, 4000000)):
+            self.assertEqual(micrometres(number, 0), whole)
+
+    def test_line_and_close(self):
+        controls = [JUNK] * 20
+        state = take(NOTHING_DRAWN, Step.MOVE, (0.001, 0.002), controls)
+        state = take(state, Step.LINE, (0.003, 0.004), controls)
+        state = take(state, Step.CLOSE, (), controls)
+        self.assertEqual(state, (7, (1, 2), (1, 2), True))
+        self.assertEqual(controls[:14], [1, 2, 1, 2, 3, 4, 3, 4, 3, 4, 1, 2, 1, 2])
+        self.assertEqual(controls[14:], [JUNK] * 6)
+
+    def test_close_at_the_start_adds_nothing(self):
+        controls = [JUNK] * 2
+        state = take(NOTHING_DRAWN, Step.MOVE, (1.0, 1.0), controls)
+        self.assertEqual(take(state, Step.CLOSE, (), controls), (1, (1000, 1000), (1000, 1000), True))
+
+
+class RecordFile(unittest.TestCase):
+    def test_listing(self):
+        file = file_of(Shape(BEZIER, 1, 4), [0, 0, 0, 8, 8, 8, 8, 0])
+        self.assertEqual(listing(file), ["1 1 1 3", "0 0 0", "1 4 6", "2 8 0"])
+
+    def test_order_of_refusals(self):
+        good = file_of(Shape(BEZIER, 1, 4), [0] * 8)
+        for file, text in ((b"", "refused 3 0"), (bytes(769), "refused 3 0"), (good[:-1], "refused 13 0"),
+                           (good[:36] + b"\2\1\0\1" + good[40:], "refused 14 3"),
+                           (good[:24] + b"\2\1\0\0" + good[28:], "refused 15 2"),
+                           (bytes(48), "refused 1 0"), (good[:36], "refused 3 0")):
+            self.assertEqual(listing(file), [text])
+
+    def test_short_controls(self):
+        with self.assertRaises(Refusal) as refused:
+            read(file_of(Shape(BEZIER, 1, 4), [4000001] * 8), [0] * 7)
+        self.assertEqual(refused.exception.number, 7)
+
+
+class WatchedScript(Script):
+    """A script that sees to it that a refusal leaves everything as it was."""
+
+    def keep(self, record):
+        before = self.standing()
+        super().keep(record)
+        if record[0] in CALLS and self.last != ACCEPTED:
+            assert before == self.standing()
+
+    def standing(self):
+        bench = self.bench
+        return (bench.shape, list(bench.controls), list(bench.points), list(bench.preview), bench.state, bench.file)
+
+
+class Trials(unittest.TestCase):
+    def test_refusals_change_nothing(self):
+        script = WatchedScript(SEED)
+        for section in (defects.any_defects, edits.rooms, drawings.states, files.files):
+            section(script)
+        self.assertGreater(sum(times for (_, number), times in script.tally.items() if number != ACCEPTED), 300)
+
+    def test_bad_records(self):
+        lend, show = encode(trials.LEND, (8, 2, 2, JUNK)), encode(trials.SHOW_POINTS, ())
+        for bad in (encode(7, ()), encode(0, ()), encode(trials.LEND, (161,)), encode(trials.LEND, (-1,)),
+                    encode(trials.SET_CONTROL, (8, 0)), encode(trials.SET_POINT, (0, 2 ** 31)),
+                    encode(trials.MORE_FILE, (41,)), encode(trials.MORE_FILE, (0,)),
+                    encode(trials.MOVE, (-1, 0, 0)), encode(trials.MOVE, (0, 0, -2 ** 31 - 1)),
+                    encode(trials.SET_STATE, (0, 0, 0, 0, 0, 2)), encode(trials.SET_SHAPE, (1, 2 ** 32, 4))):
+            self.assertEqual(list(trials.play(lend + show + bad + show)), [f"{JUNK} {JUNK}", "bad record 2"])
+        self.assertEqual(list(trials.play(lend + show[:-1])), ["bad record 1"])
+
+    def test_shows(self):
+        file = encode(trials.SHOW_CONTROLS, ()) + encode(trials.LEND, (1, 0, 2, -1)) + encode(trials.SHOW_PREVIEW, ())
+        self.assertEqual(list(trials.play(file)), ["", "13830554455654793216 13830554455654793216"])
+
+
+class Sums(unittest.TestCase):
+    def test_every_sum(self):
+        self.assertEqual("".join(f"{line}\n" for line in sums()), SUMS)
+
+
+if __name__ == "__main__":
+    unittest.main()

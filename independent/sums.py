@@ -1,0 +1,100 @@
+"""Every sum of document 01, "Sums to hold it to", but outline-list's own: one line each.
+
+A sum is over one axis: its numbers are the x of records whose y is 0, and the x
+of the points is what is written.
+"""
+
+from typing import Iterator, List, Sequence
+
+from drawing import NOTHING_DRAWN, Step, take
+from edits import Edited, insert, move, remove
+from outline import draw
+from refusal import Refusal
+from shape import B_SPLINE, BEZIER, CARDINAL, HERMITE, MOST_RECORDS, Shape, point_count
+
+NAME = {BEZIER: "Bezier", B_SPLINE: "B-spline", CARDINAL: "cardinal", HERMITE: "Hermite"}
+
+# Enough for 64 records, and for the 65 points of one span at depth 6.
+ROOM = 2 * (MOST_RECORDS + 1)
+TO_EDIT = (0, 10, 20, 30, 40, 50)
+
+
+def words(numbers: Sequence[int]) -> str:
+    return " ".join(str(number) for number in numbers)
+
+
+def on_x(numbers: Sequence[int]) -> List[int]:
+    """A controls list whose x are the numbers, zeros after them."""
+    pairs = [coordinate for number in numbers for coordinate in (number, 0)]
+    return pairs + [0] * (ROOM - len(pairs))
+
+
+def drawn(basis: int, depth: int, numbers: Sequence[int]) -> str:
+    shape = Shape(basis, depth, len(numbers))
+    points = [0] * ROOM
+    count = draw(shape, on_x(numbers), points)
+    return words(points[0:2 * count:2])
+
+
+def outline_sum(label: str, basis: int, depth: int, numbers: Sequence[int]) -> str:
+    return f"{label}{NAME[basis]} {words(numbers)} depth {depth}: {result(drawn, basis, depth, numbers)}"
+
+
+def only_counted(basis: int, depth: int, numbers: Sequence[int]) -> str:
+    count = draw(Shape(basis, depth, len(numbers)), on_x(numbers), [0] * ROOM)
+    return f"drawn {count}"
+
+
+def result(call, *arguments) -> str:
+    """What a call says, or its refusal."""
+    try:
+        return call(*arguments)
+    except Refusal as refused:
+        return str(refused)
+
+
+class EditSum:
+    """The outline that each of P9 to P11 starts from."""
+
+    def __init__(self) -> None:
+        self.shape = Shape(CARDINAL, 0, len(TO_EDIT))
+        self.controls = on_x(TO_EDIT)
+        self.points = [0] * ROOM
+        draw(self.shape, self.controls, self.points)
+
+    def edited(self, edit, *arguments) -> str:
+        answer: Edited = edit(self.shape, self.controls, self.points, *arguments)
+        points = self.points[0:2 * point_count(answer.shape):2]
+        return f"{words(points)} first {answer.first} count {answer.fresh}"
+
+
+def edit_sums() -> Iterator[str]:
+    yield f"P9 insert 60 at 6: {EditSum().edited(insert, 6, (60, 0))}"
+    removed = EditSum()
+    yield f"P10 remove at 0: {removed.edited(remove, 0)} fourth {removed.points[2 * 3]}"
+    yield f"P11 move 3 to 33: {EditSum().edited(move, 3, (33, 0))}"
+
+
+def millimetres(number: float) -> str:
+    return str(take(NOTHING_DRAWN, Step.MOVE, (number, 0.0), [0, 0]).current[0])
+
+
+def sums() -> Iterator[str]:
+    yield outline_sum("P1 ", BEZIER, 1, (0, 0, 0, 4))
+    yield outline_sum("P2 ", BEZIER, 1, (0, 0, 0, -4))
+    yield outline_sum("P3 ", B_SPLINE, 1, (0, 6, 12, 18))
+    yield outline_sum("P4 ", B_SPLINE, 1, (0, 1, 0, 0))
+    yield outline_sum("P5 ", CARDINAL, 1, (0, 1000, 1000, 0))
+    yield outline_sum("P6 ", CARDINAL, 1, (-4000000, 4000000, 4000000, -4000000))
+    yield outline_sum("P7 ", HERMITE, 2, (0, 0, 1000, 0))
+    yield outline_sum("P8 ", HERMITE, 1, (0, 8, 0, -8))
+    yield outline_sum("", CARDINAL, 0, TO_EDIT)
+    yield from edit_sums()
+    for number in (0.0625, -0.0625, 4000.00048828125, 4000.0009765625):
+        yield f"P12 {number} mm: {result(millimetres, number)}"
+    for depth in (6, 7):
+        yield f"Bezier 0 0 0 4 depth {depth}: {result(only_counted, BEZIER, depth, (0, 0, 0, 4))}"
+    for count in (64, 5):
+        yield f"Bezier {count} records of 0 depth 1: {result(only_counted, BEZIER, 1, (0,) * count)}"
+    for coordinate in (4000000, 4000001):
+        yield outline_sum("", BEZIER, 1, (0, 0, 0, coordinate))
