@@ -1,0 +1,51 @@
+-- No second outcome meets a public call's contract: the contract equates the answer and the text that is left with one reading, so two outcomes that meet it are equal.
+use Prim.Native.Nat.{ℕ}
+use mathlib.Core.List.{List}
+use mathlib.Core.Path.{_≡_, sym, ap, _∙_}
+use borrow.Fn.Kinds.{PK, RK, Out, Dens, resT, endedOf}
+use contract.Lifetimes.{Lfts}
+use denote.Triple.Clauses.{Lasts, atExit}
+use Rattle.listing.specs.Written.{Outcome, outcome}
+use Rattle.listing.proofs.number.put_decimal.Kinds as put-decimal
+use Rattle.listing.proofs.number.put_decimal.Reads as put-decimal-reads
+use Rattle.listing.proofs.number.put_natural.Kinds as put-natural
+use Rattle.listing.proofs.number.put_natural.Reads as put-natural-reads
+use Rattle.listing.proofs.outline.list_outline.Kinds as list-outline
+use Rattle.listing.proofs.outline.list_outline.Reads as list-outline-reads
+use Rattle.listing.proofs.refusal.list_refusal.Kinds as list-refusal
+use Rattle.listing.proofs.refusal.list_refusal.Reads as list-refusal-reads
+use Rattle.listing.proofs.word.put_word.Kinds as put-word
+use Rattle.listing.proofs.word.put_word.Reads as put-word-reads
+
+-- two answers, each with what the lent lists hold at the end, that both meet a contract are the same
+abbrev pub Unique : (n : ℕ) (ps : List (PK n)) (r : RK n) → Out n ps r → Type 0
+Unique n ps r post =
+    (κs : Lfts n) (a : Dens κs ps) (x y : resT r κs .Denot) (v w : Lasts (endedOf n ps r) κs a)
+    → post κs a x (atExit (endedOf n ps r) κs a v)
+    → post κs a y (atExit (endedOf n ps r) κs a w)
+    → (x ≡ y) × (v ≡ w)
+
+pub put-word-unique : Unique 2 put-word.ps put-word.r put-word-reads.Post
+put-word-unique κs a x y v w p q =
+    let same : outcome x (v .0) ≡ outcome y (w .0) = p ∙ sym q in
+    (ap (λ (o : Outcome). o .answer) same, λ i. (same i .held, (tt, (tt, tt))))
+
+pub put-natural-unique : Unique 1 put-natural.ps put-natural.r put-natural-reads.Post
+put-natural-unique κs a x y v w p q =
+    let same : outcome x (v .0) ≡ outcome y (w .0) = p ∙ sym q in
+    (ap (λ (o : Outcome). o .answer) same, λ i. (same i .held, (tt, (tt, tt))))
+
+pub put-decimal-unique : Unique 1 put-decimal.ps put-decimal.r put-decimal-reads.Post
+put-decimal-unique κs a x y v w p q =
+    let same : outcome x (v .0) ≡ outcome y (w .0) = p ∙ sym q in
+    (ap (λ (o : Outcome). o .answer) same, λ i. (same i .held, (tt, (tt, tt))))
+
+pub list-outline-unique : Unique 2 list-outline.ps list-outline.r list-outline-reads.Post
+list-outline-unique κs a x y v w p q =
+    let same : outcome x (v .0) ≡ outcome y (w .0) = p ∙ sym q in
+    (ap (λ (o : Outcome). o .answer) same, λ i. (same i .held, (tt, (tt, (tt, (tt, (tt, tt)))))))
+
+pub list-refusal-unique : Unique 1 list-refusal.ps list-refusal.r list-refusal-reads.Post
+list-refusal-unique κs a x y v w p q =
+    let same : outcome x (v .0) ≡ outcome y (w .0) = p ∙ sym q in
+    (ap (λ (o : Outcome). o .answer) same, λ i. (same i .held, (tt, (tt, tt))))
