@@ -1,14 +1,14 @@
 -- Row i·2^(6-k) of the depth-6 weights serves depth k: both the sum and its divisor grow by the cube of 2^(6-k), and `nearest` does not see a common factor.
-use mathlib.Core.Path.{_≡_, refl, sym, ap, _∙_}
+use mathlib.Core.Path.{_≡_, refl, sym, ap, _∙_, subst}
 use Prim.Native.Nat.{ℕ, zero, suc, _+_, _*_, _-_, _/_, _%_, _^_, _≤_, _<_}
-use native.Mathlib.Nat.{le-trans, mul-left-comm, mul-comm, mul-pos}
+use native.Mathlib.Nat.{le-trans, le-of-eq, mul-assoc, mul-left-comm, mul-comm, mul-pos, mul-le-mul-left, mul-le-mul-right}
 use native.Mathlib.Omega.{arith}
 use lib.Dec.{lit<, lit≤}
 use lib.Pow.{pow-add, pow-pos}
 use lib.IntN.{ℤ, pos, natAbs, _+ℤ_, _*ℤ_}
 use Rattle.whole.specs.Nearest.{nearest, sixfold}
 use Rattle.whole.proofs.Ring.{Ex, var, lit, _⊕_, _⊖_, _⊗_, solve}
-use Rattle.whole.proofs.Fit.{ev-size}
+use Rattle.whole.proofs.Fit.{ev-size, natAbs-mul}
 use Rattle.whole.proofs.Nearest.{nearest-scale}
 use Rattle.curve.specs.declared.Four.{Four}
 use Rattle.curve.specs.Numbers.{dot}
@@ -48,6 +48,30 @@ unfolding row
 by-table k b q j = ap (λ (n : ℕ). nearest (weighted q (pos (j * 2 ^ (deepest - k))) (pos (2 ^ n))) (divisor n)) whole ∙ finer k (deepest - k) q j
   where
     whole : deepest ≡ k + (deepest - k)
+    whole = omega arith
+
+-- the row is in the table
+pub row-small : (k j : ℕ) → k ≤ deepest → j ≤ 2 ^ k → row k j ≤ 2 ^ deepest
+unfolding row
+row-small k j b h = le-trans (mul-le-mul-right (2 ^ (deepest - k)) h) (le-of-eq (sym (pow-add 2 k (deepest - k)) ∙ ap (λ (n : ℕ). 2 ^ n) whole))
+  where
+    whole : k + (deepest - k) ≡ deepest
+    whole = omega arith
+
+-- and its sum as near to zero, over the divisor, as the depth's own
+finer-size : (k e : ℕ) (q : Four) (j n : ℕ) → natAbs (weighted q (pos j) (pos (2 ^ k))) ≤ divisor k * n → natAbs (weighted q (pos (j * 2 ^ e)) (pos (2 ^ (k + e)))) ≤ divisor (k + e) * n
+unfolding cube
+finer-size k e q j n h =
+    let w = weighted q (pos j) (pos (2 ^ k)) in
+    let c = cube (2 ^ e) in
+    subst (λ z. natAbs z ≤ divisor (k + e) * n) (sym (ap (λ (m : ℕ). weighted q (pos (j * 2 ^ e)) (pos m)) (pow-add 2 k e) ∙ weighted-scale (pos (2 ^ e)) q (pos j) (pos (2 ^ k))))
+    (le-trans (le-of-eq (natAbs-mul (pos c) w)) (le-trans (mul-le-mul-left c h) (le-of-eq (sym (mul-assoc c (divisor k) n) ∙ ap (λ (m : ℕ). m * n) (sym (divisor-scale k e))))))
+
+pub by-table-size : (k : ℕ) → k ≤ deepest → (q : Four) (j n : ℕ) → natAbs (weighted q (pos j) (pos (2 ^ k))) ≤ divisor k * n → natAbs (weighted q (pos (row k j)) (pos (2 ^ deepest))) ≤ divisor deepest * n
+unfolding row
+by-table-size k b q j n h = subst (λ (m : ℕ). natAbs (weighted q (pos (j * 2 ^ (deepest - k))) (pos (2 ^ m))) ≤ divisor m * n) whole (finer-size k (deepest - k) q j n h)
+  where
+    whole : k + (deepest - k) ≡ deepest
     whole = omega arith
 
 -- ---- the table's entries

@@ -1,0 +1,200 @@
+-- One cut: the numbers of a piece are those of its left half and then those of its right half, and both halves can be cut on.
+use mathlib.Core.Path.{_≡_, refl, sym, ap, _∙_, subst}
+use mathlib.Core.Bool.{Bool, true, false, cond}
+use mathlib.Core.List.{List, [], _∷_, _++_}
+use Prim.Native.Nat.{ℕ, zero, suc, _+_, _*_, _-_, _/_, _%_, _^_, _≤_, _<_}
+use native.Mathlib.Nat.{pow-suc, le-trans, le-mul-of-pos-right, one-le-pow, pow-le-pow-right, mul-le-mul-left}
+use native.Mathlib.Numerals.{add-one}
+use native.Mathlib.Omega.{arith}
+use lib.Dec.{eqb, lit≤, lit<}
+use lib.IntN.{ℤ, pos, natAbs, _+ℤ_, _*ℤ_}
+use lib.ListN.{length, set}
+use lib.Pow.{pow-pos}
+use lib.Seq.{sets}
+use mir.Syntax.{w64}
+use mir.Val.{SFits}
+use Rattle.whole.specs.Nearest.{nearest}
+use Rattle.whole.proofs.Ring.{Ex, var, lit, _⊕_, _⊗_, ev, solve}
+use Rattle.whole.proofs.Fit.{Bounded, size, ev-size, sfits}
+use Rattle.curve.specs.declared.Four.{Four}
+use Rattle.curve.specs.Numbers.{tab}
+use Rattle.curve.specs.Limits.{Inside, widest, reach}
+use Rattle.curve.specs.Span.{weighted, divisor}
+use Rattle.curve.specs.Ways.{deepest, leftHalf, rightHalf}
+use Rattle.curve.proofs.Tab.{tab-append, tab-same, length-tab}
+use Rattle.curve.proofs.Span.{weighted-start}
+use Rattle.curve.proofs.Ways.{left-half, right-half}
+use Rattle.curve.proofs.Reflect.{Fourᵉ, p, leftᵉ, rightᵉ}
+use Rattle.spans.specs.Numbers.{onAxis, paired, perSpan}
+use Rattle.spans.specs.Ready.{Ready, Cuttable}
+use Rattle.spans.proofs.Pairs.{sets-append, paired-x, paired-y}
+
+doubled : (l : ℕ) → 2 * 2 ^ l ≡ 2 ^ suc l
+doubled l = omega (arith, pow-suc 2 l)
+
+-- half the numbers of a piece are those of its halves
+pub halved : (left : ℕ) → 0 < left → perSpan (left - 1) ≡ 2 ^ left
+halved left h = let whole : suc (left - 1) ≡ left = omega arith in doubled (left - 1) ∙ ap (λ (n : ℕ). 2 ^ n) whole
+
+-- ---- bounds
+
+-- eight times as large
+eightfold : (n : ℕ) (q : Four) → Inside n q → (Inside (8 * n) (leftHalf q)) × (Inside (8 * n) (rightHalf q))
+unfolding leftHalf rightHalf
+eightfold n q inside =
+    let r = q .a ∷ q .b ∷ q .c ∷ q .d ∷ [] in
+    let bs = n ∷ n ∷ n ∷ n ∷ [] in
+    let ok : Bounded r bs = (inside .a, (inside .b, (inside .c, (inside .d, tt)))) in
+    let l = leftᵉ p in
+    let o = rightᵉ p in (
+      record {
+        a = le-trans (ev-size r bs ok (l .a)) (omega arith);
+        b = le-trans (ev-size r bs ok (l .b)) (omega arith);
+        c = le-trans (ev-size r bs ok (l .c)) (omega arith);
+        d = le-trans (ev-size r bs ok (l .d)) (omega arith);
+      },
+      record {
+        a = le-trans (ev-size r bs ok (o .a)) (omega arith);
+        b = le-trans (ev-size r bs ok (o .b)) (omega arith);
+        c = le-trans (ev-size r bs ok (o .c)) (omega arith);
+        d = le-trans (ev-size r bs ok (o .d)) (omega arith);
+      },
+    )
+
+-- the bound of one cut more
+next-bound : (l : ℕ) → l < deepest → 8 * (widest * 8 ^ (deepest - suc l)) ≡ widest * 8 ^ (deepest - l)
+next-bound l h =
+    let e : deepest - l ≡ suc (deepest - suc l) = omega arith in
+    sym (ap (λ (n : ℕ). widest * n) (ap (λ (n : ℕ). 8 ^ n) e ∙ pow-suc 8 (deepest - suc l)) ∙ shuffle (8 ^ (deepest - suc l)))
+  where
+    shuffle : (n : ℕ) → widest * (n * 8) ≡ 8 * (widest * n)
+    shuffle n = omega arith
+
+module _ (l k : ℕ) (q : Four) (h : l < deepest) (cut : Cuttable (suc l) k q) where
+  cut-left : Cuttable l k (leftHalf q)
+  cut-left =
+      record {
+        inside = subst (λ (n : ℕ). Inside n (leftHalf q)) (next-bound l h) (eightfold (widest * 8 ^ (deepest - suc l)) q (cut .inside) .0);
+        near = λ i b.
+            subst (λ z. natAbs z ≤ divisor k * reach) (ap (λ (n : ℕ). weighted q (pos i) (pos n)) (sym (doubled l)) ∙ sym (left-half q (pos i) (pos (2 ^ l))))
+            (cut .near i (omega (arith, doubled l)));
+      }
+
+  cut-right : Cuttable l k (rightHalf q)
+  cut-right =
+      record {
+        inside = subst (λ (n : ℕ). Inside n (rightHalf q)) (next-bound l h) (eightfold (widest * 8 ^ (deepest - suc l)) q (cut .inside) .1);
+        near = λ i b.
+            subst (λ z. natAbs z ≤ divisor k * reach) (ap (λ (n : ℕ). weighted q (pos (2 ^ l + i)) (pos n)) (sym (doubled l)) ∙ sym (right-half q (pos i) (pos (2 ^ l))))
+            (cut .near (2 ^ l + i) (omega (arith, doubled l)));
+      }
+
+-- the same where `left` cuts are left and one is made
+pub cut-on : (left k : ℕ) (q : Four) → 0 < left → left ≤ deepest → Cuttable left k q → Cuttable (left - 1) k (leftHalf q) × Cuttable (left - 1) k (rightHalf q)
+cut-on left k q h d cut =
+    let whole : left ≡ suc (left - 1) = omega arith in
+    let c = subst (λ (n : ℕ). Cuttable n k q) whole cut in
+    (cut-left (left - 1) k q (omega arith) c, cut-right (left - 1) k q (omega arith) c)
+
+-- a span that is ready can be cut to its depth
+pub ready-cuttable : (k : ℕ) (q : Four) → k ≤ deepest → Ready k q → Cuttable k k q
+ready-cuttable k q h ready =
+    let more : widest ≤ widest * 8 ^ (deepest - k) = le-mul-of-pos-right widest (one-le-pow (deepest - k) 8 (lit< tt)) in
+    let i = ready .inside in
+    record {
+      inside = record { a = le-trans (i .a) more; b = le-trans (i .b) more; c = le-trans (i .c) more; d = le-trans (i .d) more };
+      near = λ j b. ready .near j (omega arith);
+    }
+
+-- before a cut no control is past 2^59
+pub cuttable-small : (l k : ℕ) (q : Four) → Cuttable l k q → Inside (2 ^ 59) q
+cuttable-small l k q cut =
+    let fewer : deepest - l ≤ deepest = omega arith in
+    let small : widest * 8 ^ (deepest - l) ≤ 2 ^ 59 = le-trans (mul-le-mul-left widest (pow-le-pow-right (lit< tt) fewer)) (lit≤ tt) in
+    let i = cut .inside in
+    record { a = le-trans (i .a) small; b = le-trans (i .b) small; c = le-trans (i .c) small; d = le-trans (i .d) small }
+
+-- ---- numbers
+
+axis-left : (b : Bool) (x y : Four) → cond b (leftHalf x) (leftHalf y) ≡ leftHalf (cond b x y)
+axis-left true x y = refl
+axis-left false x y = refl
+
+axis-right : (b : Bool) (x y : Four) → cond b (rightHalf x) (rightHalf y) ≡ rightHalf (cond b x y)
+axis-right true x y = refl
+axis-right false x y = refl
+
+left-number : (l k : ℕ) (x y : Four) (j : ℕ) → paired l k (leftHalf x) (leftHalf y) j ≡ paired (suc l) k x y j
+unfolding paired
+left-number l k x y j =
+    ap (λ z. nearest z (divisor k))
+    (ap (λ q. weighted q (pos (j / 2)) (pos (2 ^ l))) (axis-left (eqb (j % 2) 0) x y)
+    ∙ left-half (onAxis x y j) (pos (j / 2)) (pos (2 ^ l))
+    ∙ ap (λ (n : ℕ). weighted (onAxis x y j) (pos (j / 2)) (pos n)) (doubled l))
+
+right-number : (l k : ℕ) (x y : Four) (j : ℕ) → paired l k (rightHalf x) (rightHalf y) j ≡ paired (suc l) k x y (perSpan l + j)
+unfolding paired
+right-number l k x y j =
+    let same : j % 2 ≡ (perSpan l + j) % 2 = omega arith in
+    let on : 2 ^ l + j / 2 ≡ (perSpan l + j) / 2 = omega arith in
+    ap (λ z. nearest z (divisor k))
+    (ap (λ q. weighted q (pos (j / 2)) (pos (2 ^ l))) (axis-right (eqb (j % 2) 0) x y)
+    ∙ right-half (onAxis x y j) (pos (j / 2)) (pos (2 ^ l))
+    ∙ ap (λ (n : ℕ). weighted (onAxis x y j) (pos n) (pos (2 * 2 ^ l))) on
+    ∙ ap (λ (n : ℕ). weighted (onAxis x y j) (pos ((perSpan l + j) / 2)) (pos n)) (doubled l)
+    ∙ ap (λ (n : ℕ). weighted (cond (eqb n 0) x y) (pos ((perSpan l + j) / 2)) (pos (2 ^ suc l))) same)
+
+-- the numbers of a piece are those of its halves
+cut-numbers : (l k : ℕ) (x y : Four)
+    → tab (paired (suc l) k x y) 0 (perSpan (suc l)) ≡ tab (paired l k (leftHalf x) (leftHalf y)) 0 (perSpan l) ++ tab (paired l k (rightHalf x) (rightHalf y)) 0 (perSpan l)
+cut-numbers l k x y =
+    let e : perSpan (suc l) ≡ perSpan l + perSpan l = omega (arith, doubled l) in
+    let f = paired (suc l) k x y in
+    ap (tab f 0) e
+    ∙ tab-append f 0 (perSpan l) (perSpan l)
+    ∙ ap (λ v. v ++ tab f (0 + perSpan l) (perSpan l)) (tab-same f (paired l k (leftHalf x) (leftHalf y)) 0 0 (perSpan l) (λ j b. sym (left-number l k x y (0 + j))))
+    ∙ ap (λ v. tab (paired l k (leftHalf x) (leftHalf y)) 0 (perSpan l) ++ v)
+    (tab-same f (paired l k (rightHalf x) (rightHalf y)) (0 + perSpan l) 0 (perSpan l) (λ j b. moved j ∙ sym (right-number l k x y (0 + j))))
+  where
+    moved : (j : ℕ) → paired (suc l) k x y (0 + perSpan l + j) ≡ paired (suc l) k x y (perSpan l + (0 + j))
+    moved j = ap (paired (suc l) k x y) (omega arith)
+
+-- the sum at the start of a piece that is not cut on is its first control
+uncut : (q : Four) → weighted q (pos 0) (pos 1) ≡ q .a
+uncut q = weighted-start q (pos 1) ∙ solve (q .a ∷ []) (lit (pos 1) ⊗ lit (pos 1) ⊗ lit (pos 1) ⊗ var 0) (var 0) tt
+
+-- a piece that is not cut on: its start, rounded
+pub leaf-numbers : (left k : ℕ) (x y : Four) (l : List ℤ) (at : ℕ) → left ≡ 0
+    → set (set l at (nearest (x .a) (divisor k))) (at + 1) (nearest (y .a) (divisor k)) ≡ sets l at (tab (paired left k x y) 0 (perSpan left))
+unfolding tab
+leaf-numbers left k x y l at e =
+    sym
+    (ap (λ (n : ℕ). sets l at (tab (paired n k x y) 0 (perSpan n))) e
+    ∙ ap (λ z. set (set l at z) (suc at) (paired 0 k x y 1)) (paired-x 0 k x y 0 ∙ ap (λ z. nearest z (divisor k)) (uncut x))
+    ∙ ap (λ z. set (set l at (nearest (x .a) (divisor k))) (suc at) z) (paired-y 0 k x y 0 ∙ ap (λ z. nearest z (divisor k)) (uncut y))
+    ∙ ap (λ (n : ℕ). set (set l at (nearest (x .a) (divisor k))) n (nearest (y .a) (divisor k))) (sym (add-one at)))
+
+-- the left half written, and then the right half from half the numbers on
+pub halves-written : (left k : ℕ) (x y : Four) (l : List ℤ) (at : ℕ) → 0 < left → {first second : List ℤ}
+    → first ≡ sets l at (tab (paired (left - 1) k (leftHalf x) (leftHalf y)) 0 (perSpan (left - 1)))
+    → second ≡ sets first (at + 2 ^ left) (tab (paired (left - 1) k (rightHalf x) (rightHalf y)) 0 (perSpan (left - 1)))
+    → second ≡ sets l at (tab (paired left k x y) 0 (perSpan left))
+halves-written left k x y l at h {first} {second} e f =
+    let m = left - 1 in
+    let whole : left ≡ suc m = omega arith in
+    let numbers = tab (paired m k (leftHalf x) (leftHalf y)) 0 (perSpan m) in
+    let half : 2 ^ left ≡ length numbers = ap (λ (n : ℕ). 2 ^ n) whole ∙ sym (doubled m) ∙ sym (length-tab (paired m k (leftHalf x) (leftHalf y)) 0 (perSpan m)) in
+    f
+    ∙ ap (λ v. sets v (at + 2 ^ left) (tab (paired m k (rightHalf x) (rightHalf y)) 0 (perSpan m))) e
+    ∙ ap (λ (n : ℕ). sets (sets l at numbers) (at + n) (tab (paired m k (rightHalf x) (rightHalf y)) 0 (perSpan m))) half
+    ∙ sym (sets-append l at numbers (tab (paired m k (rightHalf x) (rightHalf y)) 0 (perSpan m)))
+    ∙ ap (sets l at) (sym (cut-numbers m k x y))
+    ∙ ap (λ (n : ℕ). sets l at (tab (paired n k x y) 0 (perSpan n))) (sym whole)
+
+-- and that start is within the divisor's reach
+pub leaf-near : (left k : ℕ) (q : Four) → left ≡ 0 → Cuttable left k q → natAbs (q .a) ≤ divisor k * reach
+leaf-near left k q e cut = subst (λ z. natAbs z ≤ divisor k * reach) (ap (λ (n : ℕ). weighted q (pos 0) (pos (2 ^ n))) e ∙ uncut q) (cut .near 0 (pow-pos left))
+
+-- a first control is inside 64 bits
+pub leaf-fits : (left k : ℕ) (q : Four) → Cuttable left k q → SFits w64 (q .a)
+leaf-fits left k q cut = sfits w64 (q .a) (2 ^ 59) (cuttable-small left k q cut .a) tt

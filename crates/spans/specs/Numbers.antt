@@ -1,0 +1,45 @@
+-- The numbers of an outline, x then y (document 01, "What it draws"): point s·2^k + i is span s at t = i / 2^k, and the last is the last span at t = 1.
+use mathlib.Core.Bool.{Bool, true, false, cond, _||_}
+use mathlib.Core.List.{List}
+use Prim.Native.Nat.{ℕ, zero, suc, _+_, _*_, _-_, _/_, _%_, _^_, min}
+use lib.Dec.{ltb, eqb}
+use lib.IntN.{ℤ, pos, natAbs}
+use lib.Seq.{sets}
+use Rattle.whole.specs.Nearest.{nearest}
+use Rattle.curve.specs.declared.Four.{Four}
+use Rattle.curve.specs.declared.Basis.{Basis}
+use Rattle.curve.specs.Numbers.{tab}
+use Rattle.curve.specs.Span.{coordinate, records, sixfoldControls, weighted, divisor, point}
+use Rattle.curve.specs.Limits.{reach}
+
+-- Number q of an outline of m spans at depth k: its point is q / 2, its axis q % 2.
+unfoldable pub number : Basis → ℕ → ℕ → List ℤ → ℕ → ℤ
+number b k m controls q =
+    let g = q / 2 in
+    let s = min (g / 2 ^ k) (m - 1) in
+    point b k (records b s (coordinate controls (q % 2))) (g - s * 2 ^ k)
+
+-- The numbers from one span's start to another's, of which there are 2·2^k for each span.
+abbrev pub perSpan : ℕ → ℕ
+perSpan k = 2 * 2 ^ k
+
+-- The lent points with n numbers from number q on as a rule has them, and all others as they were.
+abbrev pub filled : (ℕ → ℤ) → ℕ → ℕ → List ℤ → List ℤ
+filled f q n l = sets l q (tab f q n)
+
+-- ---- one span, from its two axes' controls: number j is step j / 2 on axis j % 2, at `left` more halvings and over the divisor of depth k
+
+abbrev pub onAxis : Four → Four → ℕ → Four
+onAxis x y j = cond (eqb (j % 2) 0) x y
+
+unfoldable pub paired : ℕ → ℕ → Four → Four → ℕ → ℤ
+paired left k x y j = nearest (weighted (onAxis x y j) (pos (j / 2)) (pos (2 ^ left))) (divisor k)
+
+-- ---- the look for a point beyond 5,000,000
+
+abbrev pub beyondReach : ℤ → Bool
+beyondReach z = ltb reach (natAbs z)
+
+-- A rule's point g is beyond on either axis.
+unfoldable pub farOff : (ℕ → ℤ) → ℕ → Bool
+farOff f g = beyondReach (f (2 * g)) || beyondReach (f (2 * g + 1))

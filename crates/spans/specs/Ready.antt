@@ -1,0 +1,16 @@
+-- Controls of one axis that a span can be drawn from: sixfold controls of records inside the limits, so that each sum is within its divisor times 5,000,000.
+use Prim.Native.Nat.{ℕ, _*_, _-_, _^_, _≤_, _<_}
+use lib.IntN.{ℤ, pos, natAbs}
+use Rattle.curve.specs.declared.Four.{Four}
+use Rattle.curve.specs.Limits.{Inside, widest, reach}
+use Rattle.curve.specs.Span.{weighted, divisor}
+use Rattle.curve.specs.Ways.{deepest}
+
+pub record Ready (k : ℕ) (q : Four) : Type 0 where
+  pub inside : Inside widest q
+  pub near : (i : ℕ) → i ≤ 2 ^ k → natAbs (weighted q (pos i) (pos (2 ^ k))) ≤ divisor k * reach
+
+-- The same for halving, with `left` more cuts to make of depth k: eight times as large with each cut made.
+pub record Cuttable (left k : ℕ) (q : Four) : Type 0 where
+  pub inside : Inside (widest * 8 ^ (deepest - left)) q
+  pub near : (i : ℕ) → i < 2 ^ left → natAbs (weighted q (pos i) (pos (2 ^ left))) ≤ divisor k * reach
