@@ -2,18 +2,21 @@
 -- induction on the depth joins them. Differences: after x steps the state holds the sum at x and its differences there, so an induction on the steps lists them.
 use mathlib.Core.Path.{_≡_, refl, sym, ap, _∙_, subst}
 use mathlib.Core.List.{List, [], _∷_, _++_}
-use Prim.Native.Nat.{ℕ, zero, suc, _+_, _*_, _^_, _<_}
-use native.Mathlib.Nat.{pow-suc, zero-add, add-zero}
+use Prim.Native.Nat.{ℕ, zero, suc, _+_, _*_, _^_, _≤_, _<_}
+use native.Mathlib.Nat.{pow-suc, zero-add, add-zero, le-trans}
 use native.Mathlib.Numerals.{add-one}
 use native.Mathlib.Omega.{arith}
+use lib.Dec.{lit≤}
 use lib.IntN.{ℤ, pos, _+ℤ_, _-ℤ_, _*ℤ_}
 use Rattle.whole.proofs.Ring.{Ex, var, lit, _⊕_, _⊖_, _⊗_, ev, Same, solve}
+use Rattle.whole.proofs.Fit.{Bounded, ev-size}
 use Rattle.curve.specs.declared.Four.{Four}
 use Rattle.curve.specs.declared.Differences.{Differences}
 use Rattle.curve.specs.Numbers.{four, dot, tab}
 use Rattle.curve.specs.Published.{weights, bezierMatrix}
+use Rattle.curve.specs.Limits.{Inside, widest, Small}
 use Rattle.curve.specs.Span.{weighted}
-use Rattle.curve.specs.Ways.{byWeights, byHalving, byDifferences, leftHalf, rightHalf, starts, differences, advance, values}
+use Rattle.curve.specs.Ways.{deepest, byWeights, byHalving, byDifferences, leftHalf, rightHalf, starts, differences, advance, values}
 use Rattle.curve.proofs.Tab.{tab-append, tab-same}
 use Rattle.curve.proofs.Powers.{cube, eights}
 use Rattle.curve.proofs.Span.{weighted-start, weighted-end}
@@ -133,3 +136,17 @@ values-are-sums q m j (suc n) =
 pub differences-agree : (k : ℕ) (q : Four) → byDifferences k q ≡ byWeights k q
 unfolding byDifferences byWeights
 differences-agree k q = ap (values (suc (2 ^ k))) (begins q (pos (2 ^ k))) ∙ values-are-sums q (2 ^ k) 0 (suc (2 ^ k))
+
+-- no state on the way through a span is near the ends of 64 bits
+pub state-small : (q : Four) (j m : ℕ) → Inside widest q → j ≤ 2 ^ deepest → m ≤ 2 ^ deepest → Small (state q (pos j) (pos m))
+unfolding state weighted weights dot at firstᵉ secondᵉ thirdᵉ
+state-small q j m inside hj hm =
+    let r = R.values q (pos j) (pos m) in
+    let bs = widest ∷ widest ∷ widest ∷ widest ∷ 64 ∷ 64 ∷ [] in
+    let ok : Bounded r bs = (inside .a, (inside .b, (inside .c, (inside .d, (hj, (hm, tt)))))) in
+    record {
+      value = le-trans (ev-size r bs ok (at i)) (lit≤ tt);
+      first = le-trans (ev-size r bs ok (firstᵉ i)) (lit≤ tt);
+      second = le-trans (ev-size r bs ok (secondᵉ i)) (lit≤ tt);
+      third = le-trans (ev-size r bs ok (thirdᵉ i)) (lit≤ tt);
+    }

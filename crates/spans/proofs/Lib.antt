@@ -1,2 +1,3 @@
 pub mod Pairs
 pub mod Halves
+pub mod Steps

@@ -8,9 +8,11 @@ use lib.Seq.{sets}
 use Rattle.whole.specs.Nearest.{nearest}
 use Rattle.curve.specs.declared.Four.{Four}
 use Rattle.curve.specs.declared.Basis.{Basis}
+use Rattle.curve.specs.declared.Differences.{Differences}
 use Rattle.curve.specs.Numbers.{tab}
 use Rattle.curve.specs.Span.{coordinate, records, sixfoldControls, weighted, divisor, point}
 use Rattle.curve.specs.Limits.{reach}
+use Rattle.curve.specs.Ways.{advance}
 
 -- Number q of an outline of m spans at depth k: its point is q / 2, its axis q % 2.
 unfoldable pub number : Basis → ℕ → ℕ → List ℤ → ℕ → ℤ
@@ -34,6 +36,15 @@ onAxis x y j = cond (eqb (j % 2) 0) x y
 
 unfoldable pub paired : ℕ → ℕ → Four → Four → ℕ → ℤ
 paired left k x y j = nearest (weighted (onAxis x y j) (pos (j / 2)) (pos (2 ^ left))) (divisor k)
+
+-- ---- the same by differences: the state after n steps, and the numbers of a span from the states of its two axes
+
+unfoldable pub after : ℕ → Differences → Differences
+after zero s = s
+after (suc n) s = advance (after n s)
+
+unfoldable pub stepped : ℕ → Differences → Differences → ℕ → ℤ
+stepped k x y j = nearest (after (j / 2) (cond (eqb (j % 2) 0) x y) .value) (divisor k)
 
 -- ---- the look for a point beyond 5,000,000
 

@@ -2,9 +2,11 @@
 use Prim.Native.Nat.{ℕ, _*_, _-_, _^_, _≤_, _<_}
 use lib.IntN.{ℤ, pos, natAbs}
 use Rattle.curve.specs.declared.Four.{Four}
-use Rattle.curve.specs.Limits.{Inside, widest, reach}
+use Rattle.curve.specs.declared.Differences.{Differences}
+use Rattle.curve.specs.Limits.{Inside, Small, widest, reach}
 use Rattle.curve.specs.Span.{weighted, divisor}
 use Rattle.curve.specs.Ways.{deepest}
+use Rattle.spans.specs.Numbers.{after}
 
 pub record Ready (k : ℕ) (q : Four) : Type 0 where
   pub inside : Inside widest q
@@ -14,3 +16,8 @@ pub record Ready (k : ℕ) (q : Four) : Type 0 where
 pub record Cuttable (left k : ℕ) (q : Four) : Type 0 where
   pub inside : Inside (widest * 8 ^ (deepest - left)) q
   pub near : (i : ℕ) → i < 2 ^ left → natAbs (weighted q (pos i) (pos (2 ^ left))) ≤ divisor k * reach
+
+-- The same for differences: each of the 2^k steps' states is small, and its sum within the reach.
+pub record Steady (k : ℕ) (s : Differences) : Type 0 where
+  pub small : (i : ℕ) → i < 2 ^ k → Small (after i s)
+  pub near : (i : ℕ) → i < 2 ^ k → natAbs (after i s .value) ≤ divisor k * reach

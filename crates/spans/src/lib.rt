@@ -2,4 +2,5 @@
 // those have checked.
 pub mod halving;
 pub mod point;
+pub mod stepping;
 pub mod weights;

@@ -1,0 +1,128 @@
+-- At each turn the states are those after i steps, and the pairs still to be written, written to the present list, make the whole.
+use mathlib.Core.Path.{_≡_, refl, sym, ap, _∙_, subst}
+use Prim.Native.Nat.{ℕ, _+_, _*_, _-_, _^_, _≤_, _<_}
+use native.Mathlib.Omega.{arith}
+use lib.IntN.{ℤ, natAbs}
+use lib.ListN.{length, set}
+use lib.Seq.{sets}
+use mir.Syntax.{w64}
+use Rattle.whole.specs.Nearest.{nearest}
+use Rattle.whole.proofs.Fit.{kept, kept-is}
+use Rattle.curve.specs.declared.Differences.{Differences}
+use Rattle.curve.specs.Numbers.{tab}
+use Rattle.curve.specs.Limits.{Small, reach}
+use Rattle.curve.specs.Span.{divisor}
+use Rattle.curve.specs.Ways.{advance}
+use Rattle.spans.specs.Numbers.{after, stepped, perSpan}
+use Rattle.spans.specs.Ready.{Steady}
+use Rattle.spans.proofs.Pairs.{pair-step, pair-done, shift-one}
+use Rattle.spans.proofs.Steps.{stepped-x, stepped-y, value-fits, after-suc}
+use Rattle.spans.proofs.stepping.fill_steps.Statement.{statement}
+use Rattle.spans.proofs.stepping.fill_steps.Tie as tie
+
+abbrev Inv-loop : tie.InvT-loop
+Inv-loop points₀ at depth steps on-x₀ on-y₀ i₀ j₀ points on-x on-y i j =
+    (steps ≡ 2 ^ depth)
+    × (i ≤ steps)
+    × (j ≡ at + 2 * i)
+    × (length points ≡ length points₀)
+    × (on-x ≡ after i on-x₀)
+    × (on-y ≡ after i on-y₀)
+    × (sets points j (tab (stepped depth on-x₀ on-y₀) (2 * i) (2 * (2 ^ depth - i))) ≡ sets points₀ at (tab (stepped depth on-x₀ on-y₀) 0 (perSpan depth)))
+
+abbrev μ-loop : tie.MeasureT-loop
+μ-loop points₀ at depth steps on-x₀ on-y₀ i₀ j₀ points on-x on-y i j = steps - i
+
+shl-steps : tie.Need-shl-steps Inv-loop μ-loop
+shl-steps c = omega arith
+
+loop-holds : tie.Need-loop-holds Inv-loop μ-loop
+unfolding after
+loop-holds c =
+    let k = c .args .depth in
+    (shift-one k (omega arith), omega arith, omega arith, refl, refl, refl, ap (λ (n : ℕ). sets (c .args .points .now) (c .args .at) (tab (stepped k (c .args .x) (c .args .y)) 0 n)) (omega arith))
+
+-- a state of the loop is one of the steady run
+steady : (k i : ℕ) (s t : Differences) → i < 2 ^ k → t ≡ after i s → Steady k s → Small t × (natAbs (kept w64 (t .value)) ≤ divisor k * reach)
+steady k i s t h e run =
+    let small = subst Small (sym e) (run .small i h) in
+    (small, subst (λ z. natAbs z ≤ divisor k * reach) (ap (λ (u : Differences). u .value) (sym e) ∙ sym (kept-is w64 (t .value) (value-fits t small))) (run .near i h))
+
+-- the loop's test and invariant, at a turn's start
+turn-x : (c : tie.In-loop Inv-loop μ-loop) → Small (c .before .loop .on-x) × (natAbs (kept w64 (c .before .loop .on-x .value)) ≤ divisor (c .before .before .args .depth) * reach)
+turn-x c =
+    let s = c .before .before in
+    let l = c .before .loop in
+    steady (s .args .depth) (l .i) (s .args .x) (l .on-x) (omega arith) (l .inv .4) (s .pre .1 .0 .0)
+
+turn-y : (c : tie.In-loop Inv-loop μ-loop) → Small (c .before .loop .on-y) × (natAbs (kept w64 (c .before .loop .on-y .value)) ≤ divisor (c .before .before .args .depth) * reach)
+turn-y c =
+    let s = c .before .before in
+    let l = c .before .loop in
+    steady (s .args .depth) (l .i) (s .args .y) (l .on-y) (omega arith) (l .inv .5) (s .pre .1 .0 .1)
+
+put-point-requires : tie.Need-put-point-requires Inv-loop μ-loop
+put-point-requires c κs = let t = c .before .before .before in (t .before .before .pre .0, ((turn-x t .1, turn-y t .1), omega arith))
+
+next-requires : tie.Need-next-requires Inv-loop μ-loop
+next-requires c κs = turn-x (c .before .before .before .before .before) .0
+
+next-requires-2 : tie.Need-next-requires-2 Inv-loop μ-loop
+next-requires-2 c κs = turn-y (c .before .before .before .before .before .before) .0
+
+add-i : tie.Need-add-i Inv-loop μ-loop
+add-i c = omega (arith, c .before .before .before .before .before .before .before)
+
+add-j : tie.Need-add-j Inv-loop μ-loop
+add-j c = omega (arith, c .before .before .before .before .before .before .before)
+
+loop-less : tie.Need-loop-less Inv-loop μ-loop
+loop-less c = omega (arith, c .before .before .before .before .before .before .before)
+
+-- the number that a turn writes from a state is the rule's
+number : (k i : ℕ) (s t : Differences) → t ≡ after i s → Small t → nearest (kept w64 (t .value)) (divisor k) ≡ nearest (after i s .value) (divisor k)
+number k i s t e small = ap (λ z. nearest z (divisor k)) (kept-is w64 (t .value) (value-fits t small) ∙ ap (λ (u : Differences). u .value) e)
+
+-- what a turn writes is the rule's next pair
+wrote : (c : tie.After-put-point Inv-loop μ-loop) → c .put-point .last .0
+    ≡ set (set (c .before .before .before .before .before .loop .points) (c .before .before .before .before .before .loop .j) (stepped (c .before .before .before .before .before .before .args .depth) (c .before .before .before .before .before .before .args .x) (c .before .before .before .before .before .before .args .y) (2 * c .before .before .before .before .before .loop .i)))
+    (c .before .before .before .before .before .loop .j + 1)
+    (stepped (c .before .before .before .before .before .before .args .depth) (c .before .before .before .before .before .before .args .x) (c .before .before .before .before .before .before .args .y) (2 * c .before .before .before .before .before .loop .i + 1))
+wrote c =
+    let t = c .before .before .before .before in
+    let l = t .before .loop in
+    let a = t .before .before .args in
+    let k = a .depth in
+    let y = nearest (kept w64 (l .on-y .value)) (divisor k) in
+    c .put-point .ensures
+    ∙ ap (λ z. set (set (l .points) (l .j) z) (l .j + 1) y) (number k (l .i) (a .x) (l .on-x) (l .inv .4) (turn-x t .0) ∙ sym (stepped-x k (a .x) (a .y) (l .i)))
+    ∙ ap (λ z. set (set (l .points) (l .j) (stepped k (a .x) (a .y) (2 * l .i))) (l .j + 1) z) (number k (l .i) (a .y) (l .on-y) (l .inv .5) (turn-y t .0) ∙ sym (stepped-y k (a .x) (a .y) (l .i)))
+
+loop-again : tie.Need-loop-again Inv-loop μ-loop
+loop-again c =
+    let t = c .before .before .before .before .before .before .before in
+    let l = t .before .loop in
+    let a = t .before .before .args in
+    let k = a .depth in
+    let f = stepped k (a .x) (a .y) in
+    let here : l .i < 2 ^ k = omega (arith, t) in (
+      l .inv .0,
+      omega (arith, t),
+      omega (arith, t),
+      c .before .before .before .put-point .kept .0 ∙ l .inv .3,
+      c .before .next .ensures ∙ ap advance (l .inv .4) ∙ after-suc (l .i) (a .x),
+      c .next2 .ensures ∙ ap advance (l .inv .5) ∙ after-suc (l .i) (a .y),
+      ap (λ v. sets v (l .j + 2) (tab f (2 * (l .i + 1)) (2 * (2 ^ k - (l .i + 1))))) (wrote (c .before .before .before)) ∙ sym (pair-step f (l .points) (l .j) (l .i) (2 ^ k) here) ∙ l .inv .6,
+    )
+
+same-length : tie.Need-same-length Inv-loop μ-loop
+same-length c = c .before .loop .inv .3
+
+returns : tie.Need-returns Inv-loop μ-loop
+returns c =
+    let l = c .before .loop in
+    let a = c .before .before .args in
+    sym (pair-done (stepped (a .depth) (a .x) (a .y)) (l .points) (l .j) (l .i) (2 ^ a .depth) (omega arith)) ∙ l .inv .6
+
+pub fill-steps-spec : {M : Type 1} → statement M
+fill-steps-spec = tie.close (tie.spec Inv-loop μ-loop shl-steps loop-holds put-point-requires next-requires next-requires-2 add-i add-j loop-less loop-again same-length returns)

@@ -1,0 +1,50 @@
+// By differences: a sum and its three differences go from step to step by additions alone.
+ghost use mathlib.Core.Path.{_≡_};
+ghost use Prim.Native.Nat.{_+_, _≤_};
+ghost use lib.ListN.{length};
+ghost use lib.Seq.{sets};
+ghost use Rattle.curve.specs.Numbers.{tab};
+ghost use Rattle.curve.specs.Ways.{deepest};
+ghost use Rattle.spans.specs.Numbers.{paired, stepped, perSpan};
+ghost use Rattle.spans.specs.Ready.{Ready, Steady};
+use crate::point::put_point;
+use curve::Differences;
+use curve::Four;
+
+// The points of 2^depth steps from two states on, from number `at` on.
+fn fill_steps(points: &mut [i32], at: usize, depth: usize, x: Differences, y: Differences)
+    requires { ⌜ depth ≤ deepest ⌝ }
+    requires { ⌜ Steady depth x × Steady depth y ⌝ }
+    requires { ⌜ at + perSpan depth ≤ length (now points) ⌝ }
+    ensures { λ _. ⌜ now (points .exit) ≡ sets (now (points .entry)) at (tab (stepped depth x y) 0 (perSpan depth)) ⌝ }
+{
+    let steps: usize = 1 << depth;
+    let mut on_x = x;
+    let mut on_y = y;
+    let mut i = 0;
+    let mut j = at;
+    while i < steps {
+        put_point(points, j, depth, on_x.value, on_y.value);
+        on_x = on_x.next();
+        on_y = on_y.next();
+        i += 1;
+        j += 2;
+    }
+}
+
+// The 2^depth points of a span but its end, from number `at` on.
+pub fn fill_span(points: &mut [i32], at: usize, depth: usize, x: Four, y: Four)
+    requires { ⌜ depth ≤ deepest ⌝ }
+    requires { ⌜ Ready depth x × Ready depth y ⌝ }
+    requires { ⌜ at + perSpan depth ≤ length (now points) ⌝ }
+    ensures { λ _. ⌜ now (points .exit) ≡ sets (now (points .entry)) at (tab (paired depth depth x y) 0 (perSpan depth)) ⌝ }
+{
+    let steps: i64 = 1 << depth;
+    fill_steps(
+        points,
+        at,
+        depth,
+        Differences::begin(x, steps),
+        Differences::begin(y, steps),
+    );
+}
