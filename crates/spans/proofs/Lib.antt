@@ -1,3 +1,4 @@
 pub mod Pairs
 pub mod Halves
 pub mod Steps
+pub mod Numbers

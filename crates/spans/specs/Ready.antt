@@ -1,10 +1,13 @@
 -- Controls of one axis that a span can be drawn from: sixfold controls of records inside the limits, so that each sum is within its divisor times 5,000,000.
-use Prim.Native.Nat.{ℕ, _*_, _-_, _^_, _≤_, _<_}
+use mathlib.Core.List.{List}
+use Prim.Native.Nat.{ℕ, _+_, _*_, _-_, _^_, _≤_, _<_}
 use lib.IntN.{ℤ, pos, natAbs}
+use lib.ListN.{length}
+use Rattle.curve.specs.declared.Basis.{Basis}
 use Rattle.curve.specs.declared.Four.{Four}
 use Rattle.curve.specs.declared.Differences.{Differences}
-use Rattle.curve.specs.Limits.{Inside, Small, widest, reach}
-use Rattle.curve.specs.Span.{weighted, divisor}
+use Rattle.curve.specs.Limits.{Inside, Small, limit, widest, reach}
+use Rattle.curve.specs.Span.{firstRecord, coordinate, records, weighted, divisor}
 use Rattle.curve.specs.Ways.{deepest}
 use Rattle.spans.specs.Numbers.{after}
 
@@ -21,3 +24,9 @@ pub record Cuttable (left k : ℕ) (q : Four) : Type 0 where
 pub record Steady (k : ℕ) (s : Differences) : Type 0 where
   pub small : (i : ℕ) → i < 2 ^ k → Small (after i s)
   pub near : (i : ℕ) → i < 2 ^ k → natAbs (after i s .value) ≤ divisor k * reach
+
+-- A list of controls that m spans of a basis can be drawn from: each span's four records are in the list and inside the limits.
+pub record Drawable (b : Basis) (m : ℕ) (controls : List ℤ) : Type 0 where
+  pub few : m ≤ 64
+  pub held : (s : ℕ) → s < m → 2 * firstRecord b s + 8 ≤ length controls
+  pub inside : (s axis : ℕ) → s < m → axis < 2 → Inside limit (records b s (coordinate controls axis))

@@ -2,5 +2,6 @@
 // those have checked.
 pub mod halving;
 pub mod point;
+pub mod run;
 pub mod stepping;
 pub mod weights;

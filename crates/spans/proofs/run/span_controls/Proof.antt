@@ -1,0 +1,32 @@
+-- The first record and the four from it on are the span's records, inside the limits.
+use mathlib.Core.Path.{_≡_, sym, ap, _∙_, subst}
+use Prim.Native.Nat.{ℕ}
+use native.Mathlib.Omega.{arith}
+use Rattle.curve.specs.declared.Four.{Four}
+use Rattle.curve.specs.Limits.{Inside, limit}
+use Rattle.curve.specs.Span.{coordinate, recordsFrom, records, sixfoldControls}
+use Rattle.spans.proofs.run.span_controls.Statement.{statement}
+use Rattle.spans.proofs.run.span_controls.Tie as tie
+
+first-record-requires : tie.Need-first-record-requires
+first-record-requires c κs = omega arith
+
+four-records-requires : tie.Need-four-records-requires
+four-records-requires c κs = let s = c .before in omega (arith, c .first-record .ensures, s .pre .1 .held (s .args .span) (omega arith))
+
+-- what was read is the span's records
+read : (c : tie.After-four-records) → c .four-records .result ≡ records (c .before .before .args .basis) (c .before .before .args .span) (coordinate (c .before .before .args .controls .now) (c .before .before .args .axis))
+read c =
+    let a = c .before .before .args in
+    c .four-records .ensures ∙ ap (λ (r : ℕ). recordsFrom r (coordinate (a .controls .now) (a .axis))) (c .before .first-record .ensures)
+
+sixfold-controls-requires : tie.Need-sixfold-controls-requires
+sixfold-controls-requires c κs =
+    let s = c .before .before in
+    subst (Inside limit) (sym (read c)) (s .pre .1 .inside (s .args .span) (s .args .axis) (omega arith) (s .pre .0))
+
+returns : tie.Need-returns
+returns c = c .sixfold-controls .ensures ∙ ap (sixfoldControls (c .before .before .before .args .basis)) (read (c .before))
+
+pub span-controls-spec : {M : Type 1} → statement M
+span-controls-spec = tie.close (tie.spec first-record-requires four-records-requires sixfold-controls-requires returns)

@@ -1,0 +1,50 @@
+// A run of spans: from the start of one to the end of another.
+ghost use mathlib.Core.Path.{_≡_};
+ghost use Prim.Native.Nat.{_+_, _*_, _-_, _≤_, _<_};
+ghost use lib.ListN.{length};
+ghost use lib.Seq.{sets};
+ghost use Rattle.curve.specs.Numbers.{tab};
+ghost use Rattle.curve.specs.Span.{coordinate, records, sixfoldControls};
+ghost use Rattle.curve.specs.Ways.{deepest};
+ghost use Rattle.spans.specs.Numbers.{filled, number, paired, perSpan};
+ghost use Rattle.spans.specs.Ready.{Drawable, Ready};
+use crate::halving;
+use crate::point::put_point;
+use crate::stepping;
+use crate::weights;
+use curve::Basis;
+use curve::Four;
+use curve::records::first_record;
+use curve::records::four_records;
+use curve::records::sixfold_controls;
+
+// The three ways of document 01.
+pub enum Way {
+    Weights,
+    Halving,
+    Differences,
+}
+
+// The sixfold controls of a span on an axis: 0 is x, 1 is y.
+fn span_controls(controls: &[i32], basis: Basis, span: usize, axis: usize) -> Four
+    requires { ⌜ axis < 2 ⌝ }
+    requires { ⌜ Drawable basis (span + 1) (now controls) ⌝ }
+    ensures { λ r. ⌜ r ≡ sixfoldControls basis (records basis span (coordinate (now (controls .entry)) axis)) ⌝ }
+{
+    let first = first_record(basis, span);
+    sixfold_controls(basis, four_records(controls, first, axis))
+}
+
+// The 2^depth points of a span but its end, by a way.
+fn fill_span(way: Way, points: &mut [i32], at: usize, depth: usize, x: Four, y: Four)
+    requires { ⌜ depth ≤ deepest ⌝ }
+    requires { ⌜ Ready depth x × Ready depth y ⌝ }
+    requires { ⌜ at + perSpan depth ≤ length (now points) ⌝ }
+    ensures { λ _. ⌜ now (points .exit) ≡ sets (now (points .entry)) at (tab (paired depth depth x y) 0 (perSpan depth)) ⌝ }
+{
+    match way {
+        Way::Weights => weights::fill_span(points, at, depth, x, y),
+        Way::Halving => halving::fill_span(points, at, depth, x, y),
+        Way::Differences => stepping::fill_span(points, at, depth, x, y),
+    }
+}
