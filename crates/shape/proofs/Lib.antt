@@ -1,3 +1,4 @@
 pub mod Spans
 pub mod Seek
 pub mod Refusals
+pub mod Unique

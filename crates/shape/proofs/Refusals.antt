@@ -182,7 +182,7 @@ module _ (n : ℕ) (controls : List ℤ) (points len : ℕ) where
       let h = fine-none e in
       let all : n ≤ firstOutside controls n = ltb-false (firstOutside controls n) n (h .1 .0) in
       let both : (r : ℕ) → r < n → (beyond (coordinate controls 0 r) ≡ false) × (beyond (coordinate controls 1 r) ≡ false) =
-          λ r l. or-false (beyond (coordinate controls 0 r)) (beyond (coordinate controls 1 r)) (seek-fails (outside controls) 0 n r (omega arith) (le-trans l all)) in
+      λ r l. or-false (beyond (coordinate controls 0 r)) (beyond (coordinate controls 1 r)) (seek-fails (outside controls) 0 n r (omega arith) (le-trans l all)) in
       record {
         room = ltb-false (length controls) (2 * n) (h .0);
         x = λ r l. ltb-false limit (natAbs (coordinate controls 0 r)) (both r l .0);

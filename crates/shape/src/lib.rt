@@ -3,7 +3,7 @@ ghost use mathlib.Core.Path.{_≡_};
 ghost use Prim.Native.Nat.{_*_, _^_, _≤_};
 ghost use lib.ListN.{length};
 ghost use Rattle.curve.specs.Ways.{deepest};
-ghost use Rattle.shape.specs.Shape.{basisOf, spansOf, recordsOf, pointsOf, mostRecords};
+ghost use Rattle.shape.specs.Shape.{basisOf, spansOf, recordsOf, pointsOf, mostRecords, mostPoints};
 ghost use Rattle.shape.specs.Refusals.{judgeShape, judgeLists, firstOutside, beyond};
 use curve::Basis;
 use curve::DEEPEST;
@@ -61,8 +61,11 @@ impl Plan {
 
 // The least and the greatest number of a basis, and the fewest and the most records of a shape (document 01, "What it draws").
 const FIRST_BASIS: usize = 1;
+
 const LAST_BASIS: usize = 4;
+
 const FEWEST_RECORDS: usize = 4;
+
 const MOST_RECORDS: usize = 64;
 
 // The basis of a number from 1 to 4.
@@ -111,26 +114,48 @@ pub fn check_shape(shape: Shape) -> Judged
     let depth = shape.depth;
     let count = shape.count;
     if number < FIRST_BASIS {
-        return Judged::Unsound(Refusal { number: 1, place: 0 });
+        return Judged::Unsound(Refusal {
+            number: 1,
+            place: 0,
+        });
     }
     if LAST_BASIS < number {
-        return Judged::Unsound(Refusal { number: 1, place: 0 });
+        return Judged::Unsound(Refusal {
+            number: 1,
+            place: 0,
+        });
     }
     if DEEPEST < depth {
-        return Judged::Unsound(Refusal { number: 2, place: 0 });
+        return Judged::Unsound(Refusal {
+            number: 2,
+            place: 0,
+        });
     }
     if count < FEWEST_RECORDS {
-        return Judged::Unsound(Refusal { number: 3, place: 0 });
+        return Judged::Unsound(Refusal {
+            number: 3,
+            place: 0,
+        });
     }
     if MOST_RECORDS < count {
-        return Judged::Unsound(Refusal { number: 3, place: 0 });
+        return Judged::Unsound(Refusal {
+            number: 3,
+            place: 0,
+        });
     }
     let basis = basis_of(number);
     let spans = spans_of(basis, count);
     if records_of(basis, spans) != count {
-        return Judged::Unsound(Refusal { number: 3, place: 0 });
+        return Judged::Unsound(Refusal {
+            number: 3,
+            place: 0,
+        });
     }
-    Judged::Sound(Plan { basis, depth, spans })
+    Judged::Sound(Plan {
+        basis,
+        depth,
+        spans,
+    })
 }
 
 // A coordinate outside the limits.
@@ -164,18 +189,27 @@ pub fn first_outside(controls: &[i32], count: usize) -> usize
 // The checks of the lent lists in the paper's order, 7, 8, 9: `count` records in `controls`, inside the limits, and room for `points` points in a list of `len` numbers.
 // For crates that have checked the shape.
 pub fn check_lists(count: usize, controls: &[i32], points: usize, len: usize) -> Listed
-    requires { ⌜ (count ≤ mostRecords) × (points ≤ 4096) ⌝ }
+    requires { ⌜ (count ≤ mostRecords) × (points ≤ mostPoints) ⌝ }
     ensures { λ r. ⌜ r ≡ judgeLists count (now (controls .entry)) points len ⌝ }
 {
     if controls.len() < 2 * count {
-        return Listed::Bad(Refusal { number: 7, place: 0 });
+        return Listed::Bad(Refusal {
+            number: 7,
+            place: 0,
+        });
     }
     let at = first_outside(controls, count);
     if at < count {
-        return Listed::Bad(Refusal { number: 8, place: at });
+        return Listed::Bad(Refusal {
+            number: 8,
+            place: at,
+        });
     }
     if len < 2 * points {
-        return Listed::Bad(Refusal { number: 9, place: 0 });
+        return Listed::Bad(Refusal {
+            number: 9,
+            place: 0,
+        });
     }
     Listed::Fine
 }

@@ -17,7 +17,8 @@ fits : (c : tie.After-struct-known) → c .before .before .args .self .spans * c
 fits c =
     let k = c .before .before .args .self .depth in
     let h : k ≤ deepest = c .before .before .pre .0 in
-    mul-le-mul (c .before .before .pre .1) (omega (arith, pow-mono {i = k} {j = deepest} h, c .before .steps .ensures))
+    let steps : c .before .steps .result ≤ 2 ^ deepest = omega (arith, pow-mono {i = k} {j = deepest} h, c .before .steps .ensures) in
+    mul-le-mul (c .before .before .pre .1) steps
 
 mul-result : tie.Need-mul-result
 mul-result c = omega (arith, fits c)
