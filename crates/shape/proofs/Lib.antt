@@ -1,3 +1,4 @@
+pub mod Tests
 pub mod Spans
 pub mod Seek
 pub mod Refusals

@@ -1,14 +1,14 @@
 -- A table of rows is read from the top: either some row holds first, and its refusal is the answer, or none holds. What each call's checks say follows, since an answer
 -- that refuses is never one that accepts.
 use mathlib.Core.Path.{_≡_, refl, sym, ap, _∙_, subst}
-use mathlib.Core.Bool.{Bool, true, false, not, cond, _&&_, _||_}
+use mathlib.Core.Bool.{true, false, cond, _&&_}
 use mathlib.Core.List.{List, [], _∷_, _++_}
 use mathlib.Core.Logic.{_⊎_, inl, inr, ⊎-elim}
 use Prim.Native.Nat.{ℕ, zero, suc, _+_, _*_, _≤_, _<_}
 use native.Mathlib.Nat.{le-trans}
 use native.Mathlib.Omega.{arith}
 use borrow.Author.Tests.{leb-true, ltb-false, not-false}
-use lib.Dec.{leb, ltb}
+use lib.Dec.{leb}
 use lib.IntN.{ℤ, natAbs}
 use lib.ListN.{length}
 use Rattle.curve.specs.Limits.{Inside, limit}
@@ -17,15 +17,14 @@ use Rattle.curve.specs.Ways.{deepest}
 use Rattle.shape.specs.declared.Shape.{Shape}
 use Rattle.shape.specs.declared.Plan.{Plan}
 use Rattle.shape.specs.declared.Refusal.{Refusal}
-use Rattle.shape.specs.declared.Judged.{Judged}
 use Rattle.shape.specs.declared.Judged.the-variants.{Sound, Unsound}
-use Rattle.shape.specs.declared.Listed.{Listed}
 use Rattle.shape.specs.declared.Listed.the-variants.{Fine, Bad}
-use Rattle.shape.specs.Shape.{basisOf, spansOf, allowed, mostRecords}
+use Rattle.shape.specs.Shape.{basisOf, spansOf, allowed}
 use Rattle.shape.specs.Refusals.{Row, judge, First, NoRow, shapeRows, planOf, judgeShape, beyond, outside, firstOutside, listRows, judgeLists}
 use Rattle.shape.specs.Good.{Good, Lent}
-use Rattle.shape.proofs.Spans.{and-true, allowed-facts, spans-below, last-record}
-use Rattle.shape.proofs.Seek.{passes, seek-fails}
+use Rattle.shape.proofs.Tests.{passes, and-true, or-false}
+use Rattle.shape.proofs.Spans.{allowed-facts, spans-below, last-record}
+use Rattle.shape.proofs.Seek.{seek-fails}
 
 -- ---- any table
 
@@ -147,10 +146,6 @@ bad-same q r e = cc
 
 bad-apart : (q : Refusal) → Bad q ≡ Fine → ⊥
 bad-apart q e = let z : _≡_ {A = ℕ} 0 1 = cc in omega arith
-
-or-false : (a b : Bool) → (a || b) ≡ false → (a ≡ false) × (b ≡ false)
-or-false true b e = let z : _≡_ {A = ℕ} 0 1 = cc in absurd (omega arith)
-or-false false b e = (refl, e)
 
 module _ (n : ℕ) (controls : List ℤ) (points len : ℕ) where
   pub bad-first : (r : Refusal) → judgeLists n controls points len ≡ Bad r → First (listRows n controls points len) r

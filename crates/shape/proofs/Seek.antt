@@ -1,20 +1,13 @@
 -- The first number that passes a test: what lies below it fails, and where the search ends early it passes. By induction on how many are left to look at.
-use mathlib.Core.Path.{_≡_, refl, sym, ap, _∙_, subst}
-use mathlib.Core.Bool.{Bool, true, false, not, cond}
+use mathlib.Core.Path.{_≡_, sym, ap, _∙_, subst}
+use mathlib.Core.Bool.{Bool, true, false}
 use mathlib.Core.Logic.{_⊎_, inl, inr, ⊎-elim}
 use Prim.Native.Nat.{ℕ, zero, suc, _+_, _-_, _≤_, _<_}
 use native.Mathlib.Omega.{arith}
 use borrow.Author.Tests.{ltb-true, ltb-false}
 use lib.Dec.{ltb}
 use Rattle.shape.specs.Refusals.{seek}
-
--- a test passes or fails
-pub passes : (b : Bool) → (b ≡ true) ⊎ (b ≡ false)
-passes true = inl refl
-passes false = inr refl
-
-pub true-is-not-false : {b : Bool} → b ≡ true → b ≡ false → ⊥
-true-is-not-false e f = let z : _≡_ {A = ℕ} 0 1 = cc in omega arith
+use Rattle.shape.proofs.Tests.{passes, true-is-not-false}
 
 split : (a b : ℕ) → a ≤ b → (a ≡ b) ⊎ (a < b)
 split a b h = ⊎-elim (λ e. inr (ltb-true a b e)) (λ e. inl (omega (arith, ltb-false a b e))) (passes (ltb a b))

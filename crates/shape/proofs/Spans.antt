@@ -1,8 +1,9 @@
 -- Spans and records: m spans take 3m+1, m+3 or 2m+2 records, so each law is arithmetic, basis by basis.
-use mathlib.Core.Path.{_≡_, refl, sym, ap, _∙_, subst}
-use mathlib.Core.Bool.{Bool, true, false, _&&_}
-use Prim.Native.Nat.{ℕ, zero, suc, _+_, _*_, _-_, _/_, _^_, _≤_, _<_}
-use native.Mathlib.Nat.{mul-le-mul, le-refl}
+use mathlib.Core.Path.{_≡_, sym, ap, _∙_}
+use mathlib.Core.Bool.{true, false, cond, _&&_}
+use mathlib.Core.Logic.{⊎-elim}
+use Prim.Native.Nat.{ℕ, _+_, _-_, _≤_, _<_}
+use native.Mathlib.Nat.{mul-le-mul}
 use native.Mathlib.Omega.{arith}
 use borrow.Author.Tests.{leb-true, eqb-true, le-leb, lt-leb}
 use lib.Dec.{leb, eqb}
@@ -12,6 +13,7 @@ use Rattle.curve.specs.Ways.{deepest}
 use Rattle.curve.specs.declared.Basis.{Basis}
 use Rattle.curve.specs.declared.Basis.the-variants.{Bezier, BSpline, Cardinal, Hermite}
 use Rattle.shape.specs.Shape.{recordsOf, spansOf, allowed, pointsOf, mostRecords, mostPoints}
+use Rattle.shape.proofs.Tests.{passes, and-true}
 
 -- ---- records of a span
 
@@ -76,11 +78,6 @@ pub allowed-between : (b : Basis) (n : ℕ) → 4 ≤ n → n ≤ mostRecords �
 unfolding allowed
 allowed-between b n h k = simp (le-leb n mostRecords k, le-leb 1 (spansOf b n) (spans-least b n h))
 
--- both tests passed
-pub and-true : (a b : Bool) → (a && b) ≡ true → (a ≡ true) × (b ≡ true)
-and-true true b e = (refl, e)
-and-true false b e = absurd (subst (λ (t : Bool). lib.Dec.T t) (sym e) tt)
-
 -- what an allowed count is
 pub allowed-facts : (b : Basis) (n : ℕ) → allowed b n ≡ true → (n ≤ mostRecords) × (1 ≤ spansOf b n) × (recordsOf b (spansOf b n) ≡ n)
 unfolding allowed
@@ -88,6 +85,17 @@ allowed-facts b n e =
     let (most, rest) = and-true (leb n mostRecords) (leb 1 (spansOf b n) && eqb (recordsOf b (spansOf b n)) n) e in
     let (least, whole) = and-true (leb 1 (spansOf b n)) (eqb (recordsOf b (spansOf b n)) n) rest in
     (leb-true n mostRecords most, leb-true 1 (spansOf b n) least, eqb-true (recordsOf b (spansOf b n)) n whole)
+
+-- the spans of an allowed count, or 0: which it is shows
+pub spans-or-none : (b : Basis) (n : ℕ) → cond (allowed b n) (spansOf b n) 0 ≡ 0 → allowed b n ≡ false
+spans-or-none b n e =
+    ⊎-elim
+    (λ t. let h = allowed-facts b n t .1 in let s : spansOf b n ≡ 0 = ap (λ a. cond a (spansOf b n) 0) (sym t) ∙ e in absurd (omega arith))
+    (λ t. t)
+    (passes (allowed b n))
+
+pub spans-or-some : (b : Basis) (n : ℕ) → (cond (allowed b n) (spansOf b n) 0 ≡ 0 → ⊥) → (allowed b n ≡ true) × (cond (allowed b n) (spansOf b n) 0 ≡ spansOf b n)
+spans-or-some b n h = ⊎-elim (λ t. (t, ap (λ a. cond a (spansOf b n) 0) t)) (λ t. absurd (h (ap (λ a. cond a (spansOf b n) 0) t))) (passes (allowed b n))
 
 -- ---- points
 

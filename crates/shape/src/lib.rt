@@ -1,9 +1,10 @@
 // Shapes, refusals, and the checks that calls share. No call here has a `requires`, but those that say so: they are for crates of this project that have checked it.
+ghost use mathlib.Core.Bool.{cond};
 ghost use mathlib.Core.Path.{_≡_};
 ghost use Prim.Native.Nat.{_*_, _^_, _≤_};
 ghost use lib.ListN.{length};
 ghost use Rattle.curve.specs.Ways.{deepest};
-ghost use Rattle.shape.specs.Shape.{basisOf, spansOf, recordsOf, pointsOf, mostRecords, mostPoints};
+ghost use Rattle.shape.specs.Shape.{basisOf, spansOf, recordsOf, allowed, pointsOf, mostRecords, mostPoints};
 ghost use Rattle.shape.specs.Refusals.{judgeShape, judgeLists, firstOutside, beyond};
 use curve::Basis;
 use curve::DEEPEST;
@@ -59,11 +60,12 @@ impl Plan {
     }
 }
 
-// The least and the greatest number of a basis, and the fewest and the most records of a shape (document 01, "What it draws").
+// The bases of document 01 are numbered from 1 to 4.
 const FIRST_BASIS: usize = 1;
 
 const LAST_BASIS: usize = 4;
 
+// One span takes four records, whatever the basis; n is at most 64.
 const FEWEST_RECORDS: usize = 4;
 
 const MOST_RECORDS: usize = 64;
@@ -106,6 +108,23 @@ fn records_of(basis: Basis, spans: usize) -> usize
     }
 }
 
+// The spans of a number of records that is allowed for the basis, or 0.
+fn allowed_spans(basis: Basis, count: usize) -> usize
+    ensures { λ r. ⌜ r ≡ cond (allowed basis count) (spansOf basis count) 0 ⌝ }
+{
+    if count < FEWEST_RECORDS {
+        return 0;
+    }
+    if MOST_RECORDS < count {
+        return 0;
+    }
+    let spans = spans_of(basis, count);
+    if records_of(basis, spans) != count {
+        return 0;
+    }
+    spans
+}
+
 // The checks of a shape in the paper's order, 1, 2, 3: whatever numbers it holds, a refusal or the plan.
 pub fn check_shape(shape: Shape) -> Judged
     ensures { λ r. ⌜ r ≡ judgeShape shape ⌝ }
@@ -131,21 +150,9 @@ pub fn check_shape(shape: Shape) -> Judged
             place: 0,
         });
     }
-    if count < FEWEST_RECORDS {
-        return Judged::Unsound(Refusal {
-            number: 3,
-            place: 0,
-        });
-    }
-    if MOST_RECORDS < count {
-        return Judged::Unsound(Refusal {
-            number: 3,
-            place: 0,
-        });
-    }
     let basis = basis_of(number);
-    let spans = spans_of(basis, count);
-    if records_of(basis, spans) != count {
+    let spans = allowed_spans(basis, count);
+    if spans == 0 {
         return Judged::Unsound(Refusal {
             number: 3,
             place: 0,

@@ -1,13 +1,13 @@
 -- A number above the limit is greater than it; one below minus the limit has a size beyond it; any other has not.
-use mathlib.Core.Path.{_≡_, refl, sym, ap, _∙_}
-use mathlib.Core.Bool.{Bool, true, false}
+use mathlib.Core.Path.{_≡_, sym, ap, _∙_}
+use mathlib.Core.Bool.{true, false}
 use Prim.Native.Nat.{ℕ}
 use native.Mathlib.Omega.{arith}
 use lib.Dec.{leb·suc-suc}
 use lib.IntN.{ℤ, pos, negsuc}
 use lib.Signed.{ltZ}
 use mir.Syntax.{w32}
-use Rattle.whole.proofs.Fit.{kept, kept-is}
+use Rattle.whole.proofs.Fit.{kept-is}
 use Rattle.curve.specs.Limits.{limit}
 use Rattle.shape.specs.Refusals.{beyond}
 use borrow.Author.Needs.{needs}
