@@ -2,8 +2,8 @@
 use mathlib.Core.Bool.{Bool, _&&_}
 use Prim.Native.Nat.{ℕ, zero, suc, _+_, _*_, _-_, _/_, _^_}
 use lib.Dec.{leb, eqb}
-use Rattle.curve.specs.declared.Basis.{Basis}
 use Rattle.curve.specs.Ways.{deepest}
+use Rattle.curve.specs.declared.Basis.{Basis}
 use Rattle.curve.specs.declared.Basis.the-variants.{Bezier, BSpline, Cardinal, Hermite}
 
 -- The basis of a number from 1 to 4.
