@@ -1,0 +1,5 @@
+pub mod Tests
+pub mod Spans
+pub mod Seek
+pub mod Refusals
+pub mod Unique

@@ -1,0 +1,195 @@
+-- A table of rows is read from the top: either some row holds first, and its refusal is the answer, or none holds. What each call's checks say follows, since an answer
+-- that refuses is never one that accepts.
+use mathlib.Core.Path.{_≡_, refl, sym, ap, _∙_, subst}
+use mathlib.Core.Bool.{true, false, cond, _&&_}
+use mathlib.Core.List.{List, [], _∷_, _++_}
+use mathlib.Core.Logic.{_⊎_, inl, inr, ⊎-elim}
+use Prim.Native.Nat.{ℕ, zero, suc, _+_, _*_, _≤_, _<_}
+use native.Mathlib.Nat.{le-trans}
+use native.Mathlib.Omega.{arith}
+use borrow.Author.Tests.{leb-true, ltb-false, not-false}
+use lib.Dec.{leb}
+use lib.IntN.{ℤ, natAbs}
+use lib.ListN.{length}
+use Rattle.curve.specs.Limits.{Inside, limit}
+use Rattle.curve.specs.Span.{coordinate, firstRecord, recordsFrom}
+use Rattle.curve.specs.Ways.{deepest}
+use Rattle.shape.specs.declared.Shape.{Shape}
+use Rattle.shape.specs.declared.Plan.{Plan}
+use Rattle.shape.specs.declared.Refusal.{Refusal}
+use Rattle.shape.specs.declared.Judged.the-variants.{Sound, Unsound}
+use Rattle.shape.specs.declared.Listed.the-variants.{Fine, Bad}
+use Rattle.shape.specs.Shape.{basisOf, spansOf, allowed}
+use Rattle.shape.specs.Refusals.{Row, judge, First, NoRow, shapeRows, planOf, judgeShape, beyond, outside, firstOutside, listRows, judgeLists}
+use Rattle.shape.specs.Good.{Good, Lent}
+use Rattle.shape.proofs.Tests.{passes, and-true, or-false}
+use Rattle.shape.proofs.Spans.{allowed-facts, spans-below, last-record}
+use Rattle.shape.proofs.Seek.{seek-fails}
+
+-- ---- any table
+
+judge-here {ℓ} : {A : Type ℓ} (x : Row) (rows : List Row) (f : Refusal → A) (a : A) → x .holds ≡ true → judge (x ∷ rows) f a ≡ f (x .refusal)
+unfolding judge
+judge-here x rows f a e = rw e
+
+judge-next {ℓ} : {A : Type ℓ} (x : Row) (rows : List Row) (f : Refusal → A) (a : A) → x .holds ≡ false → judge (x ∷ rows) f a ≡ judge rows f a
+unfolding judge
+judge-next x rows f a e = rw e
+
+pub judge-first {ℓ} : {A : Type ℓ} (rows : List Row) (f : Refusal → A) (a : A) (r : Refusal) → First rows r → judge rows f a ≡ f r
+judge-first [] f a r h = absurd h
+judge-first (x ∷ rows) f a r (inl h) = judge-here x rows f a (h .0) ∙ ap f (h .1)
+judge-first (x ∷ rows) f a r (inr h) = judge-next x rows f a (h .0) ∙ judge-first rows f a r (h .1)
+
+pub judge-none {ℓ} : {A : Type ℓ} (rows : List Row) (f : Refusal → A) (a : A) → NoRow rows → judge rows f a ≡ a
+unfolding judge
+judge-none [] f a h = refl
+judge-none (x ∷ rows) f a h = judge-next x rows f a (h .0) ∙ judge-none rows f a (h .1)
+
+-- a longer table: its first part decides, or the rest does
+pub judge-append {ℓ} : {A : Type ℓ} (rows rest : List Row) (f : Refusal → A) (a : A) → judge (rows ++ rest) f a ≡ judge rows f (judge rest f a)
+unfolding judge
+judge-append [] rest f a = refl
+judge-append (x ∷ rows) rest f a = ap (cond (x .holds) (f (x .refusal))) (judge-append rows rest f a)
+
+pub verdict : (rows : List Row) → ((r : Refusal) × First rows r) ⊎ NoRow rows
+verdict [] = inr tt
+verdict (x ∷ rows) =
+    ⊎-elim (λ e. inl (x .refusal, inl (e, refl)))
+    (λ e. ⊎-elim (λ (v : (r : Refusal) × First rows r). inl (v .0, inr (e, v .1))) (λ h. inr (e, h)) (verdict rows))
+    (passes (x .holds))
+
+-- an answer that refuses is given exactly when its row is the first that holds (the other way is `judge-first`)
+pub only-first {ℓ} :
+    {A : Type ℓ} (rows : List Row) (f : Refusal → A) (a : A)
+    → ((q r : Refusal) → f q ≡ f r → q ≡ r)
+    → ((q : Refusal) → f q ≡ a → ⊥)
+    → (r : Refusal)
+    → judge rows f a ≡ f r
+    → First rows r
+only-first rows f a same apart r e =
+    ⊎-elim (λ (v : (r : Refusal) × First rows r). subst (λ q. First rows q) (same (v .0) r (sym (judge-first rows f a (v .0) (v .1)) ∙ e)) (v .1))
+    (λ h. absurd (apart r (sym e ∙ judge-none rows f a h)))
+    (verdict rows)
+
+-- an answer that does not refuse is given exactly when no row holds (the other way is `judge-none`)
+pub only-none {ℓ} : {A : Type ℓ} (rows : List Row) (f : Refusal → A) (a b : A) → ((q : Refusal) → f q ≡ b → ⊥) → judge rows f a ≡ b → NoRow rows
+only-none rows f a b apart e =
+    ⊎-elim (λ (v : (r : Refusal) × First rows r). absurd (apart (v .0) (sym (judge-first rows f a (v .0) (v .1)) ∙ e))) (λ h. h) (verdict rows)
+
+-- ---- rows 1, 2, 3
+
+unsound-same : (q r : Refusal) → Unsound q ≡ Unsound r → q ≡ r
+unsound-same q r e = cc
+
+unsound-apart : (p : Plan) (q : Refusal) → Unsound q ≡ Sound p → ⊥
+unsound-apart p q e = let z : _≡_ {A = ℕ} 0 1 = cc in omega arith
+
+pub unsound-first : (s : Shape) (r : Refusal) → judgeShape s ≡ Unsound r → First (shapeRows s) r
+unfolding judgeShape
+unsound-first s r e = only-first (shapeRows s) Unsound (Sound (planOf s)) unsound-same (unsound-apart (planOf s)) r e
+
+pub first-unsound : (s : Shape) (r : Refusal) → First (shapeRows s) r → judgeShape s ≡ Unsound r
+unfolding judgeShape
+first-unsound s r h = judge-first (shapeRows s) Unsound (Sound (planOf s)) r h
+
+pub sound-none : (s : Shape) (p : Plan) → judgeShape s ≡ Sound p → NoRow (shapeRows s)
+unfolding judgeShape
+sound-none s p e = only-none (shapeRows s) Unsound (Sound (planOf s)) (Sound p) (unsound-apart p) e
+
+pub none-sound : (s : Shape) → NoRow (shapeRows s) → judgeShape s ≡ Sound (planOf s)
+unfolding judgeShape
+none-sound s h = judge-none (shapeRows s) Unsound (Sound (planOf s)) h
+
+pub sound-plan : (s : Shape) (p : Plan) → judgeShape s ≡ Sound p → p ≡ planOf s
+sound-plan s p e = same (sym e ∙ none-sound s (sound-none s p e))
+  where
+    same : {q : Plan} → Sound p ≡ Sound q → p ≡ q
+    same e = cc
+
+-- a call whose table starts with these rows
+pub unsound {ℓ} : {A : Type ℓ} (s : Shape) (r : Refusal) → judgeShape s ≡ Unsound r → (rest : List Row) (f : Refusal → A) (a : A) → judge (shapeRows s ++ rest) f a ≡ f r
+unsound s r e rest f a = judge-append (shapeRows s) rest f a ∙ judge-first (shapeRows s) f (judge rest f a) r (unsound-first s r e)
+
+pub sound {ℓ} : {A : Type ℓ} (s : Shape) (p : Plan) → judgeShape s ≡ Sound p → (rest : List Row) (f : Refusal → A) (a : A) → judge (shapeRows s ++ rest) f a ≡ judge rest f a
+sound s p e rest f a = judge-append (shapeRows s) rest f a ∙ judge-none (shapeRows s) f (judge rest f a) (sound-none s p e)
+
+good-plan : (s : Shape) → NoRow (shapeRows s) → Good s (planOf s)
+unfolding planOf
+good-plan s h =
+    let b = basisOf (s .basis) in
+    let (least, most) = and-true (leb 1 (s .basis)) (leb (s .basis) 4) (not-false (leb 1 (s .basis) && leb (s .basis) 4) (h .0)) in
+    let (records-most, spans, records) = allowed-facts b (s .count) (not-false (allowed b (s .count)) (h .1 .1 .0)) in
+    record {
+      basis = refl;
+      basis-least = leb-true 1 (s .basis) least;
+      basis-most = leb-true (s .basis) 4 most;
+      depth = refl;
+      depth-most = ltb-false deepest (s .depth) (h .1 .0);
+      spans-least = spans;
+      spans-most = subst (λ n. spansOf b (s .count) + 3 ≤ n) records (spans-below b (spansOf b (s .count)) spans);
+      records = records;
+      records-most = records-most;
+    }
+
+pub sound-facts : (s : Shape) (p : Plan) → judgeShape s ≡ Sound p → Good s p
+sound-facts s p e = subst (λ q. Good s q) (sym (sound-plan s p e)) (good-plan s (sound-none s p e))
+
+-- every span of a sound shape has its four records
+pub good-records : (s : Shape) (p : Plan) → Good s p → (t : ℕ) → t < p .spans → firstRecord (p .basis) t + 3 < s .count
+good-records s p g t h = subst (λ n. firstRecord (p .basis) t + 3 < n) (g .records) (last-record (p .basis) (p .spans) t h)
+
+-- ---- rows 7, 8, 9
+
+bad-same : (q r : Refusal) → Bad q ≡ Bad r → q ≡ r
+bad-same q r e = cc
+
+bad-apart : (q : Refusal) → Bad q ≡ Fine → ⊥
+bad-apart q e = let z : _≡_ {A = ℕ} 0 1 = cc in omega arith
+
+module _ (n : ℕ) (controls : List ℤ) (points len : ℕ) where
+  pub bad-first : (r : Refusal) → judgeLists n controls points len ≡ Bad r → First (listRows n controls points len) r
+  unfolding judgeLists
+  bad-first r e = only-first (listRows n controls points len) Bad Fine bad-same bad-apart r e
+
+  pub first-bad : (r : Refusal) → First (listRows n controls points len) r → judgeLists n controls points len ≡ Bad r
+  unfolding judgeLists
+  first-bad r h = judge-first (listRows n controls points len) Bad Fine r h
+
+  pub fine-none : judgeLists n controls points len ≡ Fine → NoRow (listRows n controls points len)
+  unfolding judgeLists
+  fine-none e = only-none (listRows n controls points len) Bad Fine Fine bad-apart e
+
+  pub none-fine : NoRow (listRows n controls points len) → judgeLists n controls points len ≡ Fine
+  unfolding judgeLists
+  none-fine h = judge-none (listRows n controls points len) Bad Fine h
+
+  -- a call whose table goes on with these rows
+  pub bad {ℓ} : {A : Type ℓ} (r : Refusal) → judgeLists n controls points len ≡ Bad r → (rest : List Row) (f : Refusal → A) (a : A) → judge (listRows n controls points len ++ rest) f a ≡ f r
+  bad r e rest f a = judge-append (listRows n controls points len) rest f a ∙ judge-first (listRows n controls points len) f (judge rest f a) r (bad-first r e)
+
+  pub fine {ℓ} : {A : Type ℓ} → judgeLists n controls points len ≡ Fine → (rest : List Row) (f : Refusal → A) (a : A) → judge (listRows n controls points len ++ rest) f a ≡ judge rest f a
+  fine e rest f a = judge-append (listRows n controls points len) rest f a ∙ judge-none (listRows n controls points len) f (judge rest f a) (fine-none e)
+
+  pub fine-facts : judgeLists n controls points len ≡ Fine → Lent n controls points len
+  unfolding outside
+  fine-facts e =
+      let h = fine-none e in
+      let all : n ≤ firstOutside controls n = ltb-false (firstOutside controls n) n (h .1 .0) in
+      let both : (r : ℕ) → r < n → (beyond (coordinate controls 0 r) ≡ false) × (beyond (coordinate controls 1 r) ≡ false) =
+      λ r l. or-false (beyond (coordinate controls 0 r)) (beyond (coordinate controls 1 r)) (seek-fails (outside controls) 0 n r (omega arith) (le-trans l all)) in
+      record {
+        room = ltb-false (length controls) (2 * n) (h .0);
+        x = λ r l. ltb-false limit (natAbs (coordinate controls 0 r)) (both r l .0);
+        y = λ r l. ltb-false limit (natAbs (coordinate controls 1 r)) (both r l .1);
+        points-room = ltb-false len (2 * points) (h .1 .1 .0);
+      }
+
+-- the four records from a record on are inside the limits, on either axis
+pub lent-inside : (n : ℕ) (controls : List ℤ) (points len : ℕ) → Lent n controls points len → (axis r : ℕ) → axis < 2 → r + 3 < n → Inside limit (recordsFrom r (coordinate controls axis))
+unfolding recordsFrom
+lent-inside n controls points len h zero r a l =
+    record { a = h .x r (omega arith); b = h .x (r + 1) (omega arith); c = h .x (r + 2) (omega arith); d = h .x (r + 3) (omega arith) }
+lent-inside n controls points len h (suc zero) r a l =
+    record { a = h .y r (omega arith); b = h .y (r + 1) (omega arith); c = h .y (r + 2) (omega arith); d = h .y (r + 3) (omega arith) }
+lent-inside n controls points len h (suc (suc axis)) r a l = absurd (omega arith)

@@ -1,0 +1,21 @@
+-- Tests as the rows make them: each passes or fails, and not both.
+use mathlib.Core.Path.{_≡_, refl}
+use mathlib.Core.Bool.{Bool, true, false, _&&_, _||_}
+use mathlib.Core.Logic.{_⊎_, inl, inr}
+use Prim.Native.Nat.{ℕ}
+use native.Mathlib.Omega.{arith}
+
+pub passes : (b : Bool) → (b ≡ true) ⊎ (b ≡ false)
+passes true = inl refl
+passes false = inr refl
+
+pub true-is-not-false : {b : Bool} → b ≡ true → b ≡ false → ⊥
+true-is-not-false e f = let z : _≡_ {A = ℕ} 0 1 = cc in omega arith
+
+pub and-true : (a b : Bool) → (a && b) ≡ true → (a ≡ true) × (b ≡ true)
+and-true true b e = (refl, e)
+and-true false b e = absurd (true-is-not-false e refl)
+
+pub or-false : (a b : Bool) → (a || b) ≡ false → (a ≡ false) × (b ≡ false)
+or-false true b e = absurd (true-is-not-false refl e)
+or-false false b e = (refl, e)

@@ -1,0 +1,31 @@
+-- What a caller knows once the shared checks have passed.
+use mathlib.Core.List.{List}
+use mathlib.Core.Path.{_≡_}
+use Prim.Native.Nat.{ℕ, _+_, _*_, _≤_, _<_}
+use lib.IntN.{ℤ, natAbs}
+use lib.ListN.{length}
+use Rattle.curve.specs.Limits.{limit}
+use Rattle.curve.specs.Span.{coordinate}
+use Rattle.curve.specs.Ways.{deepest}
+use Rattle.shape.specs.declared.Shape.{Shape}
+use Rattle.shape.specs.declared.Plan.{Plan}
+use Rattle.shape.specs.Shape.{basisOf, recordsOf, mostRecords}
+
+-- A sound shape and its plan.
+pub record Good (s : Shape) (p : Plan) : Type 0 where
+  pub basis : p .basis ≡ basisOf (s .basis)
+  pub basis-least : 1 ≤ s .basis
+  pub basis-most : s .basis ≤ 4
+  pub depth : p .depth ≡ s .depth
+  pub depth-most : p .depth ≤ deepest
+  pub spans-least : 1 ≤ p .spans
+  pub spans-most : p .spans + 3 ≤ s .count
+  pub records : recordsOf (p .basis) (p .spans) ≡ s .count
+  pub records-most : s .count ≤ mostRecords
+
+-- Lent lists that hold what is needed: n records inside the limits, and room for the points.
+pub record Lent (n : ℕ) (controls : List ℤ) (points len : ℕ) : Type 0 where
+  pub room : 2 * n ≤ length controls
+  pub x : (r : ℕ) → r < n → natAbs (coordinate controls 0 r) ≤ limit
+  pub y : (r : ℕ) → r < n → natAbs (coordinate controls 1 r) ≤ limit
+  pub points-room : 2 * points ≤ len

@@ -1,0 +1,3 @@
+pub mod Shape
+pub mod Refusals
+pub mod Good

@@ -1,0 +1,222 @@
+// Shapes, refusals, and the checks that calls share. No call here has a `requires`, but those that say so: they are for crates of this project that have checked it.
+ghost use mathlib.Core.Bool.{cond};
+ghost use mathlib.Core.Path.{_≡_};
+ghost use Prim.Native.Nat.{_*_, _^_, _≤_};
+ghost use lib.ListN.{length};
+ghost use Rattle.curve.specs.Ways.{deepest};
+ghost use Rattle.shape.specs.Shape.{basisOf, spansOf, recordsOf, allowed, pointsOf, mostRecords, mostPoints};
+ghost use Rattle.shape.specs.Refusals.{judgeShape, judgeLists, firstOutside, beyond};
+use curve::Basis;
+use curve::DEEPEST;
+use curve::LIMIT;
+
+// A shape as a caller passes it: basis, depth and control count, right or wrong.
+pub struct Shape {
+    pub basis: usize,
+    pub depth: usize,
+    pub count: usize,
+}
+
+// A shape that was found sound: its basis, its depth and its spans.
+pub struct Plan {
+    pub basis: Basis,
+    pub depth: usize,
+    pub spans: usize,
+}
+
+// A refusal of document 01: its number, and the place.
+pub struct Refusal {
+    pub number: usize,
+    pub place: usize,
+}
+
+// What the checks of a shape find (rows 1, 2, 3).
+pub enum Judged {
+    Sound(Plan),
+    Unsound(Refusal),
+}
+
+// What the checks of the lent lists find (rows 7, 8, 9).
+pub enum Listed {
+    Fine,
+    Bad(Refusal),
+}
+
+impl Plan {
+    // The steps of a span: 2^k.
+    pub fn steps(self) -> usize
+        requires { ⌜ self .depth ≤ deepest ⌝ }
+        ensures { λ r. ⌜ r ≡ 2 ^ self .depth ⌝ }
+    {
+        1 << self.depth
+    }
+
+    // The points of the outline: m·2^k + 1.
+    pub fn points(self) -> usize
+        requires { ⌜ (self .depth ≤ deepest) × (self .spans ≤ mostRecords) ⌝ }
+        ensures { λ r. ⌜ r ≡ pointsOf (self .depth) (self .spans) ⌝ }
+    {
+        self.spans * self.steps() + 1
+    }
+}
+
+// The bases of document 01 are numbered from 1 to 4.
+const FIRST_BASIS: usize = 1;
+
+const LAST_BASIS: usize = 4;
+
+// One span takes four records, whatever the basis; n is at most 64.
+const FEWEST_RECORDS: usize = 4;
+
+const MOST_RECORDS: usize = 64;
+
+// The basis of a number from 1 to 4.
+fn basis_of(number: usize) -> Basis
+    ensures { λ r. ⌜ r ≡ basisOf number ⌝ }
+{
+    match number {
+        1 => Basis::Bezier,
+        2 => Basis::BSpline,
+        3 => Basis::Cardinal,
+        _ => Basis::Hermite,
+    }
+}
+
+// The spans of a number of records.
+fn spans_of(basis: Basis, count: usize) -> usize
+    requires { ⌜ 4 ≤ count ⌝ }
+    ensures { λ r. ⌜ r ≡ spansOf basis count ⌝ }
+{
+    match basis {
+        Basis::Bezier => (count - 1) / 3,
+        Basis::BSpline => count - 3,
+        Basis::Cardinal => count - 3,
+        Basis::Hermite => (count - 2) / 2,
+    }
+}
+
+// The records of a number of spans.
+fn records_of(basis: Basis, spans: usize) -> usize
+    requires { ⌜ spans ≤ mostRecords ⌝ }
+    ensures { λ r. ⌜ r ≡ recordsOf basis spans ⌝ }
+{
+    match basis {
+        Basis::Bezier => 3 * spans + 1,
+        Basis::BSpline => spans + 3,
+        Basis::Cardinal => spans + 3,
+        Basis::Hermite => 2 * spans + 2,
+    }
+}
+
+// The spans of a number of records that is allowed for the basis, or 0.
+fn allowed_spans(basis: Basis, count: usize) -> usize
+    ensures { λ r. ⌜ r ≡ cond (allowed basis count) (spansOf basis count) 0 ⌝ }
+{
+    if count < FEWEST_RECORDS {
+        return 0;
+    }
+    if MOST_RECORDS < count {
+        return 0;
+    }
+    let spans = spans_of(basis, count);
+    if records_of(basis, spans) != count {
+        return 0;
+    }
+    spans
+}
+
+// The checks of a shape in the paper's order, 1, 2, 3: whatever numbers it holds, a refusal or the plan.
+pub fn check_shape(shape: Shape) -> Judged
+    ensures { λ r. ⌜ r ≡ judgeShape shape ⌝ }
+{
+    let number = shape.basis;
+    let depth = shape.depth;
+    let count = shape.count;
+    if number < FIRST_BASIS {
+        return Judged::Unsound(Refusal {
+            number: 1,
+            place: 0,
+        });
+    }
+    if LAST_BASIS < number {
+        return Judged::Unsound(Refusal {
+            number: 1,
+            place: 0,
+        });
+    }
+    if DEEPEST < depth {
+        return Judged::Unsound(Refusal {
+            number: 2,
+            place: 0,
+        });
+    }
+    let basis = basis_of(number);
+    let spans = allowed_spans(basis, count);
+    if spans == 0 {
+        return Judged::Unsound(Refusal {
+            number: 3,
+            place: 0,
+        });
+    }
+    Judged::Sound(Plan {
+        basis,
+        depth,
+        spans,
+    })
+}
+
+// A coordinate outside the limits.
+fn is_beyond(z: i32) -> bool
+    ensures { λ r. ⌜ r ≡ beyond z ⌝ }
+{
+    if LIMIT < z {
+        return true;
+    }
+    z < -LIMIT
+}
+
+// The first of `count` records with a coordinate outside the limits, or `count` where all are inside.
+pub fn first_outside(controls: &[i32], count: usize) -> usize
+    requires { ⌜ 2 * count ≤ length (now controls) ⌝ }
+    ensures { λ r. ⌜ r ≡ firstOutside (now (controls .entry)) count ⌝ }
+{
+    let mut i = 0;
+    while i < count {
+        if is_beyond(controls[2 * i]) {
+            return i;
+        }
+        if is_beyond(controls[2 * i + 1]) {
+            return i;
+        }
+        i += 1;
+    }
+    count
+}
+
+// The checks of the lent lists in the paper's order, 7, 8, 9: `count` records in `controls`, inside the limits, and room for `points` points in a list of `len` numbers.
+// For crates that have checked the shape.
+pub fn check_lists(count: usize, controls: &[i32], points: usize, len: usize) -> Listed
+    requires { ⌜ (count ≤ mostRecords) × (points ≤ mostPoints) ⌝ }
+    ensures { λ r. ⌜ r ≡ judgeLists count (now (controls .entry)) points len ⌝ }
+{
+    if controls.len() < 2 * count {
+        return Listed::Bad(Refusal {
+            number: 7,
+            place: 0,
+        });
+    }
+    let at = first_outside(controls, count);
+    if at < count {
+        return Listed::Bad(Refusal {
+            number: 8,
+            place: at,
+        });
+    }
+    if len < 2 * points {
+        return Listed::Bad(Refusal {
+            number: 9,
+            place: 0,
+        });
+    }
+    Listed::Fine
+}
