@@ -1,10 +1,6 @@
 -- No second outcome meets a public call's contract: the contract equates the answer and the text that is left with one reading, so two outcomes that meet it are equal.
-use Prim.Native.Nat.{ℕ}
-use mathlib.Core.List.{List}
 use mathlib.Core.Path.{_≡_, sym, ap, _∙_}
-use borrow.Fn.Kinds.{PK, RK, Out, Dens, resT, endedOf}
-use contract.Lifetimes.{Lfts}
-use denote.Triple.Clauses.{Lasts, atExit}
+use Rattle.whole.proofs.Unique.{Unique}
 use Rattle.listing.specs.Written.{Outcome, outcome}
 use Rattle.listing.proofs.number.put_decimal.Kinds as put-decimal
 use Rattle.listing.proofs.number.put_decimal.Reads as put-decimal-reads
@@ -16,14 +12,6 @@ use Rattle.listing.proofs.refusal.list_refusal.Kinds as list-refusal
 use Rattle.listing.proofs.refusal.list_refusal.Reads as list-refusal-reads
 use Rattle.listing.proofs.word.put_word.Kinds as put-word
 use Rattle.listing.proofs.word.put_word.Reads as put-word-reads
-
--- two answers, each with what the lent lists hold at the end, that both meet a contract are the same
-abbrev pub Unique : (n : ℕ) (ps : List (PK n)) (r : RK n) → Out n ps r → Type 0
-Unique n ps r post =
-    (κs : Lfts n) (a : Dens κs ps) (x y : resT r κs .Denot) (v w : Lasts (endedOf n ps r) κs a)
-    → post κs a x (atExit (endedOf n ps r) κs a v)
-    → post κs a y (atExit (endedOf n ps r) κs a w)
-    → (x ≡ y) × (v ≡ w)
 
 pub put-word-unique : Unique 2 put-word.ps put-word.r put-word-reads.Post
 put-word-unique κs a x y v w p q =

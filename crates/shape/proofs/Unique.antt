@@ -1,11 +1,7 @@
 -- No second outcome: over the contract of each public call as it is generated from the source, two results and two sets of last values of what was lent that both
 -- meet it at the same arguments are the same. Each contract says what the result equals, and what is lent is only read.
 use mathlib.Core.Path.{_≡_, refl, sym, _∙_}
-use mathlib.Core.List.{List}
-use Prim.Native.Nat.{ℕ}
-use borrow.Fn.Kinds.{PK, RK, Out, Dens, resT, endedOf}
-use contract.Lifetimes.{Lfts}
-use denote.Triple.Clauses.{Lasts, atExit}
+use Rattle.whole.proofs.Unique.{Unique}
 use Rattle.shape.proofs.Plan.steps.Kinds as steps-kinds
 use Rattle.shape.proofs.Plan.steps.Reads as steps-reads
 use Rattle.shape.proofs.Plan.points.Kinds as points-kinds
@@ -16,14 +12,6 @@ use Rattle.shape.proofs.first_outside.Kinds as first-outside-kinds
 use Rattle.shape.proofs.first_outside.Reads as first-outside-reads
 use Rattle.shape.proofs.check_lists.Kinds as check-lists-kinds
 use Rattle.shape.proofs.check_lists.Reads as check-lists-reads
-
--- one outcome at most: of a signature's lifetimes, parameters and result, and of what the contract ensures
-abbrev pub Unique : (n : ℕ) (ps : List (PK n)) (r : RK n) → Out n ps r → Type 0
-Unique n ps r Post =
-    (κs : Lfts n) (a : Dens κs ps) (x y : resT r κs .Denot) (u v : Lasts (endedOf n ps r) κs a)
-    → Post κs a x (atExit (endedOf n ps r) κs a u)
-    → Post κs a y (atExit (endedOf n ps r) κs a v)
-    → (x ≡ y) × (u ≡ v)
 
 pub steps-unique : Unique 0 steps-kinds.ps steps-kinds.r steps-reads.Post
 steps-unique κs a x y u v p q = (p ∙ sym q, refl)
