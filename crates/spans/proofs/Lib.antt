@@ -2,3 +2,4 @@ pub mod Pairs
 pub mod Halves
 pub mod Steps
 pub mod Numbers
+pub mod Drawables

@@ -3,7 +3,8 @@ use mathlib.Core.Path.{_≡_, refl, sym, ap, _∙_, subst}
 use mathlib.Core.Bool.{Bool, true, false, cond}
 use mathlib.Core.List.{List, [], _∷_, _++_}
 use Prim.Native.Nat.{ℕ, zero, suc, _+_, _*_, _-_, _/_, _%_, _^_, min, _≤_, _<_}
-use native.Mathlib.Nat.{mul-left-comm, mul-comm, mod-lt, min-eq-left, min-eq-right}
+use native.Mathlib.Nat.{mul-left-comm, mul-comm, suc-mul, zero-mul, sub-self, mod-lt, min-eq-left, min-eq-right}
+use native.Mathlib.Numerals.{add-one}
 use native.Mathlib.Omega.{arith}
 use borrow.Author.Tests.{eq-eqb}
 use lib.Arith.{digits-div}
@@ -88,7 +89,7 @@ end-number b k m controls r h below =
     ∙ ap (λ (a : ℕ). point b k (records b (m - 1) (coordinate controls a)) (2 ^ k)) same
   where
     last-span : m * 2 ^ k ≡ (m - 1) * 2 ^ k + 2 ^ k
-    last-span = let e : m ≡ suc (m - 1) = omega arith in ap (λ (n : ℕ). n * 2 ^ k) e ∙ native.Mathlib.Nat.suc-mul (m - 1) (2 ^ k)
+    last-span = let e : m ≡ suc (m - 1) = omega arith in ap (λ (n : ℕ). n * 2 ^ k) e ∙ suc-mul (m - 1) (2 ^ k)
 
 -- which is its last sixfold control over six
 pub end-point : (b : Basis) (k : ℕ) (p : Four) → point b k p (2 ^ k) ≡ nearest (sixfoldControls b p .d) (divisor 0)
@@ -99,3 +100,30 @@ end-point b k p =
     ap (λ z. nearest z (divisor k)) (weighted-end (sixfoldControls b p) (pos (2 ^ k)))
     ∙ ap (nearest (pos c *ℤ d)) (ap (λ (n : ℕ). sixfold * n) (thrice k) ∙ mul-comm sixfold c)
     ∙ nearest-scale c d sixfold (cube-pos (2 ^ k) (pow-pos k)) (lit< tt)
+
+-- ---- a run of spans, taken one span at a time
+
+-- the numbers from span s to the end of span m - 1 are span s's and those from span s + 1
+pub next-span : (f : ℕ → ℤ) (k m s : ℕ) → s < m
+    → tab f (s * perSpan k) ((m - s) * perSpan k + 2) ≡ tab f (s * perSpan k) (perSpan k) ++ tab f ((s + 1) * perSpan k) ((m - (s + 1)) * perSpan k + 2)
+next-span f k m s h =
+    let w = perSpan k in
+    let rest = (m - (s + 1)) * w in
+    let e : m - s ≡ suc (m - (s + 1)) = omega arith in
+    let count : (m - s) * w + 2 ≡ w + (rest + 2) = omega (arith, ap (λ (n : ℕ). n * w) e, suc-mul (m - (s + 1)) w) in
+    let on : s * w + w ≡ (s + 1) * w = omega (arith, ap (λ (n : ℕ). n * w) (add-one s), suc-mul s w) in
+    ap (tab f (s * w)) count ∙ tab-append f (s * w) w (rest + 2) ∙ ap (λ (n : ℕ). tab f (s * w) w ++ tab f n (rest + 2)) on
+
+-- after the last span two numbers are left: its end
+pub last-two : (b : Basis) (k m : ℕ) (controls : List ℤ) → 0 < m
+    → tab (number b k m controls) (m * perSpan k) ((m - m) * perSpan k + 2) ≡ nearest (spanControls b controls (m - 1) 0 .d) (divisor 0) ∷ nearest (spanControls b controls (m - 1) 1 .d) (divisor 0) ∷ []
+unfolding tab
+last-two b k m controls h =
+    let w = perSpan k in
+    let two : (m - m) * w + 2 ≡ 2 = ap (λ (n : ℕ). n * w + 2) (sub-self m) ∙ ap (λ (n : ℕ). n + 2) (zero-mul w) in
+    let f = number b k m controls in
+    let here : m * w ≡ m * w + 0 = omega arith in
+    let next : suc (m * w) ≡ m * w + 1 = omega arith in
+    ap (tab f (m * w)) two
+    ∙ ap (λ z. z ∷ f (suc (m * w)) ∷ []) (ap f here ∙ end-number b k m controls 0 h (lit< tt) ∙ end-point b k (records b (m - 1) (coordinate controls 0)))
+    ∙ ap (λ z. nearest (spanControls b controls (m - 1) 0 .d) (divisor 0) ∷ z ∷ []) (ap f next ∙ end-number b k m controls 1 h (lit< tt) ∙ end-point b k (records b (m - 1) (coordinate controls 1)))

@@ -15,6 +15,10 @@ pub record Ready (k : ℕ) (q : Four) : Type 0 where
   pub inside : Inside widest q
   pub near : (i : ℕ) → i ≤ 2 ^ k → natAbs (weighted q (pos i) (pos (2 ^ k))) ≤ divisor k * reach
 
+-- The last of them, which is six times the span's end.
+pub record Closable (q : Four) : Type 0 where
+  pub near : natAbs (q .d) ≤ divisor 0 * reach
+
 -- The same for halving, with `left` more cuts to make of depth k: eight times as large with each cut made.
 pub record Cuttable (left k : ℕ) (q : Four) : Type 0 where
   pub inside : Inside (widest * 8 ^ (deepest - left)) q

@@ -1,13 +1,14 @@
 // A run of spans: from the start of one to the end of another.
 ghost use mathlib.Core.Path.{_≡_};
 ghost use Prim.Native.Nat.{_+_, _*_, _-_, _≤_, _<_};
-ghost use lib.ListN.{length};
+ghost use lib.ListN.{length, set};
 ghost use lib.Seq.{sets};
 ghost use Rattle.curve.specs.Numbers.{tab};
-ghost use Rattle.curve.specs.Span.{coordinate, records, sixfoldControls};
+ghost use Rattle.whole.specs.Nearest.{nearest};
+ghost use Rattle.curve.specs.Span.{coordinate, divisor, records, sixfoldControls};
 ghost use Rattle.curve.specs.Ways.{deepest};
 ghost use Rattle.spans.specs.Numbers.{filled, number, paired, perSpan};
-ghost use Rattle.spans.specs.Ready.{Drawable, Ready};
+ghost use Rattle.spans.specs.Ready.{Closable, Drawable, Ready};
 use crate::halving;
 use crate::point::put_point;
 use crate::stepping;
@@ -47,4 +48,43 @@ fn fill_span(way: Way, points: &mut [i32], at: usize, depth: usize, x: Four, y: 
         Way::Halving => halving::fill_span(points, at, depth, x, y),
         Way::Differences => stepping::fill_span(points, at, depth, x, y),
     }
+}
+
+// The end of a span: at t = 1 the sum is its last control alone.
+fn put_end(points: &mut [i32], at: usize, x: Four, y: Four)
+    requires { ⌜ Closable x × Closable y ⌝ }
+    requires { ⌜ at + 2 ≤ length (now points) ⌝ }
+    ensures { λ _. ⌜ now (points .exit) ≡ set (set (now (points .entry)) at (nearest (x .d) (divisor 0))) (at + 1) (nearest (y .d) (divisor 0)) ⌝ }
+{
+    put_point(points, at, 0, x.d, y.d);
+}
+
+// The spans from `from` up to, and not with, `to`, and the end of the last of them.
+pub fn fill_spans(
+    way: Way,
+    points: &mut [i32],
+    controls: &[i32],
+    basis: Basis,
+    depth: usize,
+    from: usize,
+    to: usize,
+)
+    requires { ⌜ (depth ≤ deepest) × (from < to) ⌝ }
+    requires { ⌜ Drawable basis to (now controls) ⌝ }
+    requires { ⌜ to * perSpan depth + 2 ≤ length (now points) ⌝ }
+    ensures { λ _. ⌜ now (points .exit) ≡ filled (number basis depth to (now (controls .entry))) (from * perSpan depth) ((to - from) * perSpan depth + 2) (now (points .entry)) ⌝ }
+{
+    let stride: usize = 2 << depth;
+    let mut span = from;
+    let mut at = from * stride;
+    while span < to {
+        let x = span_controls(controls, basis, span, 0);
+        let y = span_controls(controls, basis, span, 1);
+        fill_span(way, points, at, depth, x, y);
+        span += 1;
+        at += stride;
+    }
+    let x = span_controls(controls, basis, to - 1, 0);
+    let y = span_controls(controls, basis, to - 1, 1);
+    put_end(points, at, x, y);
 }

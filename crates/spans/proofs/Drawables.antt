@@ -1,0 +1,74 @@
+-- What a list of controls that spans can be drawn from gives: each span's sixfold controls are ready on both axes, and its end is within the reach.
+use mathlib.Core.Path.{_≡_, sym, ap, _∙_, subst}
+use mathlib.Core.List.{List, [], _∷_}
+use Prim.Native.Nat.{ℕ, _+_, _*_, _^_, _≤_, _<_}
+use native.Mathlib.Nat.{le-trans, le-refl}
+use native.Mathlib.Omega.{arith}
+use lib.Dec.{T, leb, lit≤}
+use lib.IntN.{ℤ, pos, natAbs}
+use Rattle.whole.proofs.Ring.{Ex, var, lit, _⊗_, ev, solve}
+use Rattle.whole.proofs.Fit.{Bounded, size, ev-size}
+use Rattle.curve.specs.declared.Four.{Four}
+use Rattle.curve.specs.declared.Basis.{Basis}
+use Rattle.curve.specs.declared.Basis.the-variants.{Bezier, BSpline, Cardinal, Hermite}
+use Rattle.curve.specs.Numbers.{four}
+use Rattle.curve.specs.Limits.{Inside, limit, widest, reach}
+use Rattle.curve.specs.Span.{coordinate, records, sixfoldControls, weighted, divisor}
+use Rattle.curve.proofs.Limits.{sum-size}
+use Rattle.curve.proofs.Reflect.{Fourᵉ, p, sixfoldᵉ}
+use Rattle.curve.proofs.Span.{weighted-end}
+use Rattle.spans.specs.Ready.{Ready, Closable, Drawable}
+use Rattle.spans.proofs.Numbers.{spanControls}
+
+-- fewer spans
+pub fewer : (b : Basis) (m n : ℕ) (controls : List ℤ) → n ≤ m → Drawable b m controls → Drawable b n controls
+fewer b m n controls h d =
+    record {
+      few = le-trans h (d .few);
+      held = λ s k. d .held s (omega arith);
+      inside = λ s axis k a. d .inside s axis (omega arith) a;
+    }
+
+-- four expressions in records inside the limit, whose sizes compute to at most eight times the limit
+abbrev bounds : List ℕ
+bounds = limit ∷ limit ∷ limit ∷ limit ∷ []
+
+abbrev small : Ex → Type 0
+small e = T (leb (size bounds e) widest)
+
+abbrev worth : Four → Fourᵉ → Four
+worth q e = let r = q .a ∷ q .b ∷ q .c ∷ q .d ∷ [] in four (ev r (e .a)) (ev r (e .b)) (ev r (e .c)) (ev r (e .d))
+
+sized : (q : Four) → Inside limit q → (e : Fourᵉ) → small (e .a) → small (e .b) → small (e .c) → small (e .d) → Inside widest (worth q e)
+sized q inside e t u v w =
+    let r = q .a ∷ q .b ∷ q .c ∷ q .d ∷ [] in
+    let ok : Bounded r bounds = (inside .a, (inside .b, (inside .c, (inside .d, tt)))) in
+    record {
+      a = le-trans (ev-size r bounds ok (e .a)) (lit≤ t);
+      b = le-trans (ev-size r bounds ok (e .b)) (lit≤ u);
+      c = le-trans (ev-size r bounds ok (e .c)) (lit≤ v);
+      d = le-trans (ev-size r bounds ok (e .d)) (lit≤ w);
+    }
+
+-- so the sixfold controls of each basis are
+sixfold-inside : (b : Basis) (q : Four) → Inside limit q → Inside widest (sixfoldControls b q)
+unfolding sixfoldControls
+sixfold-inside Bezier q inside = sized q inside (sixfoldᵉ Bezier p) tt tt tt tt
+sixfold-inside BSpline q inside = sized q inside (sixfoldᵉ BSpline p) tt tt tt tt
+sixfold-inside Cardinal q inside = sized q inside (sixfoldᵉ Cardinal p) tt tt tt tt
+sixfold-inside Hermite q inside = sized q inside (sixfoldᵉ Hermite p) tt tt tt tt
+
+module _ (b : Basis) (m : ℕ) (controls : List ℤ) (d : Drawable b m controls) (s axis : ℕ) (h : s < m) (a : axis < 2) where
+  pub span-ready : (k : ℕ) → Ready k (spanControls b controls s axis)
+  span-ready k =
+      let inside = d .inside s axis h a in
+      record { inside = sixfold-inside b (records b s (coordinate controls axis)) inside; near = λ i n. sum-size b k i (records b s (coordinate controls axis)) n inside }
+
+  pub span-closable : Closable (spanControls b controls s axis)
+  span-closable =
+      let q = spanControls b controls s axis in
+      record {
+        near =
+            subst (λ z. natAbs z ≤ divisor 0 * reach) (weighted-end q (pos 1) ∙ solve (q .d ∷ []) (lit (pos 1) ⊗ lit (pos 1) ⊗ lit (pos 1) ⊗ var 0) (var 0) tt)
+            (span-ready 0 .near 1 (le-refl 1));
+      }

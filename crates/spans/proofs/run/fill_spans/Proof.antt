@@ -1,0 +1,209 @@
+-- At each turn the numbers of the spans still to be drawn, written to the present list, make the whole; a turn takes the next span's off, and the end is left.
+use mathlib.Core.Path.{_≡_, refl, sym, ap, _∙_, subst}
+use mathlib.Core.List.{List, [], _∷_}
+use Prim.Native.Nat.{ℕ, suc, _+_, _*_, _-_, _%_, _^_, _≤_, _<_}
+use native.Mathlib.Nat.{mul-le-mul, mul-le-mul-right, le-trans, le-refl, mod-eq-of-lt, lt-of-le-of-lt, suc-mul}
+use native.Mathlib.Numerals.{add-one}
+use native.Mathlib.Omega.{arith}
+use lib.Dec.{lit<, lit≤}
+use lib.IntN.{ℤ}
+use lib.ListN.{length, set}
+use lib.Pow.{pow-mono}
+use lib.Seq.{sets}
+use Rattle.whole.specs.Nearest.{nearest}
+use Rattle.curve.specs.declared.Four.{Four}
+use Rattle.curve.specs.Numbers.{tab}
+use Rattle.curve.specs.Span.{divisor}
+use Rattle.curve.specs.Ways.{deepest}
+use Rattle.curve.proofs.Tab.{length-tab}
+use Rattle.spans.specs.Numbers.{number, paired, perSpan, filled}
+use Rattle.spans.specs.Ready.{Ready, Closable, Drawable}
+use Rattle.spans.proofs.Pairs.{sets-append}
+use Rattle.spans.proofs.Numbers.{spanControls, span-numbers, next-span, last-two}
+use Rattle.spans.proofs.Drawables.{fewer, span-ready, span-closable}
+use Rattle.spans.proofs.run.fill_spans.Statement.{statement}
+use Rattle.spans.proofs.run.fill_spans.Tie as tie
+
+abbrev Inv-loop : tie.InvT-loop
+Inv-loop way points₀ controls basis depth from to stride span₀ at₀ points span at =
+    (stride ≡ perSpan depth)
+    × (span ≤ to)
+    × (at ≡ span * perSpan depth)
+    × (length points ≡ length points₀)
+    × (sets points at (tab (number basis depth to controls) (span * perSpan depth) ((to - span) * perSpan depth + 2))
+    ≡ filled (number basis depth to controls) (from * perSpan depth) ((to - from) * perSpan depth + 2) points₀)
+
+abbrev μ-loop : tie.MeasureT-loop
+μ-loop way points₀ controls basis depth from to stride span₀ at₀ points span at = to - span
+
+-- 2 shifted left by the depth is a span's numbers
+stride-is : (k : ℕ) → k ≤ deepest → 2 * 2 ^ k % 2 ^ 64 ≡ perSpan k
+stride-is k h = mod-eq-of-lt (lt-of-le-of-lt (mul-le-mul (le-refl 2) (pow-mono {i = k} {j = deepest} h)) (lit< tt))
+
+-- a place in a run of at most 64 spans
+place-small : (k s : ℕ) → k ≤ deepest → s ≤ 64 → s * perSpan k ≤ 64 * 128
+place-small k s h b = mul-le-mul b (mul-le-mul (le-refl 2) (pow-mono {i = k} {j = deepest} h))
+
+shl-stride : tie.Need-shl-stride Inv-loop μ-loop
+shl-stride c = omega arith
+
+mul-at : tie.Need-mul-at Inv-loop μ-loop
+mul-at c =
+    let a = c .args in
+    let k = a .depth in
+    omega (arith, ap (λ (n : ℕ). a .from * n) (stride-is k (c .pre .0 .0)), place-small k (a .from) (c .pre .0 .0) (omega arith))
+
+loop-holds : tie.Need-loop-holds Inv-loop μ-loop
+loop-holds c =
+    let a = c .args in
+    let e = stride-is (a .depth) (c .pre .0 .0) in
+    let at = ap (λ (n : ℕ). a .from * n) e in (
+      e,
+      omega arith,
+      at,
+      refl,
+      ap (λ (n : ℕ). sets (a .points .now) n (tab (number (a .basis) (a .depth) (a .to) (a .controls .now)) (a .from * perSpan (a .depth)) ((a .to - a .from) * perSpan (a .depth) + 2))) at,
+    )
+
+span-controls-requires : tie.Need-span-controls-requires Inv-loop μ-loop
+span-controls-requires c κs =
+    let s = c .before .before in
+    let a = s .args in
+    (lit< tt, fewer (a .basis) (a .to) (c .before .loop .span + 1) (a .controls .now) (omega arith) (s .pre .1 .0))
+
+span-controls-requires-2 : tie.Need-span-controls-requires-2 Inv-loop μ-loop
+span-controls-requires-2 c κs = (lit< tt, span-controls-requires (c .before) κs .1)
+
+-- a span of the run ends in it, and the run in the list
+room : (k s m n : ℕ) → s < m → m * perSpan k + 2 ≤ n → s * perSpan k + perSpan k ≤ n
+room k s m n h b = omega (arith, suc-mul s (perSpan k), mul-le-mul-right {m = suc s} {n = m} (perSpan k) h)
+
+fill-span-requires : tie.Need-fill-span-requires Inv-loop μ-loop
+fill-span-requires c κs =
+    let t = c .before .before .before in
+    let s = t .before .before in
+    let a = s .args in
+    let l = t .before .loop in
+    let here : l .span < a .to = omega arith in
+    let d = s .pre .1 .0 in (
+      s .pre .0 .0,
+      (
+        (
+          subst (Ready (a .depth)) (sym (c .before .before .span-controls .ensures)) (span-ready (a .basis) (a .to) (a .controls .now) d (l .span) 0 here (lit< tt) (a .depth)),
+          subst (Ready (a .depth)) (sym (c .before .span-controls2 .ensures)) (span-ready (a .basis) (a .to) (a .controls .now) d (l .span) 1 here (lit< tt) (a .depth)),
+        ),
+        omega (arith, room (a .depth) (l .span) (a .to) (length (a .points .now)) here (s .pre .1 .1)),
+      ),
+    )
+
+add-span : tie.Need-add-span Inv-loop μ-loop
+add-span c = let t = c .before .before .before .before .before in omega (arith, t, t .before .before .pre .1 .0 .few)
+
+add-at : tie.Need-add-at Inv-loop μ-loop
+add-at c =
+    let t = c .before .before .before .before .before in
+    let s = t .before .before in
+    let l = t .before .loop in
+    let k = s .args .depth in
+    omega (arith, t, l .inv .2, stride-is k (s .pre .0 .0), place-small k (l .span) (s .pre .0 .0) (omega (arith, l .inv .1, s .pre .1 .0 .few)), pow-mono {i = k} {j = deepest} (s .pre .0 .0))
+
+loop-less : tie.Need-loop-less Inv-loop μ-loop
+loop-less c = let t = c .before .before .before .before .before in omega (arith, t)
+
+-- a turn writes the next span's numbers
+wrote : (c : tie.After-fill-span Inv-loop μ-loop) → c .fill-span .last .1 .0
+    ≡ sets (c .before .before .before .before .before .loop .points) (c .before .before .before .before .before .loop .at)
+    (tab (number (c .before .before .before .before .before .before .args .basis) (c .before .before .before .before .before .before .args .depth) (c .before .before .before .before .before .before .args .to) (c .before .before .before .before .before .before .args .controls .now)) (c .before .before .before .before .before .loop .span * perSpan (c .before .before .before .before .before .before .args .depth)) (perSpan (c .before .before .before .before .before .before .args .depth)))
+wrote c =
+    let t = c .before .before .before .before in
+    let a = t .before .before .args in
+    let l = t .before .loop in
+    let k = a .depth in
+    let here : l .span < a .to = omega (arith, t) in
+    let write : Four → Four → List ℤ = λ x y. sets (l .points) (l .at) (tab (paired k k x y) 0 (perSpan k)) in
+    c .fill-span .ensures
+    ∙ ap (λ x. write x (c .before .before .span-controls2 .result)) (c .before .before .before .span-controls .ensures)
+    ∙ ap (write (spanControls (a .basis) (a .controls .now) (l .span) 0)) (c .before .before .span-controls2 .ensures)
+    ∙ ap (sets (l .points) (l .at)) (sym (span-numbers (a .basis) k (a .to) (a .controls .now) (l .span) here))
+
+loop-again : tie.Need-loop-again Inv-loop μ-loop
+loop-again c =
+    let t = c .before .before .before .before .before in
+    let a = t .before .before .args in
+    let l = t .before .loop in
+    let k = a .depth in
+    let w = perSpan k in
+    let f = number (a .basis) k (a .to) (a .controls .now) in
+    let here : l .span < a .to = omega (arith, t) in
+    let left = (a .to - (l .span + 1)) * w + 2 in
+    let numbers = tab f (l .span * w) w in
+    let on : l .at + (2 * 2 ^ k) % 2 ^ 64 ≡ (l .span + 1) * w = omega (arith, l .inv .2, stride-is k (t .before .before .pre .0 .0), ap (λ (n : ℕ). n * w) (add-one (l .span)), suc-mul (l .span) w) in (
+      l .inv .0,
+      omega (arith, t),
+      on,
+      c .before .fill-span .kept .1 .0 ∙ l .inv .3,
+      ap (λ v. sets v (l .at + (2 * 2 ^ k) % 2 ^ 64) (tab f ((l .span + 1) * w) left)) (wrote (c .before))
+          ∙ ap (λ (n : ℕ). sets (sets (l .points) (l .at) numbers) (l .at + n) (tab f ((l .span + 1) * w) left)) (stride-is k (t .before .before .pre .0 .0) ∙ sym (length-tab f (l .span * w) w))
+          ∙ sym (sets-append (l .points) (l .at) numbers (tab f ((l .span + 1) * w) left))
+          ∙ ap (sets (l .points) (l .at)) (sym (next-span f k (a .to) (l .span) here))
+          ∙ l .inv .4,
+    )
+
+sub-span-controls : tie.Need-sub-span-controls Inv-loop μ-loop
+sub-span-controls c = omega arith
+
+span-controls-requires-3 : tie.Need-span-controls-requires-3 Inv-loop μ-loop
+span-controls-requires-3 c κs =
+    let s = c .before .before in
+    let a = s .args in
+    (lit< tt, fewer (a .basis) (a .to) (a .to - 1 + 1) (a .controls .now) (omega arith) (s .pre .1 .0))
+
+sub-span-controls-2 : tie.Need-sub-span-controls-2 Inv-loop μ-loop
+sub-span-controls-2 c = omega arith
+
+span-controls-requires-4 : tie.Need-span-controls-requires-4 Inv-loop μ-loop
+span-controls-requires-4 c κs = (lit< tt, span-controls-requires-3 (c .before) κs .1)
+
+put-end-requires : tie.Need-put-end-requires Inv-loop μ-loop
+put-end-requires c κs =
+    let t = c .before .before .before in
+    let s = t .before .before in
+    let a = s .args in
+    let l = t .before .loop in
+    let last : a .to - 1 < a .to = omega arith in
+    let d = s .pre .1 .0 in
+    let done : l .span ≡ a .to = omega arith in (
+      (
+        subst Closable (sym (c .before .before .span-controls3 .ensures)) (span-closable (a .basis) (a .to) (a .controls .now) d (a .to - 1) 0 last (lit< tt)),
+        subst Closable (sym (c .before .span-controls4 .ensures)) (span-closable (a .basis) (a .to) (a .controls .now) d (a .to - 1) 1 last (lit< tt)),
+      ),
+      omega (arith, ap (λ (n : ℕ). n * perSpan (a .depth)) done),
+    )
+
+same-length : tie.Need-same-length Inv-loop μ-loop
+same-length c = c .before .put-end .kept .0 ∙ c .before .before .before .before .before .before .loop .inv .3
+
+returns : tie.Need-returns Inv-loop μ-loop
+returns c =
+    let t = c .before .before .before .before .before in
+    let s = t .before .before in
+    let a = s .args in
+    let l = t .before .loop in
+    let k = a .depth in
+    let w = perSpan k in
+    let f = number (a .basis) k (a .to) (a .controls .now) in
+    let done : l .span ≡ a .to = omega (arith, t, l .inv .1) in
+    let some : 0 < a .to = omega (arith, s .pre .0) in
+    let close : Four → Four → List ℤ = λ x y. set (set (l .points) (l .at) (nearest (x .d) (divisor 0))) (l .at + 1) (nearest (y .d) (divisor 0)) in
+    let x = spanControls (a .basis) (a .controls .now) (a .to - 1) 0 in
+    let y = spanControls (a .basis) (a .controls .now) (a .to - 1) 1 in
+    c .before .put-end .ensures
+    ∙ ap (λ q. close q (c .before .before .before .span-controls4 .result)) (c .before .before .before .before .span-controls3 .ensures)
+    ∙ ap (close x) (c .before .before .before .span-controls4 .ensures)
+    ∙ ap (λ (n : ℕ). set (set (l .points) (l .at) (nearest (x .d) (divisor 0))) n (nearest (y .d) (divisor 0))) (add-one (l .at))
+    ∙ ap (sets (l .points) (l .at)) (sym (last-two (a .basis) k (a .to) (a .controls .now) some))
+    ∙ ap (λ (n : ℕ). sets (l .points) (l .at) (tab f (n * w) ((a .to - n) * w + 2))) (sym done)
+    ∙ l .inv .4
+
+pub fill-spans-spec : {M : Type 1} → statement M
+fill-spans-spec = tie.close (tie.spec Inv-loop μ-loop shl-stride mul-at loop-holds span-controls-requires span-controls-requires-2 fill-span-requires add-span add-at loop-less loop-again sub-span-controls span-controls-requires-3 sub-span-controls-2 span-controls-requires-4 put-end-requires same-length returns)
