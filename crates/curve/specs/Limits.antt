@@ -1,5 +1,7 @@
 -- How far controls and points may lie from zero, in micrometres (document 01).
+use mathlib.Core.Bool.{Bool}
 use Prim.Native.Nat.{ℕ, _*_, _^_, _≤_}
+use lib.Dec.{ltb}
 use lib.IntN.{ℤ, natAbs}
 use lib.Signed.{_≤ℤ_}
 use Rattle.curve.specs.declared.Four.{Four}
@@ -13,6 +15,10 @@ limit = 4000000
 -- No point of an outline is beyond 5,000,000 either way.
 abbrev pub reach : ℕ
 reach = 5000000
+
+-- Further from zero than n, either way.
+abbrev pub beyond : ℕ → ℤ → Bool
+beyond n z = ltb n (natAbs z)
 
 -- Four records inside a bound.
 pub record Inside (n : ℕ) (p : Four) : Type 0 where

@@ -1,5 +1,6 @@
 // The curve, exactly, on one axis: what a span's records mean and the three ways to its sums. No call here refuses anything: each says what it requires, and the
 // crates above it check that before they call.
+pub mod bounds;
 pub mod forward;
 pub mod halving;
 pub mod records;

@@ -11,7 +11,7 @@ use borrow.Author.Tests.{leb-true, ltb-false, not-false}
 use lib.Dec.{leb}
 use lib.IntN.{ℤ, natAbs}
 use lib.ListN.{length}
-use Rattle.curve.specs.Limits.{Inside, limit}
+use Rattle.curve.specs.Limits.{Inside, beyond, limit}
 use Rattle.curve.specs.Span.{coordinate, firstRecord, recordsFrom}
 use Rattle.curve.specs.Ways.{deepest}
 use Rattle.shape.specs.declared.Shape.{Shape}
@@ -20,7 +20,7 @@ use Rattle.shape.specs.declared.Refusal.{Refusal}
 use Rattle.shape.specs.declared.Judged.the-variants.{Sound, Unsound}
 use Rattle.shape.specs.declared.Listed.the-variants.{Fine, Bad}
 use Rattle.shape.specs.Shape.{basisOf, spansOf, allowed}
-use Rattle.shape.specs.Refusals.{Row, judge, First, NoRow, shapeRows, planOf, judgeShape, beyond, outside, firstOutside, listRows, judgeLists}
+use Rattle.shape.specs.Refusals.{Row, judge, First, NoRow, shapeRows, planOf, judgeShape, outside, firstOutside, listRows, judgeLists}
 use Rattle.shape.specs.Good.{Good, Lent}
 use Rattle.shape.proofs.Tests.{passes, and-true, or-false}
 use Rattle.shape.proofs.Spans.{allowed-facts, spans-below, last-record}
@@ -176,8 +176,8 @@ module _ (n : ℕ) (controls : List ℤ) (points len : ℕ) where
   fine-facts e =
       let h = fine-none e in
       let all : n ≤ firstOutside controls n = ltb-false (firstOutside controls n) n (h .1 .0) in
-      let both : (r : ℕ) → r < n → (beyond (coordinate controls 0 r) ≡ false) × (beyond (coordinate controls 1 r) ≡ false) =
-      λ r l. or-false (beyond (coordinate controls 0 r)) (beyond (coordinate controls 1 r)) (seek-fails (outside controls) 0 n r (omega arith) (le-trans l all)) in
+      let both : (r : ℕ) → r < n → (beyond limit (coordinate controls 0 r) ≡ false) × (beyond limit (coordinate controls 1 r) ≡ false) =
+      λ r l. or-false (beyond limit (coordinate controls 0 r)) (beyond limit (coordinate controls 1 r)) (seek-fails (outside controls) 0 n r (omega arith) (le-trans l all)) in
       record {
         room = ltb-false (length controls) (2 * n) (h .0);
         x = λ r l. ltb-false limit (natAbs (coordinate controls 0 r)) (both r l .0);

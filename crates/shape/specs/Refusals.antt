@@ -6,9 +6,9 @@ use mathlib.Core.Logic.{_⊎_}
 use mathlib.Core.Path.{_≡_}
 use Prim.Native.Nat.{ℕ, zero, suc, _*_}
 use lib.Dec.{leb, ltb}
-use lib.IntN.{ℤ, natAbs}
+use lib.IntN.{ℤ}
 use lib.ListN.{length}
-use Rattle.curve.specs.Limits.{limit}
+use Rattle.curve.specs.Limits.{limit, beyond}
 use Rattle.curve.specs.Span.{coordinate}
 use Rattle.curve.specs.Ways.{deepest}
 use Rattle.shape.specs.declared.Shape.{Shape}
@@ -73,12 +73,9 @@ judgeShape s = judge (shapeRows s) Unsound (Sound (planOf s))
 abbrev pub controlsRow : ℕ → List ℤ → Row
 controlsRow n controls = row (ltb (length controls) (2 * n)) 7 0
 
--- A coordinate outside the limits, and a record with one.
-abbrev pub beyond : ℤ → Bool
-beyond z = ltb limit (natAbs z)
-
+-- A record with a coordinate outside the limits.
 unfoldable pub outside : List ℤ → ℕ → Bool
-outside controls r = beyond (coordinate controls 0 r) || beyond (coordinate controls 1 r)
+outside controls r = beyond limit (coordinate controls 0 r) || beyond limit (coordinate controls 1 r)
 
 -- The first of n records that is outside, or n.
 abbrev pub firstOutside : List ℤ → ℕ → ℕ

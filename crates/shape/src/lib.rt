@@ -5,10 +5,11 @@ ghost use Prim.Native.Nat.{_*_, _^_, _≤_};
 ghost use lib.ListN.{length};
 ghost use Rattle.curve.specs.Ways.{deepest};
 ghost use Rattle.shape.specs.Shape.{basisOf, spansOf, recordsOf, allowed, pointsOf, mostRecords, mostPoints};
-ghost use Rattle.shape.specs.Refusals.{judgeShape, judgeLists, firstOutside, beyond};
+ghost use Rattle.shape.specs.Refusals.{judgeShape, judgeLists, firstOutside};
 use curve::Basis;
 use curve::DEEPEST;
 use curve::LIMIT;
+use curve::bounds::is_beyond;
 
 // A shape as a caller passes it: basis, depth and control count, right or wrong.
 pub struct Shape {
@@ -165,16 +166,6 @@ pub fn check_shape(shape: Shape) -> Judged
     })
 }
 
-// A coordinate outside the limits.
-fn is_beyond(z: i32) -> bool
-    ensures { λ r. ⌜ r ≡ beyond z ⌝ }
-{
-    if LIMIT < z {
-        return true;
-    }
-    z < -LIMIT
-}
-
 // The first of `count` records with a coordinate outside the limits, or `count` where all are inside.
 pub fn first_outside(controls: &[i32], count: usize) -> usize
     requires { ⌜ 2 * count ≤ length (now controls) ⌝ }
@@ -182,10 +173,10 @@ pub fn first_outside(controls: &[i32], count: usize) -> usize
 {
     let mut i = 0;
     while i < count {
-        if is_beyond(controls[2 * i]) {
+        if is_beyond(controls[2 * i], LIMIT) {
             return i;
         }
-        if is_beyond(controls[2 * i + 1]) {
+        if is_beyond(controls[2 * i + 1], LIMIT) {
             return i;
         }
         i += 1;

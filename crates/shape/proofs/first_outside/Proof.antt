@@ -10,7 +10,8 @@ use mir.Syntax.{w32}
 use mir.Val.{SFits}
 use Rattle.whole.proofs.Fit.{kept, kept-is}
 use Rattle.curve.specs.Span.{coordinate}
-use Rattle.shape.specs.Refusals.{beyond, outside, seek}
+use Rattle.curve.specs.Limits.{beyond, limit}
+use Rattle.shape.specs.Refusals.{outside, seek}
 use Rattle.shape.proofs.Seek.{seek-here, seek-step, seek-end}
 use Rattle.shape.proofs.first_outside.Statement.{statement}
 use Rattle.shape.proofs.first_outside.Tie as tie
@@ -22,30 +23,30 @@ abbrev μ-loop : tie.MeasureT-loop
 μ-loop controls count i₀ i = count - i
 
 -- the test as the call makes it, on the number as the machine keeps it
-tested : (z : ℤ) → SFits w32 z → (r b : Bool) → r ≡ beyond (kept w32 z) → r ≡ b → beyond z ≡ b
-tested z f r b e d = ap beyond (sym (kept-is w32 z f)) ∙ sym e ∙ d
+tested : (z : ℤ) → SFits w32 z → (r b : Bool) → r ≡ beyond limit (kept w32 z) → r ≡ b → beyond limit z ≡ b
+tested z f r b e d = ap (beyond limit) limit (sym (kept-is w32 z f)) ∙ sym e ∙ d
 
 -- record i stands at 2i and 2i + 1
-outside-of : (l : List ℤ) (i : ℕ) → outside l i ≡ (beyond (getD l (2 * i) (pos 0)) || beyond (getD l (2 * i + 1) (pos 0)))
+outside-of : (l : List ℤ) (i : ℕ) → outside l i ≡ (beyond limit (getD l (2 * i) (pos 0)) || beyond limit (getD l (2 * i + 1) (pos 0)))
 unfolding outside coordinate
-outside-of l i = let x : 2 * i + 0 ≡ 2 * i = omega arith in ap (λ j. beyond (getD l j (pos 0)) || beyond (getD l (2 * i + 1) (pos 0))) x
+outside-of l i = let x : 2 * i + 0 ≡ 2 * i = omega arith in ap (λ j. beyond limit (getD l j (pos 0)) || beyond limit (getD l (2 * i + 1) (pos 0))) x
 
 x-outside : (c : tie.Then1 Inv-loop μ-loop) → outside (c .before .before .before .before .before .args .controls .now) (c .before .before .before .before .loop .i) ≡ true
 x-outside c =
     let l = c .before .before .before .before .before .args .controls .now in
     let i = c .before .before .before .before .loop .i in
     let x = tested (getD l (2 * i) (pos 0)) (record { sfits = c .before .before .is-beyond-arg .given }) (c .before .is-beyond .result) true (c .before .is-beyond .ensures) (c .if1 .taken) in
-    outside-of l i ∙ ap (λ b. b || beyond (getD l (2 * i + 1) (pos 0))) x
+    outside-of l i ∙ ap (λ b. b || beyond limit (getD l (2 * i + 1) (pos 0))) x
 
 -- past the first test, the second decides
 y-decides : (c : tie.Else1 Inv-loop μ-loop) (b : Bool)
-    → beyond (getD (c .before .before .before .before .before .args .controls .now) (2 * c .before .before .before .before .loop .i + 1) (pos 0)) ≡ b
+    → beyond limit (getD (c .before .before .before .before .before .args .controls .now) (2 * c .before .before .before .before .loop .i + 1) (pos 0)) ≡ b
     → outside (c .before .before .before .before .before .args .controls .now) (c .before .before .before .before .loop .i) ≡ b
 y-decides c b y =
     let l = c .before .before .before .before .before .args .controls .now in
     let i = c .before .before .before .before .loop .i in
     let x = tested (getD l (2 * i) (pos 0)) (record { sfits = c .before .before .is-beyond-arg .given }) (c .before .is-beyond .result) false (c .before .is-beyond .ensures) (c .if1 .left) in
-    outside-of l i ∙ ap (λ a. a || beyond (getD l (2 * i + 1) (pos 0))) x ∙ y
+    outside-of l i ∙ ap (λ a. a || beyond limit (getD l (2 * i + 1) (pos 0))) x ∙ y
 
 loop-holds : tie.Need-loop-holds Inv-loop μ-loop
 loop-holds c = let all : c .args .count - 0 ≡ c .args .count = omega arith in (omega arith, ap (seek (outside (c .args .controls .now)) 0) all)
