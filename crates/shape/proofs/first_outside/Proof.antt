@@ -24,7 +24,7 @@ abbrev μ-loop : tie.MeasureT-loop
 
 -- the test as the call makes it, on the number as the machine keeps it
 tested : (z : ℤ) → SFits w32 z → (r b : Bool) → r ≡ beyond limit (kept w32 z) → r ≡ b → beyond limit z ≡ b
-tested z f r b e d = ap (beyond limit) limit (sym (kept-is w32 z f)) ∙ sym e ∙ d
+tested z f r b e d = ap (beyond limit) (sym (kept-is w32 z f)) ∙ sym e ∙ d
 
 -- record i stands at 2i and 2i + 1
 outside-of : (l : List ℤ) (i : ℕ) → outside l i ≡ (beyond limit (getD l (2 * i) (pos 0)) || beyond limit (getD l (2 * i + 1) (pos 0)))
