@@ -2,8 +2,8 @@
 use mathlib.Core.Bool.{Bool, true, false, cond, _||_}
 use mathlib.Core.List.{List}
 use Prim.Native.Nat.{ℕ, zero, suc, _+_, _*_, _-_, _/_, _%_, _^_, min}
-use lib.Dec.{ltb, eqb}
-use lib.IntN.{ℤ, pos, natAbs}
+use lib.Dec.{eqb}
+use lib.IntN.{ℤ, pos}
 use lib.Seq.{sets}
 use Rattle.whole.specs.Nearest.{nearest}
 use Rattle.curve.specs.declared.Four.{Four}
@@ -11,7 +11,7 @@ use Rattle.curve.specs.declared.Basis.{Basis}
 use Rattle.curve.specs.declared.Differences.{Differences}
 use Rattle.curve.specs.Numbers.{tab}
 use Rattle.curve.specs.Span.{coordinate, records, sixfoldControls, weighted, divisor, point}
-use Rattle.curve.specs.Limits.{reach}
+use Rattle.curve.specs.Limits.{reach, beyond}
 use Rattle.curve.specs.Ways.{advance}
 
 -- Number q of an outline of m spans at depth k: its point is q / 2, its axis q % 2.
@@ -48,9 +48,6 @@ stepped k x y j = nearest (after (j / 2) (cond (eqb (j % 2) 0) x y) .value) (div
 
 -- ---- the look for a point beyond 5,000,000
 
-abbrev pub beyondReach : ℤ → Bool
-beyondReach z = ltb reach (natAbs z)
-
 -- A rule's point g is beyond on either axis.
 unfoldable pub farOff : (ℕ → ℤ) → ℕ → Bool
-farOff f g = beyondReach (f (2 * g)) || beyondReach (f (2 * g + 1))
+farOff f g = beyond reach (f (2 * g)) || beyond reach (f (2 * g + 1))

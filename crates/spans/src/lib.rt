@@ -2,6 +2,7 @@
 // those have checked.
 pub mod halving;
 pub mod point;
+pub mod reach;
 pub mod run;
 pub mod stepping;
 pub mod weights;
