@@ -1,0 +1,64 @@
+-- A drawing call's reading, taken row by row: the checks that passed drop their rows, and the first that did not is the refusal.
+use mathlib.Core.Path.{_≡_, refl, sym, ap, _∙_, subst}
+use mathlib.Core.Bool.{true, false, cond}
+use mathlib.Core.List.{List, [], _∷_, _++_}
+use Prim.Native.Nat.{ℕ, _+_, _*_, _≤_, _<_}
+use native.Mathlib.Nat.{le-trans}
+use native.Mathlib.Omega.{arith}
+use borrow.Author.Tests.{lt-ltb, le-ltb}
+use lib.Dec.{ltb}
+use lib.IntN.{ℤ}
+use lib.ListN.{length}
+use Rattle.shape.specs.declared.Shape.{Shape}
+use Rattle.shape.specs.declared.Plan.{Plan}
+use Rattle.shape.specs.declared.Refusal.{Refusal}
+use Rattle.shape.specs.declared.Judged.the-variants.{Sound, Unsound}
+use Rattle.shape.specs.declared.Listed.the-variants.{Fine, Bad}
+use Rattle.shape.specs.Good.{Good, Lent}
+use Rattle.shape.specs.Refusals.{judge, judgeShape, judgeLists, planOf}
+use Rattle.shape.proofs.Refusals.{sound, unsound, sound-plan, bad, fine, good-records, lent-inside}
+use Rattle.spans.specs.Ready.{Drawable}
+use Rattle.outline.specs.Outline.{Outcome, points, firstFar, reachRow, planRows, refuses, accepts, drawsPlan, draws}
+
+-- ---- rows 1, 2, 3
+
+pub draws-unsound : (s : Shape) (r : Refusal) → judgeShape s ≡ Unsound r → (controls lent : List ℤ) → draws s controls lent ≡ refuses lent r
+unfolding draws
+draws-unsound s r e controls lent = unsound s r e (planRows (s .count) (planOf s) controls lent) (refuses lent) (accepts (planOf s) controls lent)
+
+pub draws-sound : (s : Shape) (p : Plan) → judgeShape s ≡ Sound p → (controls lent : List ℤ) → draws s controls lent ≡ drawsPlan (s .count) p controls lent
+unfolding draws drawsPlan
+draws-sound s p e controls lent =
+    sound s p e (planRows (s .count) (planOf s) controls lent) (refuses lent) (accepts (planOf s) controls lent)
+    ∙ ap (λ q. drawsPlan (s .count) q controls lent) (sym (sound-plan s p e))
+
+-- ---- rows 7, 8, 9, 16
+
+module _ (n : ℕ) (p : Plan) (controls lent : List ℤ) where
+  pub plan-bad : (r : Refusal) → judgeLists n controls (points p) (length lent) ≡ Bad r → drawsPlan n p controls lent ≡ refuses lent r
+  unfolding drawsPlan
+  plan-bad r e = bad n controls (points p) (length lent) r e (reachRow p controls ∷ []) (refuses lent) (accepts p controls lent)
+
+  -- the lists are fine, and row 16 is left
+  last-row : judgeLists n controls (points p) (length lent) ≡ Fine → drawsPlan n p controls lent ≡ judge (reachRow p controls ∷ []) (refuses lent) (accepts p controls lent)
+  unfolding drawsPlan
+  last-row e = fine n controls (points p) (length lent) e (reachRow p controls ∷ []) (refuses lent) (accepts p controls lent)
+
+  pub plan-far : judgeLists n controls (points p) (length lent) ≡ Fine → firstFar p controls < points p
+      → drawsPlan n p controls lent ≡ refuses lent (record { number = 16; place = firstFar p controls })
+  unfolding judge
+  plan-far e far = last-row e ∙ ap (λ b. cond b (refuses lent (record { number = 16; place = firstFar p controls })) (accepts p controls lent)) (lt-ltb (firstFar p controls) (points p) far)
+
+  pub plan-drawn : judgeLists n controls (points p) (length lent) ≡ Fine → points p ≤ firstFar p controls → drawsPlan n p controls lent ≡ accepts p controls lent
+  unfolding judge
+  plan-drawn e near = last-row e ∙ ap (λ b. cond b (refuses lent (record { number = 16; place = firstFar p controls })) (accepts p controls lent)) (le-ltb (firstFar p controls) (points p) near)
+
+-- ---- what passed checks give: the spans can be drawn
+
+pub drawable : (s : Shape) (p : Plan) → Good s p → (controls : List ℤ) (k len : ℕ) → Lent (s .count) controls k len → Drawable (p .basis) (p .spans) controls
+drawable s p good controls k len lent =
+    record {
+      few = omega (arith, good .spans-most, good .records-most);
+      held = λ t h. omega (arith, good-records s p good t h, lent .room);
+      inside = λ t axis h a. lent-inside (s .count) controls k len lent axis _ a (good-records s p good t h);
+    }

@@ -1,0 +1,108 @@
+-- Each check that passes drops its rows from the reading; where none is left the run from span 0 to the last is the outline.
+use mathlib.Core.Path.{_≡_, refl, sym, ap, _∙_, subst}
+use mathlib.Core.List.{List}
+use Prim.Native.Nat.{ℕ, _+_, _*_, _-_, _^_, _≤_, _<_}
+use native.Mathlib.Nat.{zero-mul, mul-left-comm}
+use native.Mathlib.Omega.{arith}
+use borrow.Author.Needs.{needs}
+use lib.IntN.{ℤ}
+use lib.ListN.{length}
+use Rattle.curve.specs.Ways.{deepest}
+use Rattle.shape.specs.declared.Plan.{Plan}
+use Rattle.shape.specs.declared.Listed.the-variants.{Fine, Bad}
+use Rattle.shape.specs.Shape.{mostPoints, mostRecords, pointsOf}
+use Rattle.shape.specs.Refusals.{judgeLists}
+use Rattle.shape.specs.Good.{Lent}
+use Rattle.shape.proofs.Refusals.{fine-facts}
+use Rattle.shape.proofs.Spans.{points-at-most}
+use Rattle.spans.specs.Numbers.{number, filled, perSpan}
+use Rattle.spans.specs.Ready.{Drawable}
+use Rattle.outline.specs.declared.Drawn.the-variants.{Points, Refused}
+use Rattle.outline.specs.Outline.{Outcome, outcome, numbers, points, firstFar, drawn}
+use Rattle.outline.proofs.Draws.{plan-bad, plan-far, plan-drawn, drawable}
+use Rattle.outline.proofs.draw_plan.Statement.{statement}
+use Rattle.outline.proofs.draw_plan.Tie as tie
+
+points-requires : tie.Need-points-requires
+points-requires c κs = search needs
+
+check-lists-requires : tie.Need-check-lists-requires
+check-lists-requires c κs =
+    let s = c .before in
+    let p = s .args .plan in
+    (s .pre .records-most, subst (λ (n : ℕ). n ≤ mostPoints) (sym (c .points .ensures)) (points-at-most (p .depth) (p .spans) (s .pre .depth-most) (omega (arith, s .pre .spans-most, s .pre .records-most))))
+
+enum-known-refusal : tie.Need-enum-known-refusal
+enum-known-refusal c = search needs
+
+-- what the list checks found, for the outline's own number of points
+listed : (c : tie.After-check-lists) → c .check-lists .result
+    ≡ judgeLists (c .before .before .args .shape .count) (c .before .before .args .controls .now) (points (c .before .before .args .plan)) (length (c .before .before .args .points .now))
+listed c =
+    let a = c .before .before .args in
+    c .check-lists .ensures ∙ ap (λ (n : ℕ). judgeLists (a .shape .count) (a .controls .now) n (length (a .points .now))) (c .before .points .ensures)
+
+returns : tie.Need-returns
+returns c =
+    let a = c .before .before .before .before .before .args in
+    sym (plan-bad (a .shape .count) (a .plan) (a .controls .now) (a .points .now) (c .before .refusal .given .0 .0) (sym (listed (c .before .before .before)) ∙ c .before .refusal .given .1))
+
+enum-told : tie.Need-enum-told
+enum-told c = search needs
+
+-- the lists are fine
+is-fine : (c : tie.After-enum-told) → judgeLists (c .before .before .before .before .args .shape .count) (c .before .before .before .before .args .controls .now) (points (c .before .before .before .before .args .plan)) (length (c .before .before .before .before .args .points .now)) ≡ Fine
+is-fine c = sym (listed (c .before .before)) ∙ c .enum-told .given .1
+
+lent : (c : tie.After-enum-told) → Lent (c .before .before .before .before .args .shape .count) (c .before .before .before .before .args .controls .now) (points (c .before .before .before .before .args .plan)) (length (c .before .before .before .before .args .points .now))
+lent c = let a = c .before .before .before .before .args in fine-facts (a .shape .count) (a .controls .now) (points (a .plan)) (length (a .points .now)) (is-fine c)
+
+spans-drawable : (c : tie.After-enum-told) → Drawable (c .before .before .before .before .args .plan .basis) (c .before .before .before .before .args .plan .spans) (c .before .before .before .before .args .controls .now)
+spans-drawable c = let s = c .before .before .before .before in drawable (s .args .shape) (s .args .plan) (s .pre) (s .args .controls .now) (points (s .args .plan)) (length (s .args .points .now)) (lent c)
+
+first-far-requires : tie.Need-first-far-requires
+first-far-requires c κs = let s = c .before .before .before .before in ((s .pre .depth-most, omega (arith, s .pre .spans-least)), spans-drawable c)
+
+returns-2 : tie.Need-returns-2
+returns-2 c =
+    let a = c .before .before .before .before .before .before .args in
+    let far = c .before .first-far .ensures in
+    ap (λ (n : ℕ). outcome (Refused (record { number = 16; place = n })) (a .points .now)) far
+    ∙ sym (plan-far (a .shape .count) (a .plan) (a .controls .now) (a .points .now) (is-fine (c .before .before)) (omega (arith, far, c .before .before .before .before .before .points .ensures, c .if1 .taken)))
+
+-- all points are the spans' numbers and the last end's
+all-numbers : (k m : ℕ) → 2 * pointsOf k m ≡ m * perSpan k + 2
+unfolding pointsOf
+all-numbers k m = omega (arith, mul-left-comm m 2 (2 ^ k))
+
+fill-spans-requires : tie.Need-fill-spans-requires
+fill-spans-requires c κs =
+    let t = c .before .before .before in
+    let s = t .before .before .before .before in
+    let p = s .args .plan in
+    ((s .pre .depth-most, omega (arith, s .pre .spans-least)), (spans-drawable t, omega (arith, all-numbers (p .depth) (p .spans), lent t .points-room)))
+
+same-length : tie.Need-same-length
+same-length c = search needs
+
+-- the run from span 0 on is the whole outline
+whole-run : (p : Plan) (controls l : List ℤ) → filled (numbers p controls) (0 * perSpan (p .depth)) ((p .spans - 0) * perSpan (p .depth) + 2) l ≡ drawn p controls l
+whole-run p controls l =
+    let all : p .spans - 0 ≡ p .spans = omega arith in
+    ap (λ (n : ℕ). filled (numbers p controls) n ((p .spans - 0) * perSpan (p .depth) + 2) l) (zero-mul (perSpan (p .depth)))
+    ∙ ap (λ (n : ℕ). filled (numbers p controls) 0 (n * perSpan (p .depth) + 2) l) all
+    ∙ ap (λ (n : ℕ). filled (numbers p controls) 0 n l) (sym (all-numbers (p .depth) (p .spans)))
+
+returns-3 : tie.Need-returns-3
+returns-3 c =
+    let t = c .before .before .before .before .before in
+    let a = t .before .before .before .before .args in
+    let p = a .plan in
+    let count = t .before .before .before .points .ensures in
+    let far = c .before .before .before .before .first-far .ensures in
+    ap (λ l. outcome (Points (t .before .before .before .points .result)) l) (c .before .fill-spans .ensures ∙ whole-run p (a .controls .now) (a .points .now))
+    ∙ ap (λ (n : ℕ). outcome (Points n) (drawn p (a .controls .now) (a .points .now))) count
+    ∙ sym (plan-drawn (a .shape .count) p (a .controls .now) (a .points .now) (is-fine t) (omega (arith, far, count, c .before .before .before .if1 .left)))
+
+pub draw-plan-spec : {M : Type 1} → statement M
+draw-plan-spec = tie.close (tie.spec points-requires check-lists-requires enum-known-refusal returns enum-told first-far-requires returns-2 fill-spans-requires same-length returns-3)

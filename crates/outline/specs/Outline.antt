@@ -1,0 +1,61 @@
+-- What a drawing call comes to (document 01): the refusals in their order, or all points of the outline in the lent list and everything past them kept.
+use mathlib.Core.List.{List, [], _∷_, _++_}
+use Prim.Native.Nat.{ℕ, _*_}
+use lib.Dec.{ltb}
+use lib.IntN.{ℤ}
+use lib.ListN.{length}
+use Rattle.shape.specs.declared.Shape.{Shape}
+use Rattle.shape.specs.declared.Plan.{Plan}
+use Rattle.shape.specs.declared.Refusal.{Refusal}
+use Rattle.shape.specs.Refusals.{Row, row, judge, seek, shapeRows, listRows, planOf}
+use Rattle.shape.specs.Shape.{pointsOf}
+use Rattle.spans.specs.Numbers.{number, filled, farOff}
+use Rattle.outline.specs.declared.Drawn.{Drawn}
+use Rattle.outline.specs.declared.Drawn.the-variants.{Points, Refused}
+
+-- The numbers of a plan's outline.
+abbrev pub numbers : Plan → List ℤ → ℕ → ℤ
+numbers p controls = number (p .basis) (p .depth) (p .spans) controls
+
+abbrev pub points : Plan → ℕ
+points p = pointsOf (p .depth) (p .spans)
+
+-- The first of the outline's points beyond 5,000,000, or their number.
+abbrev pub firstFar : Plan → List ℤ → ℕ
+firstFar p controls = seek (farOff (numbers p controls)) 0 (points p)
+
+-- Row 16.
+abbrev pub reachRow : Plan → List ℤ → Row
+reachRow p controls = row (ltb (firstFar p controls) (points p)) 16 (firstFar p controls)
+
+-- The checks of a drawing call: 1, 2, 3, then 7, 8, 9, 16 over n records.
+abbrev pub planRows : ℕ → Plan → List ℤ → List ℤ → List Row
+planRows n p controls lent = listRows n controls (points p) (length lent) ++ (reachRow p controls ∷ [])
+
+abbrev pub drawRows : Shape → List ℤ → List ℤ → List Row
+drawRows s controls lent = shapeRows s ++ planRows (s .count) (planOf s) controls lent
+
+-- The answer, and the lent points as the call leaves them.
+pub record Outcome : Type 0 where
+  pub answer : Drawn
+  pub held : List ℤ
+
+abbrev pub outcome : Drawn → List ℤ → Outcome
+outcome r l = record { answer = r; held = l }
+
+-- All points from the list's start, everything past them as it was.
+abbrev pub drawn : Plan → List ℤ → List ℤ → List ℤ
+drawn p controls lent = filled (numbers p controls) 0 (2 * points p) lent
+
+-- A refusal leaves the lent points as they came.
+abbrev pub refuses : List ℤ → Refusal → Outcome
+refuses lent r = outcome (Refused r) lent
+
+abbrev pub accepts : Plan → List ℤ → List ℤ → Outcome
+accepts p controls lent = outcome (Points (points p)) (drawn p controls lent)
+
+unfoldable pub drawsPlan : ℕ → Plan → List ℤ → List ℤ → Outcome
+drawsPlan n p controls lent = judge (planRows n p controls lent) (refuses lent) (accepts p controls lent)
+
+unfoldable pub draws : Shape → List ℤ → List ℤ → Outcome
+draws s controls lent = judge (drawRows s controls lent) (refuses lent) (accepts (planOf s) controls lent)
