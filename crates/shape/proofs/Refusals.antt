@@ -147,10 +147,24 @@ bad-same q r e = cc
 bad-apart : (q : Refusal) → Bad q ≡ Fine → ⊥
 bad-apart q e = let z : _≡_ {A = ℕ} 0 1 = cc in omega arith
 
+-- rows that are judged to this answer, and a call whose table starts with them
+module _ (rows : List Row) where
+  pub rows-first : (r : Refusal) → judge rows Bad Fine ≡ Bad r → First rows r
+  rows-first r e = only-first rows Bad Fine bad-same bad-apart r e
+
+  pub rows-none : judge rows Bad Fine ≡ Fine → NoRow rows
+  rows-none e = only-none rows Bad Fine Fine bad-apart e
+
+  pub rows-bad {ℓ} : {A : Type ℓ} (r : Refusal) → judge rows Bad Fine ≡ Bad r → (rest : List Row) (f : Refusal → A) (a : A) → judge (rows ++ rest) f a ≡ f r
+  rows-bad r e rest f a = judge-append rows rest f a ∙ judge-first rows f (judge rest f a) r (rows-first r e)
+
+  pub rows-fine {ℓ} : {A : Type ℓ} → judge rows Bad Fine ≡ Fine → (rest : List Row) (f : Refusal → A) (a : A) → judge (rows ++ rest) f a ≡ judge rest f a
+  rows-fine e rest f a = judge-append rows rest f a ∙ judge-none rows f (judge rest f a) (rows-none e)
+
 module _ (n : ℕ) (controls : List ℤ) (points len : ℕ) where
   pub bad-first : (r : Refusal) → judgeLists n controls points len ≡ Bad r → First (listRows n controls points len) r
   unfolding judgeLists
-  bad-first r e = only-first (listRows n controls points len) Bad Fine bad-same bad-apart r e
+  bad-first r e = rows-first (listRows n controls points len) r e
 
   pub first-bad : (r : Refusal) → First (listRows n controls points len) r → judgeLists n controls points len ≡ Bad r
   unfolding judgeLists
@@ -158,7 +172,7 @@ module _ (n : ℕ) (controls : List ℤ) (points len : ℕ) where
 
   pub fine-none : judgeLists n controls points len ≡ Fine → NoRow (listRows n controls points len)
   unfolding judgeLists
-  fine-none e = only-none (listRows n controls points len) Bad Fine Fine bad-apart e
+  fine-none e = rows-none (listRows n controls points len) e
 
   pub none-fine : NoRow (listRows n controls points len) → judgeLists n controls points len ≡ Fine
   unfolding judgeLists
@@ -166,10 +180,12 @@ module _ (n : ℕ) (controls : List ℤ) (points len : ℕ) where
 
   -- a call whose table goes on with these rows
   pub bad {ℓ} : {A : Type ℓ} (r : Refusal) → judgeLists n controls points len ≡ Bad r → (rest : List Row) (f : Refusal → A) (a : A) → judge (listRows n controls points len ++ rest) f a ≡ f r
-  bad r e rest f a = judge-append (listRows n controls points len) rest f a ∙ judge-first (listRows n controls points len) f (judge rest f a) r (bad-first r e)
+  unfolding judgeLists
+  bad r e rest f a = rows-bad (listRows n controls points len) r e rest f a
 
   pub fine {ℓ} : {A : Type ℓ} → judgeLists n controls points len ≡ Fine → (rest : List Row) (f : Refusal → A) (a : A) → judge (listRows n controls points len ++ rest) f a ≡ judge rest f a
-  fine e rest f a = judge-append (listRows n controls points len) rest f a ∙ judge-none (listRows n controls points len) f (judge rest f a) (fine-none e)
+  unfolding judgeLists
+  fine e rest f a = rows-fine (listRows n controls points len) e rest f a
 
   pub fine-facts : judgeLists n controls points len ≡ Fine → Lent n controls points len
   unfolding outside

@@ -33,7 +33,7 @@ pub per-span : (s k : ℕ) → s * perSpan k ≡ 2 * (s * 2 ^ k)
 per-span s k = mul-left-comm s 2 (2 ^ k)
 
 -- where number q is: at step i of span s on axis q % 2
-located : (b : Basis) (k m : ℕ) (controls : List ℤ) (q s i : ℕ) → min (q / 2 / 2 ^ k) (m - 1) ≡ s → q / 2 ≡ s * 2 ^ k + i → number b k m controls q ≡ point b k (records b s (coordinate controls (q % 2))) i
+pub located : (b : Basis) (k m : ℕ) (controls : List ℤ) (q s i : ℕ) → min (q / 2 / 2 ^ k) (m - 1) ≡ s → q / 2 ≡ s * 2 ^ k + i → number b k m controls q ≡ point b k (records b s (coordinate controls (q % 2))) i
 unfolding number
 located b k m controls q s i e f =
     ap (λ (t : ℕ). point b k (records b t (coordinate controls (q % 2))) (q / 2 - t * 2 ^ k)) e

@@ -1,0 +1,251 @@
+-- The numbers past the fresh spans carried and the fresh spans worked leave every point as the reading has it.
+use mathlib.Core.Path.{_≡_, refl, sym, ap, _∙_, subst}
+use mathlib.Core.Bool.{Bool, true, false, cond, _&&_}
+use mathlib.Core.Logic.{_⊎_, inl, inr, ⊎-elim}
+use mathlib.Core.List.{List}
+use Prim.Native.Nat.{ℕ, zero, suc, _+_, _*_, _-_, _/_, _%_, _^_, min, _≤_, _<_}
+use native.Mathlib.Nat.{add-mul, mul-le-mul-right, div-lt-iff-lt-mul, le-div-iff-mul-le, min-eq-left, min-le-left, min-le-right, zero-mul}
+use native.Mathlib.Omega.{arith}
+use borrow.Author.Tests.{ltb-true, ltb-false, leb-true, lt-ltb, le-ltb, le-leb}
+use lib.Arith.{digits-div}
+use lib.Dec.{leb, ltb, lit<}
+use lib.IntN.{ℤ, pos}
+use lib.ListN.{getD, length}
+use lib.Pow.{pow-pos}
+use lib.Seq.{sets, set-getD, ext-getD, length-sets}
+use Rattle.curve.specs.declared.Basis.{Basis}
+use Rattle.curve.specs.declared.Basis.the-variants.{Bezier, BSpline, Cardinal, Hermite}
+use Rattle.curve.specs.Numbers.{tab}
+use Rattle.curve.specs.Span.{coordinate, records, point}
+use Rattle.curve.proofs.Span.{joint}
+use Rattle.curve.proofs.Tab.{length-tab, getD-tab}
+use Rattle.shape.proofs.Tests.{passes, true-is-not-false, and-true}
+use Rattle.spans.specs.Numbers.{number, perSpan, filled}
+use Rattle.spans.proofs.Numbers.{per-span, located, end-number}
+use Rattle.edit.specs.declared.Edit.{Edit}
+use Rattle.edit.specs.declared.Edit.the-variants.{Move, Insert, Remove}
+use Rattle.edit.specs.Edits.{firstUsing, lastUsing, firstFresh, pastFresh, carriedFrom, isFresh, pointAt}
+use Rattle.edit.specs.Carried.{runLength}
+use Rattle.edit.proofs.Fills.{before-sets, past-sets, in-sets}
+
+-- ---- what stands at a place of a list that was filled
+
+pub either : (a b : ℕ) → (a < b) ⊎ (b ≤ a)
+either a b = ⊎-elim (λ e. inl (ltb-true a b e)) (λ e. inr (ltb-false a b e)) (passes (ltb a b))
+
+module _ (f : ℕ → ℤ) (q n : ℕ) (l : List ℤ) (i : ℕ) where
+  pub in-filled : q ≤ i → i < q + n → q + n ≤ length l → getD (filled f q n l) i (pos 0) ≡ f i
+  in-filled low high room =
+      let e : q + (i - q) ≡ i = omega arith in
+      ap (λ (p : ℕ). getD (filled f q n l) p (pos 0)) (sym e)
+      ∙ in-sets (tab f q n) l q (i - q) (pos 0) (omega (arith, length-tab f q n)) (omega arith)
+      ∙ getD-tab f q n (i - q) (omega arith) (pos 0)
+      ∙ ap f e
+
+  pub before-filled : i < q → getD (filled f q n l) i (pos 0) ≡ getD l i (pos 0)
+  before-filled h = before-sets (tab f q n) l q i (pos 0) h
+
+  pub past-filled : q + n ≤ i → getD (filled f q n l) i (pos 0) ≡ getD l i (pos 0)
+  past-filled h = past-sets (tab f q n) l q i (pos 0) (omega (arith, length-tab f q n))
+
+pub none-filled : (f : ℕ → ℤ) (q n : ℕ) (l : List ℤ) → n ≡ 0 → filled f q n l ≡ l
+unfolding tab
+none-filled f q n l e = ap (λ (m : ℕ). filled f q m l) e
+
+-- a list filled with its own numbers is as it was
+pub same-filled : (l : List ℤ) (q n : ℕ) → filled (λ (i : ℕ). getD l i (pos 0)) q n l ≡ l
+unfolding tab
+same-filled l q zero = refl
+same-filled l q (suc n) = ap (λ v. sets v (suc q) (tab (λ (i : ℕ). getD l i (pos 0)) (suc q) n)) (set-getD l q (pos 0)) ∙ same-filled l (suc q) n
+
+-- ---- runs of spans
+
+pub run-none : (first past w : ℕ) → past ≤ first → runLength first past w ≡ 0
+unfolding runLength
+run-none first past w h = ap (λ t. cond t ((past - first) * w + 2) 0) (le-ltb first past h)
+
+pub run-some : (first past w : ℕ) → first < past → runLength first past w ≡ (past - first) * w + 2
+unfolding runLength
+run-some first past w h = ap (λ t. cond t ((past - first) * w + 2) 0) (lt-ltb first past h)
+
+-- a run ends two numbers past its last span
+pub run-end : (first past w : ℕ) → first < past → first * w + runLength first past w ≡ past * w + 2
+run-end first past w h =
+    let whole : first + (past - first) ≡ past = omega arith in
+    omega (arith, run-some first past w h, add-mul first (past - first) w, ap (λ (n : ℕ). n * w) whole)
+
+-- ---- the numbers of fewer spans are those of all, up to their end: a joint
+
+pub fewer-numbers : (b : Basis) (k e m : ℕ) (c : List ℤ) (i : ℕ) → 0 < e → e ≤ m → i < e * perSpan k + 2 → number b k e c i ≡ number b k m c i
+unfolding number
+fewer-numbers b k e m c i some most within =
+    ⊎-elim inner (λ past. ⊎-elim (λ h. at-joint h past) (λ h. let same : e ≡ m = omega arith in ap (λ (n : ℕ). number b k n c i) same) (either e m)) (either i (e * perSpan k))
+  where
+    inner : i < e * perSpan k → number b k e c i ≡ number b k m c i
+    inner h =
+        let g = i / 2 in
+        let low : g < e * 2 ^ k = omega (arith, per-span e k) in
+        let span : g / 2 ^ k < e = div-lt-iff-lt-mul {k = 2 ^ k} {x = g} {y = e} (pow-pos k) .1 low in
+        let here : min (g / 2 ^ k) (e - 1) ≡ g / 2 ^ k = min-eq-left (omega arith) in
+        let there : min (g / 2 ^ k) (m - 1) ≡ g / 2 ^ k = min-eq-left (omega arith) in
+        ap (λ (t : ℕ). point b k (records b t (coordinate c (i % 2))) (g - t * 2 ^ k)) (here ∙ sym there)
+
+    at-joint : e < m → e * perSpan k ≤ i → number b k e c i ≡ number b k m c i
+    at-joint h past =
+        let r = i - e * perSpan k in
+        let q = e * perSpan k + r in
+        let at : q ≡ i = omega arith in
+        let few : r < 2 = omega arith in
+        let half : q / 2 ≡ e * 2 ^ k + 0 = omega (arith, per-span e k) in
+        let axis : q % 2 ≡ r = omega (arith, per-span e k) in
+        let next : suc (e - 1) ≡ e = omega arith in
+        let span : min (q / 2 / 2 ^ k) (m - 1) ≡ e = ap (λ (n : ℕ). min (n / 2 ^ k) (m - 1)) half ∙ ap (λ (n : ℕ). min n (m - 1)) (digits-div e (pow-pos k)) ∙ min-eq-left (omega arith) in
+        ap (number b k e c) (sym at)
+        ∙ end-number b k e c r some few
+        ∙ joint b k (e - 1) (coordinate c r)
+        ∙ ap (λ (n : ℕ). point b k (records b n (coordinate c r)) 0) next
+        ∙ ap (λ (a : ℕ). point b k (records b e (coordinate c a)) 0) (sym axis)
+        ∙ sym (located b k m c q e 0 span half)
+        ∙ ap (number b k m c) at
+
+-- ---- the spans that an edit names
+
+first-below : (b : Basis) (j : ℕ) → firstUsing b j ≤ lastUsing b j
+first-below Bezier j = omega arith
+first-below BSpline j = omega arith
+first-below Cardinal j = omega arith
+first-below Hermite j = omega arith
+
+pub past-most : (ed : Edit) (b : Basis) (j m : ℕ) → pastFresh ed b j m ≤ m
+past-most (Move x y) b j m = min-le-right (lastUsing b j + 1) m
+past-most (Insert x y) b j m = min-le-right (j + 1) m
+past-most Remove b j m = min-le-right j m
+
+-- where none is worked afresh and some are left, nothing was before them
+none-first : (ed : Edit) (b : Basis) (j m : ℕ) → pastFresh ed b j m ≤ firstFresh ed b j → pastFresh ed b j m < m → firstFresh ed b j ≡ 0
+none-first (Move x y) b j m h k = absurd (omega (arith, first-below b j))
+none-first (Insert x y) b j m h k = absurd (omega arith)
+none-first Remove b j m h k = omega arith
+
+module _ (ed : Edit) (b : Basis) (k j m : ℕ) (c lent : List ℤ) (some : 1 ≤ m) (room : m * perSpan k + 2 ≤ length lent) where
+  abbrev w : ℕ
+  w = perSpan k
+
+  abbrev a : ℕ
+  a = firstFresh ed b j
+
+  abbrev e : ℕ
+  e = pastFresh ed b j m
+
+  wide : 0 < w
+  wide = omega (arith, pow-pos k)
+
+  abbrev carried : ℕ → ℤ
+  carried q = getD lent (carriedFrom ed w q) (pos 0)
+
+  abbrev wanted : ℕ → ℤ
+  wanted = pointAt ed b k j m c lent
+
+  fresh-facts : (i : ℕ) → isFresh ed b k j m i ≡ true → (a < e) × (a * w ≤ i) × (i < e * w + 2)
+  unfolding isFresh
+  fresh-facts i t =
+      let (first, rest) = and-true (ltb a e) (leb (a * w) i && ltb i (e * w + 2)) t in
+      let (low, high) = and-true (leb (a * w) i) (ltb i (e * w + 2)) rest in
+      (ltb-true a e first, leb-true (a * w) i low, ltb-true i (e * w + 2) high)
+
+  not-fresh : (i : ℕ) → (a < e → a * w ≤ i → i < e * w + 2 → ⊥) → isFresh ed b k j m i ≡ false
+  not-fresh i none = ⊎-elim (λ t. let (first, low, high) = fresh-facts i t in absurd (none first low high)) (λ t. t) (passes (isFresh ed b k j m i))
+
+  fresh-at : (i : ℕ) → a < e → a * w ≤ i → i < e * w + 2 → wanted i ≡ number b k m c i
+  unfolding pointAt isFresh
+  fresh-at i first low high = simp (lt-ltb a e first, le-leb (a * w) i low, lt-ltb i (e * w + 2) high)
+
+  stays-at : (i : ℕ) → isFresh ed b k j m i ≡ false → min (i / w) (m - 1) < a → wanted i ≡ getD lent i (pos 0)
+  unfolding pointAt
+  stays-at i stale h =
+      ap (λ t. cond t (number b k m c i) (cond (ltb (min (i / w) (m - 1)) a) (getD lent i (pos 0)) (carried i))) stale
+      ∙ ap (λ t. cond t (getD lent i (pos 0)) (carried i)) (lt-ltb (min (i / w) (m - 1)) a h)
+
+  carried-at : (i : ℕ) → isFresh ed b k j m i ≡ false → a ≤ min (i / w) (m - 1) → wanted i ≡ carried i
+  unfolding pointAt
+  carried-at i stale h =
+      ap (λ t. cond t (number b k m c i) (cond (ltb (min (i / w) (m - 1)) a) (getD lent i (pos 0)) (carried i))) stale
+      ∙ ap (λ t. cond t (getD lent i (pos 0)) (carried i)) (le-ltb (min (i / w) (m - 1)) a h)
+
+  abbrev moved : List ℤ
+  moved = filled carried (e * w) (runLength e m w) lent
+
+  abbrev done : List ℤ
+  done = filled (number b k e c) (a * w) (runLength a e w) moved
+
+  -- a place in or past the last carried number
+  moved-room : e * w + runLength e m w ≤ m * w + 2
+  moved-room =
+      ⊎-elim (λ h. omega (arith, run-end e m w h)) (λ h. omega (arith, run-none e m w h, mul-le-mul-right {m = e} {n = m} w (past-most ed b j m))) (either e m)
+
+  some-fresh : (i : ℕ) → i < m * w + 2 → a < e → getD done i (pos 0) ≡ wanted i
+  some-fresh i within first =
+      ⊎-elim
+      (λ h.
+      let below : i < e * w = omega (arith, mul-le-mul-right {m = a} {n = e} w (omega arith)) in
+      let span : i / w < a = div-lt-iff-lt-mul {k = w} {x = i} {y = a} wide .1 h in
+      before-filled (number b k e c) (a * w) (runLength a e w) moved i h
+      ∙ before-filled carried (e * w) (runLength e m w) lent i below
+      ∙ sym (stays-at i (not-fresh i (λ _ low _. omega arith)) (omega (arith, min-le-left (i / w) (m - 1)))))
+      (λ low. ⊎-elim (λ high. inside low high) beyond (either i (e * w + 2)))
+      (either i (a * w))
+    where
+      inside : a * w ≤ i → i < e * w + 2 → getD done i (pos 0) ≡ wanted i
+      inside low high =
+          in-filled (number b k e c) (a * w) (runLength a e w) moved i low (omega (arith, run-end a e w first)) (omega (arith, run-end a e w first, length-sets lent (e * w) (tab carried (e * w) (runLength e m w)), mul-le-mul-right {m = e} {n = m} w (past-most ed b j m)))
+          ∙ fewer-numbers b k e m c i (omega arith) (past-most ed b j m) high
+          ∙ sym (fresh-at i first low high)
+
+      beyond : e * w + 2 ≤ i → getD done i (pos 0) ≡ wanted i
+      beyond h =
+          let left : e < m = ⊎-elim (λ (l : e < m). l) (λ (g : m ≤ e). absurd (omega (arith, mul-le-mul-right {m = m} {n = e} w g))) (either e m) in
+          let span : e ≤ i / w = le-div-iff-mul-le {k = w} {x = e} {y = i} wide .1 (omega arith) in
+          past-filled (number b k e c) (a * w) (runLength a e w) moved i (omega (arith, run-end a e w first))
+          ∙ in-filled carried (e * w) (runLength e m w) lent i (omega arith) (omega (arith, run-end e m w left)) (omega (arith, run-end e m w left))
+          ∙ sym (carried-at i (not-fresh i (λ _ _ high. omega arith)) (omega arith))
+
+  none-fresh : (i : ℕ) → i < m * w + 2 → e ≤ a → getD done i (pos 0) ≡ wanted i
+  none-fresh i within none =
+      ap (λ l. getD l i (pos 0)) (none-filled (number b k e c) (a * w) (runLength a e w) moved (run-none a e w none))
+      ∙ ⊎-elim left kept (either e m)
+    where
+      left : e < m → getD moved i (pos 0) ≡ wanted i
+      left h =
+          let zero-a : a ≡ 0 = none-first ed b j m none h in
+          let zero-e : e ≡ 0 = omega arith in
+          let start : e * w ≡ 0 = ap (λ (n : ℕ). n * w) zero-e ∙ zero-mul w in
+          in-filled carried (e * w) (runLength e m w) lent i (omega arith) (omega (arith, run-end e m w h)) (omega (arith, run-end e m w h))
+          ∙ sym (carried-at i (not-fresh i (λ first _ _. omega arith)) (omega arith))
+
+      kept : m ≤ e → getD moved i (pos 0) ≡ wanted i
+      kept h =
+          ap (λ l. getD l i (pos 0)) (none-filled carried (e * w) (runLength e m w) lent (run-none e m w h))
+          ∙ sym (stays-at i (not-fresh i (λ first _ _. omega arith)) (omega (arith, min-le-right (i / w) (m - 1))))
+
+  past-all : (i : ℕ) → m * w + 2 ≤ i → getD done i (pos 0) ≡ getD lent i (pos 0)
+  past-all i h =
+      let top = mul-le-mul-right {m = e} {n = m} w (past-most ed b j m) in
+      ⊎-elim (λ first. past-filled (number b k e c) (a * w) (runLength a e w) moved i (omega (arith, run-end a e w first)))
+      (λ none. ap (λ l. getD l i (pos 0)) (none-filled (number b k e c) (a * w) (runLength a e w) moved (run-none a e w none)))
+      (either a e)
+      ∙ past-filled carried (e * w) (runLength e m w) lent i (omega (arith, moved-room))
+
+  pub worked : done ≡ filled wanted 0 (m * w + 2) lent
+  worked =
+      ext-getD (pos 0) done (filled wanted 0 (m * w + 2) lent) same-length
+      (λ i h.
+      ⊎-elim
+      (λ within. ⊎-elim (some-fresh i within) (none-fresh i within) (either a e) ∙ sym (in-filled wanted 0 (m * w + 2) lent i (omega arith) (omega arith) (omega arith)))
+      (λ beyond. past-all i beyond ∙ sym (past-filled wanted 0 (m * w + 2) lent i (omega arith)))
+      (either i (m * w + 2)))
+    where
+      same-length : length done ≡ length (filled wanted 0 (m * w + 2) lent)
+      same-length =
+          length-sets moved (a * w) (tab (number b k e c) (a * w) (runLength a e w))
+          ∙ length-sets lent (e * w) (tab carried (e * w) (runLength e m w))
+          ∙ sym (length-sets lent 0 (tab wanted 0 (m * w + 2)))

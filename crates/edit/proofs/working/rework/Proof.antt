@@ -1,0 +1,33 @@
+-- Where there is no span nothing is written; else the run is the spans'.
+use mathlib.Core.Path.{_≡_, refl, sym, ap, _∙_}
+use Prim.Native.Nat.{ℕ, _*_}
+use native.Mathlib.Omega.{arith}
+use borrow.Author.Needs.{needs}
+use Rattle.spans.specs.Numbers.{filled, number, perSpan}
+use Rattle.edit.specs.Carried.{runLength}
+use Rattle.edit.proofs.Worked.{none-filled, run-none, run-some}
+use Rattle.edit.proofs.working.rework.Statement.{statement}
+use Rattle.edit.proofs.working.rework.Tie as tie
+
+returns : tie.Need-returns
+returns c =
+    let a = c .before .args in
+    let w = perSpan (a .depth) in
+    sym (none-filled (number (a .basis) (a .depth) (a .past) (a .controls .now)) (a .first * w) (runLength (a .first) (a .past) w) (a .points .now) (run-none (a .first) (a .past) w (c .if1 .taken)))
+
+fill-spans-requires : tie.Need-fill-spans-requires
+fill-spans-requires c κs = search needs
+
+same-length : tie.Need-same-length
+same-length c = search needs
+
+returns-2 : tie.Need-returns-2
+returns-2 c =
+    let s = c .before .before .before in
+    let a = s .before .args in
+    let w = perSpan (a .depth) in
+    c .before .fill-spans .ensures
+    ∙ ap (λ (n : ℕ). filled (number (a .basis) (a .depth) (a .past) (a .controls .now)) (a .first * w) n (a .points .now)) (sym (run-some (a .first) (a .past) w (omega (arith, s))))
+
+pub rework-spec : {M : Type 1} → statement M
+rework-spec = tie.close (tie.spec returns fill-spans-requires same-length returns-2)

@@ -1,0 +1,81 @@
+-- What an edit comes to (document 01): the refusals in the order 1 to 9, then 16 over the outline asked for; or the new controls, the new points and the answer, with
+-- every number past the last control and past the last point as it was. For any contents of the lent points.
+use mathlib.Core.Bool.{Bool, not}
+use mathlib.Core.List.{List, [], _∷_, _++_}
+use Prim.Native.Nat.{ℕ, _*_, max}
+use lib.IntN.{ℤ}
+use lib.ListN.{length}
+use lib.Seq.{sets}
+use Rattle.shape.specs.declared.Shape.{Shape}
+use Rattle.shape.specs.declared.Plan.{Plan}
+use Rattle.shape.specs.declared.Refusal.{Refusal}
+use Rattle.shape.specs.declared.Listed.{Listed}
+use Rattle.shape.specs.declared.Listed.the-variants.{Fine, Bad}
+use Rattle.curve.specs.declared.Basis.{Basis}
+use Rattle.shape.specs.Refusals.{Row, row, judge, shapeRows, controlsRow, limitsRow, pointsRow, planOf}
+use Rattle.spans.specs.Numbers.{filled}
+use Rattle.outline.specs.Outline.{points, reachRow}
+use Rattle.edit.specs.declared.Edit.{Edit}
+use Rattle.edit.specs.declared.Change.{Change}
+use Rattle.edit.specs.declared.Edited.{Edited}
+use Rattle.edit.specs.declared.Edited.the-variants.{Done, Refused}
+use Rattle.edit.specs.Edits.{countAfter, offered, inRange, atTheEnd, newOutside, asked, freshFirst, freshCount, pointAt}
+
+-- The shape after an edit.
+abbrev pub shapeAfter : Edit → Shape → Shape
+shapeAfter e s = record { basis = s .basis; depth = s .depth; count = countAfter e (s .count) }
+
+-- Rows 4, 5, 6: what is asked.
+abbrev pub askRows : Edit → Basis → ℕ → ℕ → List Row
+askRows e b j n = row (not (offered e b)) 4 0 ∷ row (not (inRange e j n)) 5 j ∷ row (atTheEnd e n) 6 0 ∷ []
+
+unfoldable pub judgeAsk : Edit → Basis → ℕ → ℕ → Listed
+judgeAsk e b j n = judge (askRows e b j n) Bad Fine
+
+-- Rows 7, 8, 9: the lent lists, with room for the greater of the two counts and of the two numbers of points, and the new record, whose place is n.
+abbrev pub roomRows : Edit → ℕ → List ℤ → ℕ → ℕ → List Row
+roomRows e n controls most len =
+    controlsRow (max n (countAfter e n)) controls ∷ limitsRow n controls ∷ row (newOutside e) 8 n ∷ pointsRow most len ∷ []
+
+unfoldable pub judgeRoom : Edit → ℕ → List ℤ → ℕ → ℕ → Listed
+judgeRoom e n controls most len = judge (roomRows e n controls most len) Bad Fine
+
+-- Rows 4 to 9 and 16, for a sound shape with its plan p, and q the plan of the new shape.
+abbrev pub editRows : Edit → Shape → Plan → Plan → ℕ → List ℤ → List ℤ → List Row
+editRows e s p q j controls lent =
+    askRows e (p .basis) j (s .count)
+    ++ (roomRows e (s .count) controls (max (points p) (points q)) (length lent) ++ (reachRow q (asked e j controls (countAfter e (s .count))) ∷ []))
+
+-- The answer, and both lent lists as the call leaves them.
+pub record Outcome : Type 0 where
+  pub answer : Edited
+  pub controls : List ℤ
+  pub held : List ℤ
+
+abbrev pub outcome : Edited → List ℤ → List ℤ → Outcome
+outcome r controls lent = record { answer = r; controls = controls; held = lent }
+
+abbrev pub refuses : List ℤ → List ℤ → Refusal → Outcome
+refuses controls lent r = outcome (Refused r) controls lent
+
+-- The answer of an accepted edit: the new shape, the first span worked afresh and how many.
+abbrev pub change : Edit → Shape → Plan → ℕ → Change
+change e s q j = record { shape = shapeAfter e s; first = freshFirst e (q .basis) j (q .spans); fresh = freshCount e (q .basis) j (q .spans) }
+
+abbrev pub controlsAfter : Edit → Shape → ℕ → List ℤ → List ℤ
+controlsAfter e s j controls = sets controls 0 (asked e j controls (countAfter e (s .count)))
+
+abbrev pub pointsAfter : Edit → Shape → Plan → ℕ → List ℤ → List ℤ → List ℤ
+pointsAfter e s q j controls lent = filled (pointAt e (q .basis) (q .depth) j (q .spans) (asked e j controls (countAfter e (s .count))) lent) 0 (2 * points q) lent
+
+abbrev pub accepts : Edit → Shape → Plan → ℕ → List ℤ → List ℤ → Outcome
+accepts e s q j controls lent = outcome (Done (change e s q j)) (controlsAfter e s j controls) (pointsAfter e s q j controls lent)
+
+unfoldable pub editsPlan : Edit → Shape → Plan → Plan → ℕ → List ℤ → List ℤ → Outcome
+editsPlan e s p q j controls lent = judge (editRows e s p q j controls lent) (refuses controls lent) (accepts e s q j controls lent)
+
+unfoldable pub edits : Edit → Shape → ℕ → List ℤ → List ℤ → Outcome
+edits e s j controls lent =
+    let p = planOf s in
+    let q = planOf (shapeAfter e s) in
+    judge (shapeRows s ++ editRows e s p q j controls lent) (refuses controls lent) (accepts e s q j controls lent)

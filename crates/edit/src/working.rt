@@ -1,0 +1,52 @@
+// The points of an edited outline: the spans it names worked afresh, the others kept or carried.
+ghost use mathlib.Core.Path.{_≡_};
+ghost use Prim.Native.Nat.{_+_, _*_, _≤_};
+ghost use lib.ListN.{length};
+ghost use Rattle.curve.specs.Ways.{deepest};
+ghost use Rattle.spans.specs.Numbers.{filled, number, perSpan};
+ghost use Rattle.spans.specs.Ready.{Drawable};
+ghost use Rattle.edit.specs.Carried.{Carriable, runLength};
+ghost use Rattle.edit.specs.Edits.{pastFresh, pointAt};
+use crate::Edit;
+use crate::carrying::carry;
+use crate::counts::first_fresh;
+use crate::counts::past_fresh;
+use curve::Basis;
+use shape::Plan;
+use spans::run::Way;
+use spans::run::fill_spans;
+
+// The spans from `first` up to, and not with, `past`, where there are any.
+fn rework(
+    points: &mut [i32],
+    controls: &[i32],
+    basis: Basis,
+    depth: usize,
+    first: usize,
+    past: usize,
+)
+    requires { ⌜ (depth ≤ deepest) × Drawable basis past (now controls) ⌝ }
+    requires { ⌜ past * perSpan depth + 2 ≤ length (now points) ⌝ }
+    ensures { λ _. ⌜ now (points .exit) ≡ filled (number basis depth past (now (controls .entry))) (first * perSpan depth) (runLength first past (perSpan depth)) (now (points .entry)) ⌝ }
+{
+    if past <= first {
+        return;
+    }
+    fill_spans(Way::Weights, points, controls, basis, depth, first, past);
+}
+
+// All points of the outline that an edit asks for, from the points it was given: `plan` and `controls` are the new ones.
+pub fn work(edit: Edit, plan: Plan, place: usize, controls: &[i32], points: &mut [i32])
+    requires { ⌜ (plan .depth ≤ deepest) × (place ≤ 64) × (1 ≤ plan .spans) ⌝ }
+    requires { ⌜ Drawable (plan .basis) (plan .spans) (now controls) ⌝ }
+    requires { ⌜ plan .spans * perSpan (plan .depth) + 2 ≤ length (now points) ⌝ }
+    requires { ⌜ Carriable edit (pastFresh edit (plan .basis) place (plan .spans)) (plan .spans) (perSpan (plan .depth)) (length (now points)) ⌝ }
+    ensures { λ _. ⌜ now (points .exit) ≡ filled (pointAt edit (plan .basis) (plan .depth) place (plan .spans) (now (controls .entry)) (now (points .entry))) 0 (plan .spans * perSpan (plan .depth) + 2) (now (points .entry)) ⌝ }
+{
+    let basis = plan.basis;
+    let depth = plan.depth;
+    let first = first_fresh(edit, basis, place);
+    let past = past_fresh(edit, basis, place, plan.spans);
+    carry(edit, points, past, plan.spans, 2 * plan.steps());
+    rework(points, controls, basis, depth, first, past);
+}
