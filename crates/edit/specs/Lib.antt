@@ -1,3 +1,4 @@
 pub mod Edits
 pub mod Carried
 pub mod Reading
+pub mod Ready

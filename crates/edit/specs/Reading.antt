@@ -19,11 +19,15 @@ use Rattle.edit.specs.declared.Edit.{Edit}
 use Rattle.edit.specs.declared.Change.{Change}
 use Rattle.edit.specs.declared.Edited.{Edited}
 use Rattle.edit.specs.declared.Edited.the-variants.{Done, Refused}
-use Rattle.edit.specs.Edits.{countAfter, offered, inRange, atTheEnd, newOutside, asked, freshFirst, freshCount, pointAt}
+use Rattle.edit.specs.Edits.{countAfter, spansAfter, offered, inRange, atTheEnd, newOutside, asked, freshFirst, freshCount, pointAt}
 
 -- The shape after an edit.
 abbrev pub shapeAfter : Edit → Shape → Shape
 shapeAfter e s = record { basis = s .basis; depth = s .depth; count = countAfter e (s .count) }
+
+-- And the plan.
+abbrev pub planAfter : Edit → Plan → Plan
+planAfter e p = record { basis = p .basis; depth = p .depth; spans = spansAfter e (p .spans) }
 
 -- Rows 4, 5, 6: what is asked.
 abbrev pub askRows : Edit → Basis → ℕ → ℕ → List Row
@@ -58,9 +62,9 @@ outcome r controls lent = record { answer = r; controls = controls; held = lent 
 abbrev pub refuses : List ℤ → List ℤ → Refusal → Outcome
 refuses controls lent r = outcome (Refused r) controls lent
 
--- The answer of an accepted edit: the new shape, the first span worked afresh and how many.
-abbrev pub change : Edit → Shape → Plan → ℕ → Change
-change e s q j = record { shape = shapeAfter e s; first = freshFirst e (q .basis) j (q .spans); fresh = freshCount e (q .basis) j (q .spans) }
+-- The answer of an accepted edit: the new shape, the first span worked afresh and how many, of m in the new shape.
+abbrev pub change : Edit → Shape → Basis → ℕ → ℕ → Change
+change e s b j m = record { shape = shapeAfter e s; first = freshFirst e b j m; fresh = freshCount e b j m }
 
 abbrev pub controlsAfter : Edit → Shape → ℕ → List ℤ → List ℤ
 controlsAfter e s j controls = sets controls 0 (asked e j controls (countAfter e (s .count)))
@@ -69,10 +73,20 @@ abbrev pub pointsAfter : Edit → Shape → Plan → ℕ → List ℤ → List �
 pointsAfter e s q j controls lent = filled (pointAt e (q .basis) (q .depth) j (q .spans) (asked e j controls (countAfter e (s .count))) lent) 0 (2 * points q) lent
 
 abbrev pub accepts : Edit → Shape → Plan → ℕ → List ℤ → List ℤ → Outcome
-accepts e s q j controls lent = outcome (Done (change e s q j)) (controlsAfter e s j controls) (pointsAfter e s q j controls lent)
+accepts e s q j controls lent = outcome (Done (change e s (q .basis) j (q .spans))) (controlsAfter e s j controls) (pointsAfter e s q j controls lent)
 
 unfoldable pub editsPlan : Edit → Shape → Plan → Plan → ℕ → List ℤ → List ℤ → Outcome
 editsPlan e s p q j controls lent = judge (editRows e s p q j controls lent) (refuses controls lent) (accepts e s q j controls lent)
+
+-- The same from row 7 on, and for row 16 alone.
+unfoldable pub editsRoom : Edit → Shape → Plan → Plan → ℕ → List ℤ → List ℤ → Outcome
+editsRoom e s p q j controls lent =
+    judge (roomRows e (s .count) controls (max (points p) (points q)) (length lent) ++ (reachRow q (asked e j controls (countAfter e (s .count))) ∷ []))
+    (refuses controls lent)
+    (accepts e s q j controls lent)
+
+unfoldable pub editsLists : Edit → Shape → Plan → ℕ → List ℤ → List ℤ → Outcome
+editsLists e s q j controls lent = judge (reachRow q (asked e j controls (countAfter e (s .count))) ∷ []) (refuses controls lent) (accepts e s q j controls lent)
 
 unfoldable pub edits : Edit → Shape → ℕ → List ℤ → List ℤ → Outcome
 edits e s j controls lent =

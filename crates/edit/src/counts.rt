@@ -1,7 +1,7 @@
 // What an edit may do, and which spans it works afresh.
 ghost use mathlib.Core.Path.{_≡_};
-ghost use Prim.Native.Nat.{_-_, _≤_, _<_, min};
-ghost use Rattle.edit.specs.Edits.{atTheEnd, countAfter, firstFresh, firstUsing, inRange, lastUsing, newOutside, offered, pastFresh};
+ghost use Prim.Native.Nat.{_-_, _≤_, _<_, max, min};
+ghost use Rattle.edit.specs.Edits.{atTheEnd, countAfter, firstFresh, firstUsing, inRange, lastUsing, newOutside, offered, pastFresh, spansAfter};
 use crate::Edit;
 use curve::Basis;
 use curve::LIMIT;
@@ -16,6 +16,18 @@ pub fn count_after(edit: Edit, count: usize) -> usize
         Edit::Move(_, _) => count,
         Edit::Insert(_, _) => count + 1,
         Edit::Remove => count - 1,
+    }
+}
+
+// The spans after an edit.
+pub fn spans_after(edit: Edit, spans: usize) -> usize
+    requires { ⌜ (0 < spans) × (spans ≤ 64) ⌝ }
+    ensures { λ r. ⌜ r ≡ spansAfter edit spans ⌝ }
+{
+    match edit {
+        Edit::Move(_, _) => spans,
+        Edit::Insert(_, _) => spans + 1,
+        Edit::Remove => spans - 1,
     }
 }
 
@@ -82,13 +94,23 @@ pub fn is_new_outside(edit: Edit) -> bool
 }
 
 // Less, but not below zero.
-fn less(n: usize, by: usize) -> usize
+pub fn less(n: usize, by: usize) -> usize
     ensures { λ r. ⌜ r ≡ n - by ⌝ }
 {
     if n < by {
         return 0;
     }
     n - by
+}
+
+// The greater of two.
+pub fn greatest(a: usize, b: usize) -> usize
+    ensures { λ r. ⌜ r ≡ max a b ⌝ }
+{
+    if a < b {
+        return b;
+    }
+    a
 }
 
 // The smaller of two.

@@ -5,8 +5,39 @@ pub mod carrying;
 pub mod counts;
 pub mod working;
 
+ghost use mathlib.Core.Bool.{cond};
+ghost use mathlib.Core.Path.{_≡_};
+ghost use Prim.Native.Nat.{_≤_, max};
+ghost use lib.Dec.{ltb};
+ghost use lib.ListN.{length};
+ghost use Rattle.shape.specs.Good.{Good};
+ghost use Rattle.shape.specs.Refusals.{planOf};
+ghost use Rattle.shape.specs.Shape.{mostRecords, mostPoints};
+ghost use Rattle.edit.specs.Edits.{asked, countAfter};
+ghost use Rattle.edit.specs.Reading.{change, edits, editsLists, editsPlan, editsRoom, judgeAsk, judgeRoom, outcome, planAfter, shapeAfter};
+ghost use Rattle.edit.specs.Ready.{Editable, Workable};
+use asking::ask;
+use asking::copy_front;
+use counts::count_after;
+use counts::first_fresh;
+use counts::greatest;
+use counts::is_at_the_end;
+use counts::is_in_range;
+use counts::is_new_outside;
+use counts::is_offered;
+use counts::less;
+use counts::past_fresh;
+use counts::spans_after;
+use curve::Basis;
+use shape::Judged;
+use shape::Listed;
+use shape::Plan;
 use shape::Refusal;
 use shape::Shape;
+use shape::check_shape;
+use shape::first_outside;
+use spans::reach::first_far;
+use working::work;
 
 // What an edit does at its place: a new record there, a new one before it, or the record taken out.
 pub enum Edit {
@@ -25,4 +56,226 @@ pub struct Change {
 pub enum Edited {
     Done(Change),
     Refused(Refusal),
+}
+
+// Record `place` becomes (x, y), for every basis. The controls and all points of the outline stand in the lent lists, and the new ones do afterwards: the spans that use
+// the record are worked afresh, every other number keeps its value. A refusal changes nothing.
+pub fn move_record(
+    shape: Shape,
+    place: usize,
+    x: i32,
+    y: i32,
+    controls: &mut [i32],
+    points: &mut [i32],
+) -> Edited
+    ensures { λ r. ⌜ outcome r (now (controls .exit)) (now (points .exit)) ≡ edits (Edit.Move x y) shape place (now (controls .entry)) (now (points .entry)) ⌝ }
+{
+    edit_shape(Edit::Move(x, y), shape, place, controls, points)
+}
+
+// A new record (x, y) stands before record `place`, or last; for bases 2 and 3. The spans after the fresh ones are carried on by one span.
+pub fn insert_record(
+    shape: Shape,
+    place: usize,
+    x: i32,
+    y: i32,
+    controls: &mut [i32],
+    points: &mut [i32],
+) -> Edited
+    ensures { λ r. ⌜ outcome r (now (controls .exit)) (now (points .exit)) ≡ edits (Edit.Insert x y) shape place (now (controls .entry)) (now (points .entry)) ⌝ }
+{
+    edit_shape(Edit::Insert(x, y), shape, place, controls, points)
+}
+
+// Record `place` is taken out, for bases 2 and 3. The spans after the fresh ones are carried back by one span.
+pub fn remove_record(shape: Shape, place: usize, controls: &mut [i32], points: &mut [i32]) -> Edited
+    ensures { λ r. ⌜ outcome r (now (controls .exit)) (now (points .exit)) ≡ edits Edit.Remove shape place (now (controls .entry)) (now (points .entry)) ⌝ }
+{
+    edit_shape(Edit::Remove, shape, place, controls, points)
+}
+
+// The checks of the shape, rows 1 to 3, and the rest where they pass.
+fn edit_shape(
+    edit: Edit,
+    shape: Shape,
+    place: usize,
+    controls: &mut [i32],
+    points: &mut [i32],
+) -> Edited
+    ensures { λ r. ⌜ outcome r (now (controls .exit)) (now (points .exit)) ≡ edits edit shape place (now (controls .entry)) (now (points .entry)) ⌝ }
+{
+    match check_shape(shape) {
+        Judged::Unsound(refusal) => Edited::Refused(refusal),
+        Judged::Sound(plan) => edit_plan(edit, shape, plan, place, controls, points),
+    }
+}
+
+// What is asked, rows 4 to 6, and the rest where it may be done.
+fn edit_plan(
+    edit: Edit,
+    shape: Shape,
+    plan: Plan,
+    place: usize,
+    controls: &mut [i32],
+    points: &mut [i32],
+) -> Edited
+    requires { ⌜ Good shape plan ⌝ }
+    ensures { λ r. ⌜ outcome r (now (controls .exit)) (now (points .exit)) ≡ editsPlan edit shape plan (planOf (shapeAfter edit shape)) place (now (controls .entry)) (now (points .entry)) ⌝ }
+{
+    let basis = plan.basis;
+    match check_ask(edit, basis, place, shape.count) {
+        Listed::Bad(refusal) => Edited::Refused(refusal),
+        Listed::Fine => edit_room(edit, shape, plan, place, controls, points),
+    }
+}
+
+// The checks of the lent lists, rows 7 to 9, and the rest where they have room.
+fn edit_room(
+    edit: Edit,
+    shape: Shape,
+    plan: Plan,
+    place: usize,
+    controls: &mut [i32],
+    points: &mut [i32],
+) -> Edited
+    requires { ⌜ Editable edit shape plan place ⌝ }
+    ensures { λ r. ⌜ outcome r (now (controls .exit)) (now (points .exit)) ≡ editsRoom edit shape plan (planAfter edit plan) place (now (controls .entry)) (now (points .entry)) ⌝ }
+{
+    let basis = plan.basis;
+    let next = Plan {
+        basis,
+        depth: plan.depth,
+        spans: spans_after(edit, plan.spans),
+    };
+    let most = greatest(plan.points(), next.points());
+    match check_room(edit, shape.count, controls, most, points.len()) {
+        Listed::Bad(refusal) => Edited::Refused(refusal),
+        Listed::Fine => edit_lists(edit, shape, next, place, controls, points),
+    }
+}
+
+// The controls asked for, in a list of their own, and the rest of the call on them.
+fn edit_lists(
+    edit: Edit,
+    shape: Shape,
+    plan: Plan,
+    place: usize,
+    controls: &mut [i32],
+    points: &mut [i32],
+) -> Edited
+    requires { ⌜ Workable edit shape plan place (now controls) (length (now points)) ⌝ }
+    ensures { λ r. ⌜ outcome r (now (controls .exit)) (now (points .exit)) ≡ editsLists edit shape plan place (now (controls .entry)) (now (points .entry)) ⌝ }
+{
+    let count = count_after(edit, shape.count);
+    let mut next = [0i32; 128];
+    ask(edit, place, controls, count, &mut next);
+    edit_asked(
+        edit,
+        shape,
+        plan,
+        place,
+        &next[0..2 * count],
+        controls,
+        points,
+    )
+}
+
+// The look for row 16, and the new controls and points where it passes.
+fn edit_asked(
+    edit: Edit,
+    shape: Shape,
+    plan: Plan,
+    place: usize,
+    next: &[i32],
+    controls: &mut [i32],
+    points: &mut [i32],
+) -> Edited
+    requires { ⌜ Workable edit shape plan place (now controls) (length (now points)) ⌝ }
+    requires { ⌜ now next ≡ asked edit place (now controls) (countAfter edit (shape .count)) ⌝ }
+    ensures { λ r. ⌜ outcome r (now (controls .exit)) (now (points .exit)) ≡ editsLists edit shape plan place (now (controls .entry)) (now (points .entry)) ⌝ }
+{
+    let basis = plan.basis;
+    let spans = plan.spans;
+    let far = first_far(next, basis, plan.depth, spans);
+    if far < plan.points() {
+        return Edited::Refused(Refusal {
+            number: 16,
+            place: far,
+        });
+    }
+    copy_front(next, controls);
+    work(edit, plan, place, next, points);
+    Edited::Done(change_of(edit, shape, basis, place, spans))
+}
+
+// The answer of an accepted edit: `spans` is the number of the new shape.
+fn change_of(edit: Edit, shape: Shape, basis: Basis, place: usize, spans: usize) -> Change
+    requires { ⌜ (1 ≤ shape .count) × (shape .count ≤ mostRecords) × (place ≤ mostRecords) ⌝ }
+    ensures { λ r. ⌜ r ≡ change edit shape basis place spans ⌝ }
+{
+    let first = first_fresh(edit, basis, place);
+    let past = past_fresh(edit, basis, place, spans);
+    Change {
+        shape: Shape {
+            basis: shape.basis,
+            depth: shape.depth,
+            count: count_after(edit, shape.count),
+        },
+        first: named_first(first, past),
+        fresh: less(past, first),
+    }
+}
+
+// The first span worked afresh, or 0 where there is none.
+fn named_first(first: usize, past: usize) -> usize
+    ensures { λ r. ⌜ r ≡ cond (ltb first past) first 0 ⌝ }
+{
+    if first < past {
+        return first;
+    }
+    0
+}
+
+// A refusal, as the checks find it.
+fn refused(number: usize, place: usize) -> Listed
+    ensures { λ r. ⌜ r ≡ Listed.Bad (record { number = number; place = place }) ⌝ }
+{
+    Listed::Bad(Refusal { number, place })
+}
+
+// The checks of what is asked in the paper's order, 4, 5, 6.
+fn check_ask(edit: Edit, basis: Basis, place: usize, count: usize) -> Listed
+    ensures { λ r. ⌜ r ≡ judgeAsk edit basis place count ⌝ }
+{
+    if !is_offered(edit, basis) {
+        return refused(4, 0);
+    }
+    if !is_in_range(edit, place, count) {
+        return refused(5, place);
+    }
+    if is_at_the_end(edit, count) {
+        return refused(6, 0);
+    }
+    Listed::Fine
+}
+
+// The checks of the lent lists in the paper's order, 7, 8, 8 for the new record, 9.
+fn check_room(edit: Edit, count: usize, controls: &[i32], most: usize, len: usize) -> Listed
+    requires { ⌜ (1 ≤ count) × (count ≤ mostRecords) × (most ≤ mostPoints) ⌝ }
+    ensures { λ r. ⌜ r ≡ judgeRoom edit count (now (controls .entry)) most len ⌝ }
+{
+    if controls.len() < 2 * greatest(count, count_after(edit, count)) {
+        return refused(7, 0);
+    }
+    let outside = first_outside(controls, count);
+    if outside < count {
+        return refused(8, outside);
+    }
+    if is_new_outside(edit) {
+        return refused(8, count);
+    }
+    if len < 2 * most {
+        return refused(9, 0);
+    }
+    Listed::Fine
 }

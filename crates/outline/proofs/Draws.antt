@@ -2,8 +2,8 @@
 use mathlib.Core.Path.{_≡_, refl, sym, ap, _∙_, subst}
 use mathlib.Core.Bool.{true, false, cond}
 use mathlib.Core.List.{List, [], _∷_, _++_}
-use Prim.Native.Nat.{ℕ, _+_, _*_, _≤_, _<_}
-use native.Mathlib.Nat.{le-trans}
+use Prim.Native.Nat.{ℕ, _+_, _*_, _^_, _≤_, _<_}
+use native.Mathlib.Nat.{mul-left-comm}
 use native.Mathlib.Omega.{arith}
 use borrow.Author.Tests.{lt-ltb, le-ltb}
 use lib.Dec.{ltb}
@@ -17,8 +17,15 @@ use Rattle.shape.specs.declared.Listed.the-variants.{Fine, Bad}
 use Rattle.shape.specs.Good.{Good, Lent}
 use Rattle.shape.specs.Refusals.{judge, judgeShape, judgeLists, planOf}
 use Rattle.shape.proofs.Refusals.{sound, unsound, sound-plan, bad, fine, good-records, lent-inside}
+use Rattle.shape.specs.Shape.{pointsOf}
+use Rattle.spans.specs.Numbers.{perSpan}
 use Rattle.spans.specs.Ready.{Drawable}
 use Rattle.outline.specs.Outline.{Outcome, points, firstFar, reachRow, planRows, refuses, accepts, drawsPlan, draws}
+
+-- all points are the spans' numbers and the last end's
+pub all-numbers : (k m : ℕ) → 2 * pointsOf k m ≡ m * perSpan k + 2
+unfolding pointsOf
+all-numbers k m = omega (arith, mul-left-comm m 2 (2 ^ k))
 
 -- ---- rows 1, 2, 3
 

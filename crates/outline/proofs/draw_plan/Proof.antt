@@ -2,7 +2,7 @@
 use mathlib.Core.Path.{_≡_, refl, sym, ap, _∙_, subst}
 use mathlib.Core.List.{List}
 use Prim.Native.Nat.{ℕ, _+_, _*_, _-_, _^_, _≤_, _<_}
-use native.Mathlib.Nat.{zero-mul, mul-left-comm}
+use native.Mathlib.Nat.{zero-mul}
 use native.Mathlib.Omega.{arith}
 use borrow.Author.Needs.{needs}
 use lib.IntN.{ℤ}
@@ -10,7 +10,7 @@ use lib.ListN.{length}
 use Rattle.curve.specs.Ways.{deepest}
 use Rattle.shape.specs.declared.Plan.{Plan}
 use Rattle.shape.specs.declared.Listed.the-variants.{Fine, Bad}
-use Rattle.shape.specs.Shape.{mostPoints, mostRecords, pointsOf}
+use Rattle.shape.specs.Shape.{mostPoints, mostRecords}
 use Rattle.shape.specs.Refusals.{judgeLists}
 use Rattle.shape.specs.Good.{Lent}
 use Rattle.shape.proofs.Refusals.{fine-facts}
@@ -19,7 +19,7 @@ use Rattle.spans.specs.Numbers.{number, filled, perSpan}
 use Rattle.spans.specs.Ready.{Drawable}
 use Rattle.outline.specs.declared.Drawn.the-variants.{Points, Refused}
 use Rattle.outline.specs.Outline.{Outcome, outcome, numbers, points, firstFar, drawn}
-use Rattle.outline.proofs.Draws.{plan-bad, plan-far, plan-drawn, drawable}
+use Rattle.outline.proofs.Draws.{all-numbers, plan-bad, plan-far, plan-drawn, drawable}
 use Rattle.outline.proofs.draw_plan.Statement.{statement}
 use Rattle.outline.proofs.draw_plan.Tie as tie
 
@@ -69,11 +69,6 @@ returns-2 c =
     let far = c .before .first-far .ensures in
     ap (λ (n : ℕ). outcome (Refused (record { number = 16; place = n })) (a .points .now)) far
     ∙ sym (plan-far (a .shape .count) (a .plan) (a .controls .now) (a .points .now) (is-fine (c .before .before)) (omega (arith, far, c .before .before .before .before .before .points .ensures, c .if1 .taken)))
-
--- all points are the spans' numbers and the last end's
-all-numbers : (k m : ℕ) → 2 * pointsOf k m ≡ m * perSpan k + 2
-unfolding pointsOf
-all-numbers k m = omega (arith, mul-left-comm m 2 (2 ^ k))
 
 fill-spans-requires : tie.Need-fill-spans-requires
 fill-spans-requires c κs =

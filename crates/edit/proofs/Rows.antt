@@ -1,0 +1,312 @@
+-- What the rows of an edit that passed give: a sound new shape, its plan, and controls and points that it can be worked from.
+use mathlib.Core.Path.{_≡_, refl, sym, ap, _∙_, subst}
+use mathlib.Core.Bool.{Bool, true, false, not, cond, _||_}
+use mathlib.Core.Logic.{⊎-elim}
+use mathlib.Core.List.{List, [], _∷_, _++_}
+use Prim.Native.Nat.{ℕ, suc, _+_, _*_, _-_, _/_, _%_, _≤_, _<_, max, min}
+use native.Mathlib.Nat.{le-trans, le-max-left, le-max-right, suc-mul}
+use native.Mathlib.Omega.{arith}
+use borrow.Author.Tests.{not-false, ltb-true, ltb-false, leb-true, leb-false, eqb-true, eqb-false, lt-ltb, le-ltb}
+use lib.Dec.{ltb, leb, eqb}
+use lib.IntN.{ℤ, pos, natAbs}
+use lib.ListN.{drop, getD, length, take}
+use lib.Seq.{sets, sets-eq, take-at}
+use Rattle.curve.specs.declared.Basis.{Basis}
+use Rattle.curve.specs.declared.Basis.the-variants.{Bezier, BSpline, Cardinal, Hermite}
+use Rattle.curve.specs.Numbers.{tab}
+use Rattle.curve.specs.Limits.{beyond, limit}
+use Rattle.curve.specs.Span.{coordinate}
+use Rattle.curve.proofs.Tab.{length-tab, getD-tab}
+use Rattle.shape.specs.declared.Shape.{Shape}
+use Rattle.shape.specs.declared.Plan.{Plan}
+use Rattle.shape.specs.declared.Refusal.{Refusal}
+use Rattle.shape.specs.declared.Judged.the-variants.{Sound, Unsound}
+use Rattle.shape.specs.declared.Listed.the-variants.{Fine, Bad}
+use Rattle.shape.specs.Good.{Good, Lent}
+use Rattle.shape.specs.Shape.{spansOf, recordsOf, mostRecords}
+use Rattle.shape.specs.Refusals.{Row, NoRow, judge, judgeShape, judgeLists, listRows, planOf, outside}
+use Rattle.shape.proofs.Tests.{passes, true-is-not-false, or-false}
+use Rattle.shape.proofs.Refusals.{sound, unsound, sound-plan, rows-none, rows-bad, rows-fine, none-fine, fine-facts}
+use Rattle.shape.proofs.Spans.{spans-records, spans-below}
+use Rattle.spans.specs.Numbers.{perSpan}
+use Rattle.spans.specs.Ready.{Drawable}
+use Rattle.outline.specs.Outline.{points, firstFar, reachRow}
+use Rattle.outline.proofs.Draws.{all-numbers, drawable}
+use Rattle.edit.specs.declared.Edit.{Edit}
+use Rattle.edit.specs.declared.Edit.the-variants.{Move, Insert, Remove}
+use Rattle.edit.specs.Edits.{countAfter, spansAfter, offered, inRange, atTheEnd, newOutside, choose, controlAt, asked, pastFresh}
+use Rattle.edit.specs.Carried.{Carriable}
+use Rattle.edit.specs.Reading.{shapeAfter, planAfter, askRows, judgeAsk, roomRows, judgeRoom, editRows, Outcome, refuses, accepts, editsPlan, editsRoom, editsLists, edits}
+use Rattle.edit.specs.Ready.{Editable, Workable}
+use Rattle.edit.proofs.Worked.{either}
+
+-- ---- the new shape
+
+-- insert and remove are of the splines, whose records are three more than their spans
+spans-then : (e : Edit) (b : Basis) (m : ℕ) → offered e b ≡ true → 1 ≤ m → spansOf b (countAfter e (recordsOf b m)) ≡ spansAfter e m
+unfolding spansOf recordsOf
+spans-then (Move x y) b m o h = spans-records b m
+spans-then (Insert x y) Bezier m o h = absurd (true-is-not-false o refl)
+spans-then (Insert x y) BSpline m o h = omega arith
+spans-then (Insert x y) Cardinal m o h = omega arith
+spans-then (Insert x y) Hermite m o h = absurd (true-is-not-false o refl)
+spans-then Remove Bezier m o h = absurd (true-is-not-false o refl)
+spans-then Remove BSpline m o h = omega arith
+spans-then Remove Cardinal m o h = omega arith
+spans-then Remove Hermite m o h = absurd (true-is-not-false o refl)
+
+records-then : (e : Edit) (b : Basis) (m : ℕ) → offered e b ≡ true → 1 ≤ m → recordsOf b (spansAfter e m) ≡ countAfter e (recordsOf b m)
+unfolding recordsOf
+records-then (Move x y) b m o h = refl
+records-then (Insert x y) Bezier m o h = absurd (true-is-not-false o refl)
+records-then (Insert x y) BSpline m o h = omega arith
+records-then (Insert x y) Cardinal m o h = omega arith
+records-then (Insert x y) Hermite m o h = absurd (true-is-not-false o refl)
+records-then Remove Bezier m o h = absurd (true-is-not-false o refl)
+records-then Remove BSpline m o h = omega arith
+records-then Remove Cardinal m o h = omega arith
+records-then Remove Hermite m o h = absurd (true-is-not-false o refl)
+
+-- more than four records are more than one span
+spans-left : (e : Edit) (b : Basis) (m : ℕ) → offered e b ≡ true → 1 ≤ m → atTheEnd e (recordsOf b m) ≡ false → 1 ≤ spansAfter e m
+unfolding recordsOf
+spans-left (Move x y) b m o h t = h
+spans-left (Insert x y) b m o h t = omega arith
+spans-left Remove Bezier m o h t = absurd (true-is-not-false o refl)
+spans-left Remove BSpline m o h t = omega (arith, leb-false (m + 3) 4 t)
+spans-left Remove Cardinal m o h t = omega (arith, leb-false (m + 3) 4 t)
+spans-left Remove Hermite m o h t = absurd (true-is-not-false o refl)
+
+count-most : (e : Edit) (n : ℕ) → n ≤ mostRecords → atTheEnd e n ≡ false → countAfter e n ≤ mostRecords
+count-most (Move x y) n h t = h
+count-most (Insert x y) n h t = omega (arith, leb-false mostRecords n t)
+count-most Remove n h t = omega arith
+
+pub count-near : (e : Edit) (n : ℕ) → countAfter e n ≤ n + 1
+count-near (Move x y) n = omega arith
+count-near (Insert x y) n = omega arith
+count-near Remove n = omega arith
+
+place-most : (e : Edit) (j n : ℕ) → n ≤ mostRecords → inRange e j n ≡ true → j ≤ mostRecords
+place-most (Move x y) j n h t = omega (arith, ltb-true j n t)
+place-most (Insert x y) j n h t = omega (arith, leb-true j n t)
+place-most Remove j n h t = omega (arith, ltb-true j n t)
+
+module _ (e : Edit) (s : Shape) (p : Plan) (j : ℕ) (ok : Editable e s p j) where
+  abbrev good : Good s p
+  good = ok .good
+
+  at-end : atTheEnd e (recordsOf (p .basis) (p .spans)) ≡ false
+  at-end = ap (atTheEnd e) (good .records) ∙ ok .notAtTheEnd
+
+  pub good-after : Good (shapeAfter e s) (planAfter e p)
+  good-after =
+      let b = p .basis in
+      let m = p .spans in
+      let left = spans-left e b m (ok .offered) (good .spans-least) at-end in
+      let records = records-then e b m (ok .offered) (good .spans-least) ∙ ap (countAfter e) (good .records) in
+      record {
+        basis = good .basis;
+        basis-least = good .basis-least;
+        basis-most = good .basis-most;
+        depth = good .depth;
+        depth-most = good .depth-most;
+        spans-least = left;
+        spans-most = subst (λ n. spansAfter e m + 3 ≤ n) records (spans-below b (spansAfter e m) left);
+        records = records;
+        records-most = count-most e (s .count) (good .records-most) (ok .notAtTheEnd);
+      }
+
+  pub plan-after : planOf (shapeAfter e s) ≡ planAfter e p
+  unfolding planOf
+  plan-after =
+      let m = p .spans in
+      let spans : spansOf (p .basis) (countAfter e (s .count)) ≡ spansAfter e m =
+      ap (λ (n : ℕ). spansOf (p .basis) (countAfter e n)) (sym (good .records)) ∙ spans-then e (p .basis) m (ok .offered) (good .spans-least) in
+      ap (λ b. plan b (s .depth) (spansOf b (countAfter e (s .count)))) (sym (good .basis))
+      ∙ ap (λ (k : ℕ). plan (p .basis) k (spansOf (p .basis) (countAfter e (s .count)))) (sym (good .depth))
+      ∙ ap (plan (p .basis) (p .depth)) spans
+    where
+      plan : Basis → ℕ → ℕ → Plan
+      plan b k m = record { basis = b; depth = k; spans = m }
+
+-- ---- the controls asked for are inside the limits
+
+either-way : (P : ℤ → Type 0) (t : Bool) (x y : ℤ) → (t ≡ true → P x) → (t ≡ false → P y) → P (cond t x y)
+either-way P true x y f g = f refl
+either-way P false x y f g = g refl
+
+abbrev Small : ℤ → Type 0
+Small z = natAbs z ≤ limit
+
+chosen : (axis : ℕ) (x y : ℤ) → Small x → Small y → Small (choose axis x y)
+chosen axis x y h k = either-way Small (eqb axis 0) x y (λ _. h) (λ _. k)
+
+new-small : (x y : ℤ) → (beyond limit x || beyond limit y) ≡ false → Small x × Small y
+new-small x y t = let (h, k) = or-false (beyond limit x) (beyond limit y) t in (ltb-false limit (natAbs x) h, ltb-false limit (natAbs y) k)
+
+-- each number of the new controls is an old one or the new record's
+control-small : (e : Edit) (j n : ℕ) (old : List ℤ) → ((q : ℕ) → q < 2 * n → Small (getD old q (pos 0))) → newOutside e ≡ false → inRange e j n ≡ true
+    → (q : ℕ) → q < 2 * countAfter e n → Small (controlAt e j old q)
+control-small (Move x y) j n old small new range q h =
+    let (hx, hy) = new-small x y new in
+    either-way Small (eqb (q / 2) j) (choose (q % 2) x y) (getD old q (pos 0)) (λ _. chosen (q % 2) x y hx hy) (λ _. small q h)
+control-small (Insert x y) j n old small new range q h =
+    let (hx, hy) = new-small x y new in
+    let last = leb-true j n range in
+    either-way Small (ltb (q / 2) j) (getD old q (pos 0)) (cond (eqb (q / 2) j) (choose (q % 2) x y) (getD old (q - 2) (pos 0)))
+    (λ t. let before = ltb-true (q / 2) j t in small q (omega arith))
+    (λ f.
+    let from = ltb-false (q / 2) j f in
+    either-way Small (eqb (q / 2) j) (choose (q % 2) x y) (getD old (q - 2) (pos 0)) (λ _. chosen (q % 2) x y hx hy) (λ g. let past : j < q / 2 = ⊎-elim (λ (l : j < q / 2). l) (λ (l : q / 2 ≤ j). absurd (eqb-false (q / 2) j g (omega arith))) (either j (q / 2)) in small (q - 2) (omega arith)))
+control-small Remove j n old small new range q h =
+    let last = ltb-true j n range in
+    either-way Small (ltb (q / 2) j) (getD old q (pos 0)) (getD old (q + 2) (pos 0)) (λ t. small q (omega arith)) (λ t. small (q + 2) (omega arith))
+
+-- every number of records inside the limits
+number-small : (n : ℕ) (controls : List ℤ) (k len : ℕ) → Lent n controls k len → (q : ℕ) → q < 2 * n → Small (getD controls q (pos 0))
+unfolding coordinate
+number-small n controls k len lent q h = ⊎-elim (λ t. even (eqb-true (q % 2) 0 t)) (λ t. odd (eqb-false (q % 2) 0 t)) (passes (eqb (q % 2) 0))
+  where
+    even : q % 2 ≡ 0 → Small (getD controls q (pos 0))
+    even t = let e : 2 * (q / 2) + 0 ≡ q = omega arith in subst (λ (i : ℕ). Small (getD controls i (pos 0))) e (lent .x (q / 2) (omega arith))
+
+    odd : (q % 2 ≡ 0 → ⊥) → Small (getD controls q (pos 0))
+    odd t = let e : 2 * (q / 2) + 1 ≡ q = ⊎-elim (λ (g : q % 2 < 1). absurd (t (omega arith))) (λ (g : 1 ≤ q % 2). omega arith) (either (q % 2) 1) in subst (λ (i : ℕ). Small (getD controls i (pos 0))) e (lent .y (q / 2) (omega arith))
+
+pub length-asked : (e : Edit) (j : ℕ) (old : List ℤ) (n : ℕ) → length (asked e j old n) ≡ 2 * n
+unfolding asked
+length-asked e j old n = length-tab (controlAt e j old) 0 (2 * n)
+
+-- a list's front that was written with them is them
+pub front-asked : (e : Edit) (j : ℕ) (old : List ℤ) (n : ℕ) (l : List ℤ) → 2 * n ≤ length l → take (2 * n - 0) (sets l 0 (asked e j old n)) ≡ asked e j old n
+front-asked e j old n l h =
+    let vs = asked e j old n in
+    let fits : 0 + length vs ≤ length l = omega (arith, length-asked e j old n) in
+    let all : length vs ≡ 2 * n - 0 = omega (arith, length-asked e j old n) in
+    ap (take (2 * n - 0)) (sets-eq vs l 0 fits) ∙ take-at vs (drop (0 + length vs) l) (2 * n - 0) all
+
+-- each carried span has its neighbour in the list
+carriable-by : (e : Edit) (b : Basis) (j m w len : ℕ) → 1 ≤ m → 1 ≤ spansAfter e m → m * w + 2 ≤ len → spansAfter e m * w + 2 ≤ len → Carriable e (pastFresh e b j (spansAfter e m)) (spansAfter e m) w len
+carriable-by (Move x y) b j m w len some left old new = tt
+carriable-by (Insert x y) b j m w len some left old new = (omega arith, new)
+carriable-by Remove b j m w len some left old new =
+    let back : suc (m - 1) ≡ m = omega arith in
+    omega (arith, suc-mul (m - 1) w, ap (λ (n : ℕ). n * w) back)
+
+-- ---- rows 7, 8, 9
+
+module _ (e : Edit) (s : Shape) (p : Plan) (j : ℕ) (ok : Editable e s p j) (controls : List ℤ) (len : ℕ)
+    (fine : judgeRoom e (s .count) controls (max (points p) (points (planAfter e p))) len ≡ Fine) where
+  abbrev n : ℕ
+  n = s .count
+
+  abbrev q : Plan
+  q = planAfter e p
+
+  abbrev most : ℕ
+  most = max (points p) (points q)
+
+  none : NoRow (roomRows e n controls most len)
+  unfolding judgeRoom
+  none = rows-none (roomRows e n controls most len) fine
+
+  -- the old records, by the shared rows
+  old : Lent n controls 0 len
+  old =
+      fine-facts n controls 0 len
+      (none-fine n controls 0 len (le-ltb (length controls) (2 * n) (omega (arith, ltb-false (length controls) (2 * max n (countAfter e n)) (none .0), le-max-left n (countAfter e n))), (none .1 .0, (le-ltb len (2 * 0) (omega arith), tt))))
+
+  -- the new ones
+  new : Lent (countAfter e n) (asked e j controls (countAfter e n)) 0 len
+  unfolding asked coordinate
+  new =
+      let after = countAfter e n in
+      let at : (i : ℕ) → i < 2 * after → Small (getD (tab (controlAt e j controls) 0 (2 * after)) i (pos 0)) =
+      λ i h. subst Small (sym (getD-tab (controlAt e j controls) 0 (2 * after) i h (pos 0))) (control-small e j n controls (number-small n controls 0 len old) (none .1 .1 .0) (ok .inRange) (0 + i) (omega arith)) in
+      record {
+        room = omega (arith, length-tab (controlAt e j controls) 0 (2 * after));
+        x = λ r h. at (2 * r + 0) (omega arith);
+        y = λ r h. at (2 * r + 1) (omega arith);
+        points-room = omega arith;
+      }
+
+  points-fit : 2 * max (points p) (points q) ≤ len
+  points-fit = ltb-false len (2 * max (points p) (points q)) (none .1 .1 .1 .0)
+
+  old-fits : p .spans * perSpan (p .depth) + 2 ≤ len
+  old-fits = omega (arith, all-numbers (p .depth) (p .spans), points-fit, le-max-left (points p) (points q))
+
+  new-fits : spansAfter e (p .spans) * perSpan (p .depth) + 2 ≤ len
+  new-fits = omega (arith, all-numbers (p .depth) (spansAfter e (p .spans)), points-fit, le-max-right (points p) (points q))
+
+  pub workable : Workable e s q j controls len
+  workable =
+      record {
+        good = good-after e s p j ok;
+        least = omega (arith, ok .good .spans-most);
+        most = ok .good .records-most;
+        place = place-most e j n (ok .good .records-most) (ok .inRange);
+        room = omega (arith, ltb-false (length controls) (2 * max n (countAfter e n)) (none .0), le-max-right n (countAfter e n));
+        drawable = drawable (shapeAfter e s) q (good-after e s p j ok) (asked e j controls (countAfter e n)) 0 len new;
+        points-room = new-fits;
+        carriable = carriable-by e (p .basis) j (p .spans) (perSpan (p .depth)) len (ok .good .spans-least) (good-after e s p j ok .spans-least) old-fits new-fits;
+      }
+
+-- ---- the reading, row by row
+
+-- rows 1, 2, 3
+pub edits-unsound : (e : Edit) (s : Shape) (r : Refusal) → judgeShape s ≡ Unsound r → (j : ℕ) (controls lent : List ℤ) → edits e s j controls lent ≡ refuses controls lent r
+unfolding edits
+edits-unsound e s r t j controls lent =
+    let q = planOf (shapeAfter e s) in unsound s r t (editRows e s (planOf s) q j controls lent) (refuses controls lent) (accepts e s q j controls lent)
+
+pub edits-sound : (e : Edit) (s : Shape) (p : Plan) → judgeShape s ≡ Sound p → (j : ℕ) (controls lent : List ℤ) → edits e s j controls lent ≡ editsPlan e s p (planOf (shapeAfter e s)) j controls lent
+unfolding edits editsPlan
+edits-sound e s p t j controls lent =
+    let q = planOf (shapeAfter e s) in
+    sound s p t (editRows e s (planOf s) q j controls lent) (refuses controls lent) (accepts e s q j controls lent)
+    ∙ ap (λ r. editsPlan e s r q j controls lent) (sym (sound-plan s p t))
+
+module _ (e : Edit) (s : Shape) (p : Plan) (j : ℕ) (controls lent : List ℤ) where
+  abbrev reach : Plan → List Row
+  reach q = reachRow q (asked e j controls (countAfter e (s .count))) ∷ []
+
+  -- rows 4, 5, 6
+  pub plan-bad : (q : Plan) (r : Refusal) → judgeAsk e (p .basis) j (s .count) ≡ Bad r → editsPlan e s p q j controls lent ≡ refuses controls lent r
+  unfolding editsPlan judgeAsk
+  plan-bad q r t =
+      rows-bad (askRows e (p .basis) j (s .count)) r t (roomRows e (s .count) controls (max (points p) (points q)) (length lent) ++ reach q) (refuses controls lent) (accepts e s q j controls lent)
+
+  pub editable : Good s p → judgeAsk e (p .basis) j (s .count) ≡ Fine → Editable e s p j
+  unfolding judgeAsk
+  editable good t =
+      let h = rows-none (askRows e (p .basis) j (s .count)) t in
+      record { good = good; offered = not-false (offered e (p .basis)) (h .0); inRange = not-false (inRange e j (s .count)) (h .1 .0); notAtTheEnd = h .1 .1 .0 }
+
+  pub plan-fine : (q : Plan) → judgeAsk e (p .basis) j (s .count) ≡ Fine → editsPlan e s p q j controls lent ≡ editsRoom e s p q j controls lent
+  unfolding editsPlan judgeAsk editsRoom
+  plan-fine q t =
+      rows-fine (askRows e (p .basis) j (s .count)) t (roomRows e (s .count) controls (max (points p) (points q)) (length lent) ++ reach q) (refuses controls lent) (accepts e s q j controls lent)
+
+  -- rows 7, 8, 9
+  pub room-bad : (q : Plan) (r : Refusal) → judgeRoom e (s .count) controls (max (points p) (points q)) (length lent) ≡ Bad r → editsRoom e s p q j controls lent ≡ refuses controls lent r
+  unfolding editsRoom judgeRoom
+  room-bad q r t = rows-bad (roomRows e (s .count) controls (max (points p) (points q)) (length lent)) r t (reach q) (refuses controls lent) (accepts e s q j controls lent)
+
+  pub room-fine : (q : Plan) → judgeRoom e (s .count) controls (max (points p) (points q)) (length lent) ≡ Fine → editsRoom e s p q j controls lent ≡ editsLists e s q j controls lent
+  unfolding editsRoom judgeRoom editsLists
+  room-fine q t = rows-fine (roomRows e (s .count) controls (max (points p) (points q)) (length lent)) t (reach q) (refuses controls lent) (accepts e s q j controls lent)
+
+-- row 16
+module _ (e : Edit) (s : Shape) (q : Plan) (j : ℕ) (controls lent : List ℤ) where
+  abbrev far : ℕ
+  far = firstFar q (asked e j controls (countAfter e (s .count)))
+
+  pub lists-far : far < points q → editsLists e s q j controls lent ≡ refuses controls lent (record { number = 16; place = far })
+  unfolding editsLists judge
+  lists-far h = ap (λ b. cond b (refuses controls lent (record { number = 16; place = far })) (accepts e s q j controls lent)) (lt-ltb far (points q) h)
+
+  pub lists-near : points q ≤ far → editsLists e s q j controls lent ≡ accepts e s q j controls lent
+  unfolding editsLists judge
+  lists-near h = ap (λ b. cond b (refuses controls lent (record { number = 16; place = far })) (accepts e s q j controls lent)) (le-ltb far (points q) h)

@@ -1,0 +1,35 @@
+-- What a caller knows once the checks of an edit have passed.
+use mathlib.Core.Bool.{true, false}
+use mathlib.Core.List.{List}
+use mathlib.Core.Path.{_≡_}
+use Prim.Native.Nat.{ℕ, _+_, _*_, _≤_}
+use lib.IntN.{ℤ}
+use lib.ListN.{length}
+use Rattle.shape.specs.declared.Shape.{Shape}
+use Rattle.shape.specs.declared.Plan.{Plan}
+use Rattle.shape.specs.Good.{Good}
+use Rattle.shape.specs.Shape.{mostRecords}
+use Rattle.spans.specs.Numbers.{perSpan}
+use Rattle.spans.specs.Ready.{Drawable}
+use Rattle.edit.specs.declared.Edit.{Edit}
+use Rattle.edit.specs.Edits.{countAfter, offered, inRange, atTheEnd, pastFresh, asked}
+use Rattle.edit.specs.Carried.{Carriable}
+use Rattle.edit.specs.Reading.{shapeAfter}
+
+-- Rows 1 to 6 passed.
+pub record Editable (e : Edit) (s : Shape) (p : Plan) (j : ℕ) : Type 0 where
+  pub good : Good s p
+  pub offered : offered e (p .basis) ≡ true
+  pub inRange : inRange e j (s .count) ≡ true
+  pub notAtTheEnd : atTheEnd e (s .count) ≡ false
+
+-- Rows 1 to 9 passed: q is the plan of the new shape, and `len` the numbers of the lent points.
+pub record Workable (e : Edit) (s : Shape) (q : Plan) (j : ℕ) (controls : List ℤ) (len : ℕ) : Type 0 where
+  pub good : Good (shapeAfter e s) q
+  pub least : 1 ≤ s .count
+  pub most : s .count ≤ mostRecords
+  pub place : j ≤ mostRecords
+  pub room : 2 * countAfter e (s .count) ≤ length controls
+  pub drawable : Drawable (q .basis) (q .spans) (asked e j controls (countAfter e (s .count)))
+  pub points-room : q .spans * perSpan (q .depth) + 2 ≤ len
+  pub carriable : Carriable e (pastFresh e (q .basis) j (q .spans)) (q .spans) (perSpan (q .depth)) len
