@@ -1,3 +1,5 @@
 pub mod Words
 pub mod Records
 pub mod Filling
+pub mod Outside
+pub mod Readings
