@@ -3,3 +3,5 @@ pub mod Records
 pub mod Filling
 pub mod Outside
 pub mod Readings
+pub mod RoundTrip
+pub mod Unique

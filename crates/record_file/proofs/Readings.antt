@@ -1,6 +1,6 @@
 -- The table of a file is read part by part: where the length and the records pass, what is left of it decides. "Exactly when": an answer that refuses is never one that
 -- accepts, so each is given at its own rows alone.
-use mathlib.Core.Path.{_≡_, refl, sym, ap, _∙_}
+use mathlib.Core.Path.{_≡_, ap, _∙_}
 use mathlib.Core.List.{List, [], _∷_, _++_}
 use Prim.Native.Nat.{ℕ}
 use native.Mathlib.Omega.{arith}

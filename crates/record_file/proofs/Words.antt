@@ -1,11 +1,11 @@
 -- Words of 32 bits as two's complement: from 2^31 on, a word less 2^32 is a number below zero whose size is what lacks to 2^32.
 use mathlib.Core.Path.{_≡_, ap, _∙_}
-use Prim.Native.Nat.{ℕ, suc, _+_, _-_, _^_, _≤_, _<_}
+use Prim.Native.Nat.{ℕ, suc, _-_, _^_, _≤_, _<_}
 use native.Mathlib.Omega.{arith}
 use borrow.Author.Tests.{lt-ltb, le-ltb}
-use lib.IntN.{ℤ, pos, negsuc, _-ℤ_}
-use mir.Syntax.{w32, w64}
-use mir.Val.{SFits, toZ}
+use lib.IntN.{pos, negsuc, _-ℤ_}
+use mir.Syntax.{w64}
+use mir.Val.{toZ}
 use Rattle.whole.proofs.Order.{subℕ-negsuc}
 use Rattle.record_file.specs.Format.{signed}
 

@@ -1,8 +1,8 @@
 -- What reading a record file answers and leaves: the refusal table's rows in the order of document 01 (3 for the length, 13, then record by record 14 and 15, then
 -- 1, 2, 3 for the shape, 7, 8), and one total reading over them. Definitions only.
-use mathlib.Core.Bool.{Bool, not, cond, _&&_, _||_}
+use mathlib.Core.Bool.{not, cond, _&&_, _||_}
 use mathlib.Core.List.{List, [], _∷_, _++_}
-use Prim.Native.Nat.{ℕ, zero, suc, _*_, _/_, _%_}
+use Prim.Native.Nat.{ℕ, zero, suc, _/_, _%_}
 use lib.Dec.{ltb, eqb}
 use lib.IntN.{ℤ}
 use lib.ListN.{length}

@@ -101,10 +101,7 @@ fn check_records(file: &[u8], count: usize) -> Listed
     while i < count {
         let number = fault_of(file, i);
         if number != 0 {
-            return Listed::Bad(Refusal {
-                number,
-                place: i,
-            });
+            return Listed::Bad(Refusal { number, place: i });
         }
         i += 1;
     }

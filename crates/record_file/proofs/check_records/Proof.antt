@@ -1,6 +1,6 @@
 -- At each turn the rows still to be looked at decide as the whole table does: a record without a fault takes its two rows off, and one with a fault ends it.
 use mathlib.Core.Path.{_≡_, sym, ap, _∙_}
-use Prim.Native.Nat.{ℕ, _+_, _*_, _-_, _≤_, _<_}
+use Prim.Native.Nat.{ℕ, _-_, _≤_}
 use native.Mathlib.Omega.{arith}
 use Rattle.shape.specs.declared.Listed.the-variants.{Fine, Bad}
 use Rattle.shape.specs.Refusals.{judge}
@@ -8,9 +8,6 @@ use Rattle.record_file.specs.Rows.{recordRows}
 use Rattle.record_file.proofs.Records.{faulty, faultless, no-more}
 use Rattle.record_file.proofs.check_records.Statement.{statement}
 use Rattle.record_file.proofs.check_records.Tie as tie
-use Rattle.record_file.proofs.check_records.Reads as reads
-use Rattle.record_file.proofs.check_records.Lts as lts
-use Rattle.record_file.proofs.fault_of.Reads as fault-of-reads
 
 abbrev Inv-loop : tie.InvT-loop
 Inv-loop file count i₀ i = (i ≤ count) × (judge (recordRows file i (count - i)) Bad Fine ≡ judge (recordRows file 0 count) Bad Fine)

@@ -8,9 +8,6 @@ use Rattle.record_file.specs.Format.{word}
 use borrow.Author.Needs.{needs}
 use Rattle.record_file.proofs.coordinate.Statement.{statement}
 use Rattle.record_file.proofs.coordinate.Tie as tie
-use Rattle.record_file.proofs.coordinate.Reads as reads
-use Rattle.record_file.proofs.coordinate.Lts as lts
-use Rattle.record_file.proofs.signed_word.Reads as signed-word-reads
 
 shared-slice-read-a : tie.Need-shared-slice-read-a
 shared-slice-read-a c = search needs

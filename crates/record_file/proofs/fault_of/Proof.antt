@@ -11,8 +11,6 @@ use Rattle.record_file.specs.Rows.{fault}
 use borrow.Author.Needs.{needs}
 use Rattle.record_file.proofs.fault_of.Statement.{statement}
 use Rattle.record_file.proofs.fault_of.Tie as tie
-use Rattle.record_file.proofs.fault_of.Reads as reads
-use Rattle.record_file.proofs.fault_of.Lts as lts
 
 -- the two rows over the bytes as the code looks at them
 abbrev rows : ℕ → ℕ → ℕ → ℕ → ℕ → ℕ → ℕ

@@ -1,9 +1,8 @@
 -- Each return is where a row is the first that holds, or where what is left of the table is the callee's.
 use mathlib.Core.Path.{_≡_, refl, sym, _∙_}
-use mathlib.Core.Bool.{false, not, _||_}
+use mathlib.Core.Bool.{false, _||_}
 use mathlib.Core.Logic.{inl, inr}
 use Prim.Native.Nat.{ℕ, _%_, _≤_}
-use native.Mathlib.Omega.{arith}
 use borrow.Author.Tests.{eq-eqb, ne-eqb, lt-ltb, le-ltb}
 use lib.Dec.{ltb, eqb}
 use lib.ListN.{length}
@@ -13,10 +12,6 @@ use Rattle.record_file.proofs.Readings.{lengthRows, length-fails, recor
 use borrow.Author.Needs.{needs}
 use Rattle.record_file.proofs.read.Statement.{statement}
 use Rattle.record_file.proofs.read.Tie as tie
-use Rattle.record_file.proofs.read.Reads as reads
-use Rattle.record_file.proofs.read.Lts as lts
-use Rattle.record_file.proofs.check_records.Reads as check-records-reads
-use Rattle.record_file.proofs.read_records.Reads as read-records-reads
 
 -- row 3 for the length did not hold
 length-passed : (n : ℕ) → (n ≡ 0 → ⊥) → n ≤ mostBytes → (eqb n 0 || ltb mostBytes n) ≡ false

@@ -7,8 +7,8 @@ use Prim.Native.Nat.{ℕ, _*_, _≤_, _<_}
 use native.Mathlib.Omega.{arith}
 use borrow.Author.Tests.{lt-ltb, le-ltb}
 use lib.Dec.{ltb}
-use lib.IntN.{ℤ, pos}
-use lib.ListN.{length, replicate}
+use lib.IntN.{ℤ}
+use lib.ListN.{length}
 use lib.Seq.{sets}
 use Rattle.curve.proofs.Tab.{length-tab}
 use Rattle.shape.specs.declared.Shape.{Shape}
@@ -21,10 +21,6 @@ use Rattle.record_file.proofs.Outside.{outside-written}
 use borrow.Author.Needs.{needs}
 use Rattle.record_file.proofs.read_numbers.Statement.{statement}
 use Rattle.record_file.proofs.read_numbers.Tie as tie
-use Rattle.record_file.proofs.read_numbers.Reads as reads
-use Rattle.record_file.proofs.read_numbers.Lts as lts
-use Rattle.record_file.proofs.write_numbers.Reads as write-numbers-reads
-use Rattle.shape.proofs.first_outside.Reads as first-outside-reads
 
 abbrev accepted : List ℕ → Shape → List ℤ → Outcome
 accepted file s controls = both (Read s) (sets controls 0 (numbers file (s .count)))

@@ -1,15 +1,11 @@
 -- The shape's rows decide, or leave the rest of the table to the callee.
-use mathlib.Core.Path.{_≡_, sym, _∙_}
+use mathlib.Core.Path.{sym, _∙_}
 use native.Mathlib.Omega.{arith}
 use Rattle.shape.proofs.Refusals.{sound, unsound}
 use Rattle.record_file.specs.Rows.{shapeOf, listRows, refusing, accepting}
 use borrow.Author.Needs.{needs}
 use Rattle.record_file.proofs.read_records.Statement.{statement}
 use Rattle.record_file.proofs.read_records.Tie as tie
-use Rattle.record_file.proofs.read_records.Reads as reads
-use Rattle.record_file.proofs.read_records.Lts as lts
-use Rattle.record_file.proofs.read_numbers.Reads as read-numbers-reads
-use Rattle.shape.proofs.check_shape.Reads as check-shape-reads
 
 shared-slice-read-t7 : tie.Need-shared-slice-read-t7
 shared-slice-read-t7 c = search needs

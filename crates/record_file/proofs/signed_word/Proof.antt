@@ -3,7 +3,7 @@ use mathlib.Core.Path.{_≡_, sym, ap, _∙_, subst}
 use Prim.Native.Nat.{ℕ, suc, _-_, _^_, _≤_, _<_}
 use native.Mathlib.Omega.{arith}
 use borrow.Author.Tests.{lt-ltb}
-use lib.IntN.{ℤ, pos, negsuc, _-ℤ_}
+use lib.IntN.{pos, negsuc, _-ℤ_}
 use mir.Syntax.{w32, w64}
 use mir.Val.{SFits, toZ}
 use Rattle.whole.proofs.Fit.{kept, kept-is}
@@ -11,8 +11,6 @@ use Rattle.record_file.proofs.Words.{signed-low, signed-high, wide-less
 use borrow.Author.Needs.{needs}
 use Rattle.record_file.proofs.signed_word.Statement.{statement}
 use Rattle.record_file.proofs.signed_word.Tie as tie
-use Rattle.record_file.proofs.signed_word.Reads as reads
-use Rattle.record_file.proofs.signed_word.Lts as lts
 
 fits-32 : (n : ℕ) → 2 ^ 31 ≤ n → n < 2 ^ 32 → SFits w32 (negsuc (2 ^ 32 - suc n))
 fits-32 n h k = record { sfits = omega arith }

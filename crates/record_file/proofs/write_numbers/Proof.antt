@@ -1,8 +1,7 @@
 -- At each turn the numbers still to be written, written to the present list, make the whole; a turn writes the next one.
 use mathlib.Core.Path.{_≡_, refl, sym, ap, _∙_}
-use Prim.Native.Nat.{ℕ, _+_, _*_, _-_, _≤_, _<_}
+use Prim.Native.Nat.{ℕ, _+_, _*_, _-_, _≤_}
 use native.Mathlib.Omega.{arith}
-use lib.IntN.{ℤ}
 use lib.ListN.{length, set, length-set}
 use lib.Seq.{sets}
 use mir.Syntax.{w32}
@@ -12,9 +11,6 @@ use Rattle.record_file.specs.Format.{number, numbers}
 use Rattle.record_file.proofs.Filling.{fill-step, fill-done}
 use Rattle.record_file.proofs.write_numbers.Statement.{statement}
 use Rattle.record_file.proofs.write_numbers.Tie as tie
-use Rattle.record_file.proofs.write_numbers.Reads as reads
-use Rattle.record_file.proofs.write_numbers.Lts as lts
-use Rattle.record_file.proofs.coordinate.Reads as coordinate-reads
 
 abbrev Inv-loop : tie.InvT-loop
 Inv-loop file count list₀ q₀ list q = (q ≤ 2 * count) × (length list ≡ length list₀) × (sets list q (tab (number file) q (2 * count - q)) ≡ sets list₀ 0 (numbers file count))
