@@ -10,9 +10,12 @@ use Rattle.curve.specs.Numbers.{tab}
 
 -- ---- a file's fields
 
+abbrev pub recordBytes : ℕ
+recordBytes = 12
+
 -- Byte b of record r.
 abbrev pub byte : List ℕ → ℕ → ℕ → ℕ
-byte file r b = getD file (12 * r + b) 0
+byte file r b = getD file (recordBytes * r + b) 0
 
 -- The four bytes from byte b of the file on, low byte first.
 unfoldable pub word : List ℕ → ℕ → ℕ
@@ -24,7 +27,7 @@ signed n = cond (ltb n (2 ^ 31)) (pos n) (pos n -ℤ pos (2 ^ 32))
 
 -- Number q of a file's records, x then y: record q / 2 has its x from byte 4 on and its y from byte 8 on.
 unfoldable pub number : List ℕ → ℕ → ℤ
-number file q = signed (word file (12 * (q / 2) + 4 + 4 * (q % 2)))
+number file q = signed (word file (recordBytes * (q / 2) + 4 + 4 * (q % 2)))
 
 -- The numbers of the first n records.
 abbrev pub numbers : List ℕ → ℕ → List ℤ

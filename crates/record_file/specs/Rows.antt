@@ -2,29 +2,30 @@
 -- 1, 2, 3 for the shape, 7, 8), and one total reading over them. Definitions only.
 use mathlib.Core.Bool.{not, cond, _&&_, _||_}
 use mathlib.Core.List.{List, [], _∷_, _++_}
-use Prim.Native.Nat.{ℕ, zero, suc, _/_, _%_}
+use Prim.Native.Nat.{ℕ, zero, suc, _*_, _/_, _%_}
 use lib.Dec.{ltb, eqb}
 use lib.IntN.{ℤ}
 use lib.ListN.{length}
 use lib.Seq.{sets}
 use Rattle.shape.specs.declared.Shape.{Shape}
 use Rattle.shape.specs.declared.Refusal.{Refusal}
+use Rattle.shape.specs.Shape.{mostRecords}
 use Rattle.shape.specs.Refusals.{Row, row, judge, shapeRows, controlsRow, limitsRow}
 use Rattle.record_file.specs.declared.Reading.{Reading}
 use Rattle.record_file.specs.declared.Reading.the-variants.{Read, Refused}
-use Rattle.record_file.specs.Format.{byte, numbers}
+use Rattle.record_file.specs.Format.{recordBytes, byte, numbers}
 
 -- ---- rows 3 and 13: the length
 
--- 64 records of 12 bytes.
+-- 64 records, 768 bytes.
 abbrev pub mostBytes : ℕ
-mostBytes = 768
+mostBytes = mostRecords * recordBytes
 
 abbrev pub lengthRow : ℕ → Row
 lengthRow len = row (eqb len 0 || ltb mostBytes len) 3 0
 
 abbrev pub wholeRow : ℕ → Row
-wholeRow len = row (not (eqb (len % 12) 0)) 13 0
+wholeRow len = row (not (eqb (len % recordBytes) 0)) 13 0
 
 -- ---- rows 14 and 15: record by record
 
@@ -58,7 +59,7 @@ laterRows file n controls = shapeRows (shapeOf file n) ++ listRows file n contro
 -- ---- the whole table, and the reading
 
 abbrev pub recordCount : List ℕ → ℕ
-recordCount file = length file / 12
+recordCount file = length file / recordBytes
 
 abbrev pub fileRows : List ℕ → List ℤ → List Row
 fileRows file controls =

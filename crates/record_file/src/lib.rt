@@ -1,12 +1,12 @@
 // The house record file of document 01: records of 12 bytes, read into a lent list of controls. The one public call, `read`, has no `requires`: it is total on any bytes.
 ghost use mathlib.Core.Path.{_≡_};
-ghost use Prim.Native.Nat.{_+_, _*_, _≤_, _<_};
+ghost use Prim.Native.Nat.{_+_, _*_, _≤_};
 ghost use lib.ListN.{length};
 ghost use lib.Seq.{sets};
 ghost use Rattle.shape.specs.Refusals.{judge};
 ghost use Rattle.shape.specs.Shape.{mostRecords};
 ghost use Rattle.record_file.specs.Format.{word, signed, numbers};
-ghost use Rattle.record_file.specs.Rows.{both, reading, fault, recordRows, laterRows, listRows, refusing, accepting, shapeOf};
+ghost use Rattle.record_file.specs.Rows.{both, reading, fault, recordRows, laterRows, listRows, refusing, accepting};
 use shape::Judged;
 use shape::Listed;
 use shape::Refusal;
@@ -30,6 +30,11 @@ const MOST_NUMBERS: usize = 128;
 
 // A record's x stands from byte 4 on, and its y four bytes further.
 const COORDINATES: usize = 4;
+
+// Document 01's numbers for what is wrong with a record: bytes 2 and 3 not both zero; basis or depth unlike record 0.
+const NOT_ZERO: usize = 14;
+
+const UNLIKE: usize = 15;
 
 // Words of 32 bits: half of them, from 2^31 on, stand for numbers below zero.
 const HALF: u32 = 2147483648;
@@ -71,23 +76,23 @@ fn write_numbers(file: &[u8], count: usize, list: &mut [i32])
     }
 }
 
-// What is wrong with record i: 14 where bytes 2 and 3 are not both zero, else 15 where its basis or depth is unlike record 0's, else 0.
+// The number of what is wrong with record i, its two zero bytes first, or 0.
 fn fault_of(file: &[u8], i: usize) -> usize
     requires { ⌜ 12 * i + 12 ≤ length (now file) ⌝ }
     ensures { λ r. ⌜ r ≡ fault (now (file .entry)) i ⌝ }
 {
     let at = RECORD * i;
     if file[at + 2] != 0 {
-        return 14;
+        return NOT_ZERO;
     }
     if file[at + 3] != 0 {
-        return 14;
+        return NOT_ZERO;
     }
     if file[at] != file[0] {
-        return 15;
+        return UNLIKE;
     }
     if file[at + 1] != file[1] {
-        return 15;
+        return UNLIKE;
     }
     0
 }

@@ -45,27 +45,27 @@ cast-d c = omega (arith, c .shared-slice-known5 .given (c .before .before .befor
 mul-signed-word : tie.Need-mul-signed-word
 mul-signed-word c =
     let a = c .before .before .before .before .before .args .at in
-    omega (arith, c .shared-slice-known5 .given (a + 1))
+    omega (arith, c .shared-slice-known5 .given a, c .shared-slice-known5 .given (a + 1), c .shared-slice-known5 .given (a + 2), c .shared-slice-known5 .given (a + 3))
 
 add-signed-word : tie.Need-add-signed-word
 add-signed-word c =
     let a = c .before .before .before .before .before .args .at in
-    omega (arith, c .shared-slice-known5 .given a, c .shared-slice-known5 .given (a + 1))
+    omega (arith, c .shared-slice-known5 .given a, c .shared-slice-known5 .given (a + 1), c .shared-slice-known5 .given (a + 2), c .shared-slice-known5 .given (a + 3))
 
 mul-signed-word-2 : tie.Need-mul-signed-word-2
 mul-signed-word-2 c =
     let a = c .before .before .before .before .before .args .at in
-    omega (arith, c .shared-slice-known5 .given (a + 2))
+    omega (arith, c .shared-slice-known5 .given a, c .shared-slice-known5 .given (a + 1), c .shared-slice-known5 .given (a + 2), c .shared-slice-known5 .given (a + 3))
 
 add-signed-word-2 : tie.Need-add-signed-word-2
 add-signed-word-2 c =
     let a = c .before .before .before .before .before .args .at in
-    omega (arith, c .shared-slice-known5 .given a, c .shared-slice-known5 .given (a + 1), c .shared-slice-known5 .given (a + 2))
+    omega (arith, c .shared-slice-known5 .given a, c .shared-slice-known5 .given (a + 1), c .shared-slice-known5 .given (a + 2), c .shared-slice-known5 .given (a + 3))
 
 mul-signed-word-3 : tie.Need-mul-signed-word-3
 mul-signed-word-3 c =
     let a = c .before .before .before .before .before .args .at in
-    omega (arith, c .shared-slice-known5 .given (a + 3))
+    omega (arith, c .shared-slice-known5 .given a, c .shared-slice-known5 .given (a + 1), c .shared-slice-known5 .given (a + 2), c .shared-slice-known5 .given (a + 3))
 
 add-signed-word-3 : tie.Need-add-signed-word-3
 add-signed-word-3 c =
