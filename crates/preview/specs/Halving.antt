@@ -1,0 +1,35 @@
+-- The halving of document 01 in doubles ("Preview and drawing"): four points are cut at the middle by midpoints until the depth is used up, and the pieces' first points
+-- are the preview's. Numbers come x then y. Definitions only.
+use mathlib.Core.List.{List, [], _∷_, _++_}
+use Prim.Native.Nat.{ℕ, zero, suc, _+_, _*_}
+use lib.IntN.{ℤ}
+use lib.Ieee.{Float}
+use Rattle.curve.specs.Span.{coordinate}
+use Rattle.doubles.specs.Exact.{dyadic}
+use Rattle.doubles.specs.Midpoint.{midPair}
+use Rattle.doubles.specs.declared.Pair.{Pair}
+
+-- A point's two numbers.
+abbrev pub two : Pair → List Float
+two p = p .x ∷ p .y ∷ []
+
+-- The first points of the 2^left pieces of four controls, left to right.
+unfoldable pub pieces : ℕ → Pair → Pair → Pair → Pair → List Float
+pieces zero a b c d = two a
+pieces (suc left) a b c d =
+    let m = midPair a b in
+    let n = midPair b c in
+    let o = midPair c d in
+    let u = midPair m n in
+    let v = midPair n o in
+    let w = midPair u v in
+    pieces left a m u w ++ pieces left w v o d
+
+-- Record r of the controls, as a point.
+unfoldable pub control : List ℤ → ℕ → Pair
+control controls r = record { x = dyadic (coordinate controls 0 r) 0; y = dyadic (coordinate controls 1 r) 0 }
+
+-- The points of n spans at depth k from span s on, and then the end of the last: span s has records 3s to 3s + 3.
+unfoldable pub halved : List ℤ → ℕ → ℕ → ℕ → List Float
+halved controls k s zero = two (control controls (3 * s))
+halved controls k s (suc n) = pieces k (control controls (3 * s)) (control controls (3 * s + 1)) (control controls (3 * s + 2)) (control controls (3 * s + 3)) ++ halved controls k (suc s) n
