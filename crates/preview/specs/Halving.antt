@@ -29,7 +29,11 @@ pieces (suc left) a b c d =
 unfoldable pub control : List ℤ → ℕ → Pair
 control controls r = record { x = dyadic (coordinate controls 0 r) 0; y = dyadic (coordinate controls 1 r) 0 }
 
--- The points of n spans at depth k from span s on, and then the end of the last: span s has records 3s to 3s + 3.
+-- The points of span s at depth k but its end: its records are 3s to 3s + 3.
+unfoldable pub spanPieces : List ℤ → ℕ → ℕ → List Float
+spanPieces controls k s = pieces k (control controls (3 * s)) (control controls (3 * s + 1)) (control controls (3 * s + 2)) (control controls (3 * s + 3))
+
+-- The points of n spans from span s on, and then the end of the last.
 unfoldable pub halved : List ℤ → ℕ → ℕ → ℕ → List Float
 halved controls k s zero = two (control controls (3 * s))
-halved controls k s (suc n) = pieces k (control controls (3 * s)) (control controls (3 * s + 1)) (control controls (3 * s + 2)) (control controls (3 * s + 3)) ++ halved controls k (suc s) n
+halved controls k s (suc n) = spanPieces controls k s ++ halved controls k (suc s) n

@@ -7,7 +7,7 @@ ghost use Rattle.curve.specs.Ways.{deepest};
 ghost use Rattle.shape.specs.Refusals.{judge};
 ghost use Rattle.shape.specs.Shape.{mostRecords, pointsOf};
 ghost use Rattle.shape.specs.Good.{Good};
-ghost use Rattle.preview.specs.Halving.{control, pieces, halved};
+ghost use Rattle.preview.specs.Halving.{control, pieces, spanPieces, halved};
 ghost use Rattle.preview.specs.Preview.{both, laterRows, refusing, drawing, previewing};
 use doubles::Pair;
 use doubles::double_of;
@@ -73,7 +73,7 @@ fn fill_pieces(points: &mut [f64], at: usize, left: usize, a: Pair, b: Pair, c: 
 fn fill_span(controls: &[i32], span: usize, depth: usize, points: &mut [f64], at: usize)
     requires { ⌜ (depth ≤ deepest) × (at + 2 * 2 ^ depth ≤ length (now points)) ⌝ }
     requires { ⌜ 6 * span + 8 ≤ length (now controls) ⌝ }
-    ensures { λ _. ⌜ now (points .exit) ≡ sets (now (points .entry)) at (pieces depth (control (now (controls .entry)) (3 * span)) (control (now (controls .entry)) (3 * span + 1)) (control (now (controls .entry)) (3 * span + 2)) (control (now (controls .entry)) (3 * span + 3))) ⌝ }
+    ensures { λ _. ⌜ now (points .exit) ≡ sets (now (points .entry)) at (spanPieces (now (controls .entry)) depth span) ⌝ }
 {
     let first = 3 * span;
     let a = control_point(controls, first);
