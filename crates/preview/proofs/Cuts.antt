@@ -5,7 +5,7 @@ use mathlib.Core.List.{[], _∷_}
 use Prim.Native.Nat.{ℕ, suc, _+_, _*_, _^_, _≤_}
 use native.Mathlib.Omega.{arith}
 use lib.IntN.{ℤ, pos, natAbs, _+ℤ_, _*ℤ_}
-use Rattle.whole.proofs.Ring.{var, lit, _⊗_, solve}
+use Rattle.whole.proofs.Ring.{var, _⊗_, solve}
 use Rattle.whole.proofs.Fit.{natAbs-add}
 use Rattle.curve.specs.declared.Four.{Four}
 use Rattle.curve.specs.Limits.{Inside}

@@ -8,7 +8,6 @@ use native.Mathlib.Omega.{arith}
 use lib.Arith.{digits-div}
 use lib.Dec.{eqb, lit<, lit≤}
 use lib.IntN.{ℤ, pos, _*ℤ_}
-use lib.Ieee.{Float}
 use lib.Pow.{pow-pos}
 use Rattle.whole.proofs.Ring.{var, _⊗_, solve}
 use Rattle.curve.specs.declared.Four.{Four}

@@ -1,20 +1,17 @@
 -- The preview's table after the shape's rows: row 4 decides, or leaves the rest to the rows of the lent lists. A sound shape of basis 1 has 3m + 1 records, so what those
 -- rows find is what drawing needs. "Exactly when": an answer that refuses is never one that draws.
-use mathlib.Core.Path.{_≡_, refl, sym, ap, _∙_, subst}
-use mathlib.Core.Bool.{false}
+use mathlib.Core.Path.{_≡_, refl, sym, ap, _∙_}
 use mathlib.Core.List.{List, [], _∷_}
 use mathlib.Core.Logic.{inl}
-use Prim.Native.Nat.{ℕ, _+_, _*_, _≤_, _<_}
+use Prim.Native.Nat.{ℕ, _+_, _*_, _<_}
 use native.Mathlib.Omega.{arith}
 use borrow.Author.Tests.{eq-eqb, ne-eqb}
 use lib.IntN.{ℤ}
 use lib.Ieee.{Float}
 use lib.ListN.{length}
 use lib.Seq.{sets}
-use Rattle.curve.specs.declared.Basis.{Basis}
-use Rattle.curve.specs.declared.Basis.the-variants.{Bezier}
 use Rattle.curve.specs.Limits.{Inside, limit}
-use Rattle.curve.specs.Span.{coordinate, firstRecord, records}
+use Rattle.curve.specs.Span.{firstRecord, records}
 use Rattle.shape.specs.declared.Shape.{Shape}
 use Rattle.shape.specs.declared.Plan.{Plan}
 use Rattle.shape.specs.declared.Refusal.{Refusal}
@@ -67,13 +64,13 @@ module _ (s : Shape) (p : Plan) (controls : List ℤ) (points : List Float) wher
     unfolding recordsOf basisOf
     bezier-count = ap (λ (n : ℕ). recordsOf (basisOf n) (p .spans)) (sym e) ∙ ap (λ b. recordsOf b (p .spans)) (sym (good .basis)) ∙ good .records
 
-    inside : (n len : ℕ) → Lent (s .count) controls n len → (t axis : ℕ) → t < p .spans → axis < 2 → Inside limit (plain (p .depth) (p .spans) controls t axis)
+    pub bezier-inside : (n len : ℕ) → Lent (s .count) controls n len → (t axis : ℕ) → t < p .spans → axis < 2 → Inside limit (plain (p .depth) (p .spans) controls t axis)
     unfolding firstRecord
-    inside n len lent t axis h a = lent-inside (s .count) controls n len lent axis (3 * t) a (omega (arith, bezier-count))
+    bezier-inside n len lent t axis h a = lent-inside (s .count) controls n len lent axis (3 * t) a (omega (arith, bezier-count))
 
     pub drawn-is : (n len : ℕ) → Lent (s .count) controls n len → (r : ℕ) → r ≡ count → (l : List Float) → l ≡ sets points 0 (halved controls (p .depth) 0 (p .spans)) → both (Drawn r) l ≡ drawing p controls points
     drawn-is n len lent r c l f =
-        let g = f ∙ ap (sets points 0) (halved-is (p .depth) (p .spans) controls (good .depth-most) (inside n len lent) (good .spans-least)) in
+        let g = f ∙ ap (sets points 0) (halved-is (p .depth) (p .spans) controls (good .depth-most) (bezier-inside n len lent) (good .spans-least)) in
         λ k. both (Drawn (c k)) (g k)
 
 -- ---- exactly when

@@ -2,12 +2,12 @@
 -- the two halves of a span are the span itself at twice the steps (curve's `left-half`, `right-half`).
 use mathlib.Core.Path.{_≡_, refl, sym, ap, _∙_, subst}
 use mathlib.Core.Bool.{Bool, true, false, cond}
-use mathlib.Core.List.{List, [], _∷_, _++_}
+use mathlib.Core.List.{[], _∷_, _++_}
 use Prim.Native.Nat.{ℕ, zero, suc, _+_, _*_, _/_, _%_, _^_, _≤_, _<_}
 use native.Mathlib.Nat.{pow-suc, le-trans, mul-assoc, le-mul-of-pos-right, one-le-pow}
 use native.Mathlib.Omega.{arith}
 use lib.Dec.{eqb, lit<}
-use lib.IntN.{ℤ, pos, natAbs, _*ℤ_}
+use lib.IntN.{ℤ, pos}
 use lib.Ieee.{Float}
 use Rattle.whole.proofs.Ring.{var, lit, _⊗_, solve}
 use Rattle.whole.proofs.Fit.{Bounded, ev-size}

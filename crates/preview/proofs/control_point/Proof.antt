@@ -15,9 +15,6 @@ use Rattle.preview.specs.Halving.{control}
 use borrow.Author.Needs.{needs}
 use Rattle.preview.proofs.control_point.Statement.{statement}
 use Rattle.preview.proofs.control_point.Tie as tie
-use Rattle.preview.proofs.control_point.Reads as reads
-use Rattle.preview.proofs.control_point.Lts as lts
-use Rattle.doubles.proofs.double_of.Reads as double-of-reads
 
 -- a coordinate as the machine keeps it, as a double
 x-is : (l : List ℤ) (r : ℕ) (f : Float) → f ≡ dyadic (kept w32 (getD l (2 * r) (pos 0))) 0 → SFits w32 (getD l (2 * r) (pos 0)) → f ≡ dyadic (coordinate l 0 r) 0

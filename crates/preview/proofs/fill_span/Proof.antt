@@ -1,14 +1,10 @@
 -- The callee's four points are the span's records.
-use mathlib.Core.Path.{_≡_, _∙_}
+use mathlib.Core.Path.{_∙_}
 use lib.Seq.{sets}
 use Rattle.preview.specs.Halving.{pieces, spanPieces}
 use borrow.Author.Needs.{needs}
 use Rattle.preview.proofs.fill_span.Statement.{statement}
 use Rattle.preview.proofs.fill_span.Tie as tie
-use Rattle.preview.proofs.fill_span.Reads as reads
-use Rattle.preview.proofs.fill_span.Lts as lts
-use Rattle.preview.proofs.control_point.Reads as control-point-reads
-use Rattle.preview.proofs.fill_pieces.Reads as fill-pieces-reads
 
 mul-first : tie.Need-mul-first
 mul-first c = search needs

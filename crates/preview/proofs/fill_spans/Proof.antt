@@ -1,18 +1,13 @@
 -- At each turn the spans still to be written, written to the present list, make the whole; a turn writes the next one, and after the last its end is left.
-use mathlib.Core.Path.{_≡_, refl, sym, ap, _∙_}
+use mathlib.Core.Path.{_≡_, refl, ap, _∙_}
 use Prim.Native.Nat.{ℕ, _+_, _*_, _-_, _^_, _≤_, _<_}
 use native.Mathlib.Omega.{arith}
 use lib.ListN.{length, set}
 use lib.Seq.{sets}
-use Rattle.preview.specs.Halving.{control, halved}
+use Rattle.preview.specs.Halving.{halved}
 use Rattle.preview.proofs.Spans.{shift-two, points-are, next-start, starts-inside, span-step, end-written}
 use Rattle.preview.proofs.fill_spans.Statement.{statement}
 use Rattle.preview.proofs.fill_spans.Tie as tie
-use Rattle.preview.proofs.fill_spans.Reads as reads
-use Rattle.preview.proofs.fill_spans.Lts as lts
-use Rattle.preview.proofs.control_point.Reads as control-point-reads
-use Rattle.preview.proofs.fill_span.Reads as fill-span-reads
-use Rattle.preview.proofs.put_point.Reads as put-point-reads
 
 abbrev Inv-loop : tie.InvT-loop
 Inv-loop controls spans depth points₀ width s₀ at₀ points s at =

@@ -9,10 +9,6 @@ use Rattle.preview.specs.Preview.{laterRows, refusing, drawing, previewi
 use borrow.Author.Needs.{needs}
 use Rattle.preview.proofs.preview.Statement.{statement}
 use Rattle.preview.proofs.preview.Tie as tie
-use Rattle.preview.proofs.preview.Reads as reads
-use Rattle.preview.proofs.preview.Lts as lts
-use Rattle.preview.proofs.preview_plan.Reads as preview-plan-reads
-use Rattle.shape.proofs.check_shape.Reads as check-shape-reads
 
 -- the plan is what the shape's checks found
 found : (c : tie.After-plan) → judgeShape (c .before .before .before .before .args .shape) ≡ Sound (c .plan .given .0 .0)

@@ -1,5 +1,5 @@
 -- Each return is where row 4 or a row of the lists is the first that holds, or where none does and the halved spans are the exact sums.
-use mathlib.Core.Path.{_≡_, sym, _∙_, subst}
+use mathlib.Core.Path.{sym, _∙_, subst}
 use Prim.Native.Nat.{ℕ, _≤_}
 use native.Mathlib.Omega.{arith}
 use lib.ListN.{length}
@@ -11,11 +11,6 @@ use Rattle.preview.proofs.Rows.{not-offered, lists-fail, lists-pass, be
 use borrow.Author.Needs.{needs}
 use Rattle.preview.proofs.preview_plan.Statement.{statement}
 use Rattle.preview.proofs.preview_plan.Tie as tie
-use Rattle.preview.proofs.preview_plan.Reads as reads
-use Rattle.preview.proofs.preview_plan.Lts as lts
-use Rattle.preview.proofs.fill_spans.Reads as fill-spans-reads
-use Rattle.shape.proofs.Plan.points.Reads as points-reads
-use Rattle.shape.proofs.check_lists.Reads as check-lists-reads
 
 -- the lists hold what drawing needs
 lent : (c : tie.After-enum-told) → Lent (c .before .before .before .before .before .before .args .shape .count) (c .before .before .before .before .before .before .args .controls .now) (c .before .before .before .points .result) (length (c .before .before .before .before .before .before .args .points .now))

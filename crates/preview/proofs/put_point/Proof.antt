@@ -4,8 +4,6 @@ use lib.ListN.{length-set}
 use borrow.Author.Needs.{needs}
 use Rattle.preview.proofs.put_point.Statement.{statement}
 use Rattle.preview.proofs.put_point.Tie as tie
-use Rattle.preview.proofs.put_point.Reads as reads
-use Rattle.preview.proofs.put_point.Lts as lts
 
 mul-points : tie.Need-mul-points
 mul-points c = search needs
