@@ -24,7 +24,7 @@ use Rattle.doubles.specs.Exact.{dyadic}
 use Rattle.doubles.proofs.Exact.{dyadic-scale}
 use Rattle.preview.specs.Halving.{two, control, spanPieces, halved}
 use Rattle.preview.specs.Preview.{sum, value}
-use Rattle.preview.proofs.Spans.{points-are}
+use Rattle.preview.proofs.Spans.{points-are, spans-meet}
 use Rattle.preview.proofs.Sums.{rule, pieces-exact}
 
 module _ (k m : ℕ) (controls : List ℤ) where
@@ -65,8 +65,8 @@ module _ (k m : ℕ) (controls : List ℤ) where
 
   -- ---- the end of the last span
 
-  end-sum : (r : ℕ) → 0 < m → r < 2 → sum k m controls (2 * (m * 2 ^ k) + r) ≡ coordinate controls r (3 * m) *ℤ pos (2 ^ (3 * k))
-  unfolding firstRecord recordsFrom cube
+  end-sum : (r : ℕ) → 0 < m → r < 2 → sum k m controls (2 * (m * 2 ^ k) + r) ≡ coordinate controls r (firstRecord Bezier m) *ℤ pos (2 ^ (3 * k))
+  unfolding recordsFrom cube
   end-sum r h below =
       let q = 2 * (m * 2 ^ k) + r in
       let before : m ≡ suc (m - 1) = omega arith in
@@ -75,18 +75,18 @@ module _ (k m : ℕ) (controls : List ℤ) where
       let same : q % 2 ≡ r = omega arith in
       let none : m * 2 ^ k ≡ m * 2 ^ k + 0 = omega arith in
       let span : min (q / 2 / 2 ^ k) (m - 1) ≡ m - 1 = ap (λ (n : ℕ). min (n / 2 ^ k) (m - 1)) (half ∙ none) ∙ ap (λ (n : ℕ). min n (m - 1)) (digits-div m (pow-pos k)) ∙ min-eq-right (omega arith) in
-      let last : 3 * (m - 1) + 3 ≡ 3 * m = omega arith in
+      let last : firstRecord Bezier (m - 1) + 3 ≡ firstRecord Bezier m = spans-meet (m - 1) ∙ ap (firstRecord Bezier) (sym before) in
       located q (m - 1) (2 ^ k) span (half ∙ whole)
       ∙ ap (λ (a : ℕ). weighted (plain (m - 1) a) (pos (2 ^ k)) (pos (2 ^ k))) same
       ∙ weighted-end (plain (m - 1) r) (pos (2 ^ k))
       ∙ (λ t. pos (sym (thrice k) t) *ℤ coordinate controls r (last t))
-      ∙ solve (coordinate controls r (3 * m) ∷ pos (2 ^ (3 * k)) ∷ []) (var 1 ⊗ var 0) (var 0 ⊗ var 1) tt
+      ∙ solve (coordinate controls r (firstRecord Bezier m) ∷ pos (2 ^ (3 * k)) ∷ []) (var 1 ⊗ var 0) (var 0 ⊗ var 1) tt
 
-  end-value : (r : ℕ) → 0 < m → r < 2 → dyadic (coordinate controls r (3 * m)) 0 ≡ value k m controls (2 * (m * 2 ^ k) + r)
+  end-value : (r : ℕ) → 0 < m → r < 2 → dyadic (coordinate controls r (firstRecord Bezier m)) 0 ≡ value k m controls (2 * (m * 2 ^ k) + r)
   unfolding value
   end-value r h below =
       let depth : 0 + 3 * k ≡ 3 * k = omega arith in
-      sym (dyadic-scale (coordinate controls r (3 * m)) (3 * k) 0) ∙ (λ t. dyadic (sym (end-sum r h below) t) (depth t))
+      sym (dyadic-scale (coordinate controls r (firstRecord Bezier m)) (3 * k) 0) ∙ (λ t. dyadic (sym (end-sum r h below) t) (depth t))
 
   -- ---- all spans
 
@@ -95,7 +95,7 @@ module _ (k m : ℕ) (controls : List ℤ) where
     small = le-trans (mul-le-mul-left limit (pow-le-pow-right (lit< tt) deep)) (lit≤ tt)
 
     span-list : (s : ℕ) → s < m → spanPieces controls k s ≡ tab (value k m controls) (2 * (s * 2 ^ k)) (2 * 2 ^ k)
-    unfolding spanPieces control firstRecord recordsFrom
+    unfolding spanPieces control recordsFrom
     span-list s h =
         pieces-exact k 0 limit (plain s 0) (plain s 1) (inside s 0 h (lit< tt)) (inside s 1 h (lit< tt)) small (omega arith)
         ∙ tab-same (rule k 0 (plain s 0) (plain s 1)) (value k m controls) 0 (2 * (s * 2 ^ k)) (2 * 2 ^ k) (λ j b. from j ∙ sym (span-value s j h b))
@@ -103,7 +103,7 @@ module _ (k m : ℕ) (controls : List ℤ) where
         from : (j : ℕ) → rule k 0 (plain s 0) (plain s 1) (0 + j) ≡ rule k 0 (plain s 0) (plain s 1) j
         from j = ap (rule k 0 (plain s 0) (plain s 1)) (omega arith)
 
-    end-list : 0 < m → two (control controls (3 * m)) ≡ tab (value k m controls) (2 * (m * 2 ^ k)) 2
+    end-list : 0 < m → two (control controls (firstRecord Bezier m)) ≡ tab (value k m controls) (2 * (m * 2 ^ k)) 2
     unfolding control tab
     end-list h =
         let first : 2 * (m * 2 ^ k) + 0 ≡ 2 * (m * 2 ^ k) = omega arith in
@@ -117,7 +117,7 @@ module _ (k m : ℕ) (controls : List ℤ) where
     halved-from zero s h e =
         let here : m ≡ s = omega arith in
         let pair : 2 ≡ 2 * (0 * 2 ^ k + 1) = omega (arith, zero-mul (2 ^ k)) in
-        (λ t. two (control controls (3 * sym here t))) ∙ end-list h ∙ (λ t. tab (value k m controls) (2 * (here t * 2 ^ k)) (pair t))
+        (λ t. two (control controls (firstRecord Bezier (sym here t)))) ∙ end-list h ∙ (λ t. tab (value k m controls) (2 * (here t * 2 ^ k)) (pair t))
     halved-from (suc n) s h e =
         let on : 2 * (suc s * 2 ^ k) ≡ 2 * (s * 2 ^ k) + 2 * 2 ^ k = omega (arith, suc-mul s (2 ^ k)) in
         let all : 2 * 2 ^ k + 2 * (n * 2 ^ k + 1) ≡ 2 * (suc n * 2 ^ k + 1) = omega (arith, suc-mul n (2 ^ k)) in

@@ -1,15 +1,16 @@
--- The preview's table after the shape's rows: row 4 decides, or leaves the rest to the rows of the lent lists. A sound shape of basis 1 has 3m + 1 records, so what those
--- rows find is what drawing needs. "Exactly when": an answer that refuses is never one that draws.
+-- The preview's table after the shape's rows: row 4 decides, or leaves the rest to the rows of the lent lists. The last record of a sound shape of basis 1
+-- is where a next span would start, so what those rows find is what drawing needs. "Exactly when": an answer that refuses is never one that draws.
 use mathlib.Core.Path.{_≡_, refl, sym, ap, _∙_}
 use mathlib.Core.List.{List, [], _∷_}
 use mathlib.Core.Logic.{inl}
-use Prim.Native.Nat.{ℕ, _+_, _*_, _<_}
+use Prim.Native.Nat.{ℕ, _+_, _<_}
 use native.Mathlib.Omega.{arith}
 use borrow.Author.Tests.{eq-eqb, ne-eqb}
 use lib.IntN.{ℤ}
 use lib.Ieee.{Float}
 use lib.ListN.{length}
 use lib.Seq.{sets}
+use Rattle.curve.specs.declared.Basis.the-variants.{Bezier}
 use Rattle.curve.specs.Limits.{Inside, limit}
 use Rattle.curve.specs.Span.{firstRecord, records}
 use Rattle.shape.specs.declared.Shape.{Shape}
@@ -23,6 +24,7 @@ use Rattle.shape.proofs.Refusals.{judge-first, judge-none, judge-append, bad-fi
 use Rattle.preview.specs.declared.Previewed.the-variants.{Drawn, Refused}
 use Rattle.preview.specs.Halving.{halved}
 use Rattle.preview.specs.Preview.{bezierRow, laterRows, previewRows, Outcome, both, refusing, drawing, previewing}
+use Rattle.preview.proofs.Spans.{records-before}
 use Rattle.preview.proofs.Numbers.{plain, halved-is}
 
 module _ (s : Shape) (p : Plan) (controls : List ℤ) (points : List Float) where
@@ -60,13 +62,12 @@ module _ (s : Shape) (p : Plan) (controls : List ℤ) (points : List Float) wher
   -- ---- what drawing needs
 
   module _ (good : Good s p) (e : s .basis ≡ 1) where
-    pub bezier-count : 3 * p .spans + 1 ≡ s .count
-    unfolding recordsOf basisOf
+    pub bezier-count : firstRecord Bezier (p .spans) + 1 ≡ s .count
+    unfolding firstRecord recordsOf basisOf
     bezier-count = ap (λ (n : ℕ). recordsOf (basisOf n) (p .spans)) (sym e) ∙ ap (λ b. recordsOf b (p .spans)) (sym (good .basis)) ∙ good .records
 
     pub bezier-inside : (n len : ℕ) → Lent (s .count) controls n len → (t axis : ℕ) → t < p .spans → axis < 2 → Inside limit (plain (p .depth) (p .spans) controls t axis)
-    unfolding firstRecord
-    bezier-inside n len lent t axis h a = lent-inside (s .count) controls n len lent axis (3 * t) a (omega (arith, bezier-count))
+    bezier-inside n len lent t axis h a = lent-inside (s .count) controls n len lent axis (firstRecord Bezier t) a (omega (arith, bezier-count, records-before t (p .spans) h))
 
     pub drawn-is : (n len : ℕ) → Lent (s .count) controls n len → (r : ℕ) → r ≡ count → (l : List Float) → l ≡ sets points 0 (halved controls (p .depth) 0 (p .spans)) → both (Drawn r) l ≡ drawing p controls points
     drawn-is n len lent r c l f =

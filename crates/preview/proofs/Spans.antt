@@ -9,6 +9,8 @@ use lib.Ieee.{Float}
 use lib.ListN.{length, set}
 use lib.Pow.{pow-lt}
 use lib.Seq.{sets}
+use Rattle.curve.specs.declared.Basis.the-variants.{Bezier}
+use Rattle.curve.specs.Span.{firstRecord}
 use Rattle.shape.specs.Shape.{pointsOf}
 use Rattle.preview.specs.Halving.{control, spanPieces, halved}
 use Rattle.preview.proofs.Pieces.{sets-append, doubled, length-pieces, two-written}
@@ -24,6 +26,15 @@ pub points-are : (k m : ℕ) → pointsOf k m ≡ m * 2 ^ k + 1
 unfolding pointsOf
 points-are k m = omega arith
 
+-- a span's last record is the next one's first
+pub spans-meet : (s : ℕ) → firstRecord Bezier s + 3 ≡ firstRecord Bezier (suc s)
+unfolding firstRecord
+spans-meet s = omega arith
+
+pub records-before : (s m : ℕ) → s < m → firstRecord Bezier s + 3 ≤ firstRecord Bezier m
+unfolding firstRecord
+records-before s m h = omega arith
+
 -- where the next span starts
 pub next-start : (s k : ℕ) → (s + 1) * 2 ^ k ≡ s * 2 ^ k + 2 ^ k
 next-start s k = omega (arith, add-mul s 1 (2 ^ k), one-mul (2 ^ k))
@@ -35,7 +46,9 @@ starts-inside s m k h =
 
 pub length-span : (controls : List ℤ) (k s : ℕ) → length (spanPieces controls k s) ≡ 2 * 2 ^ k
 unfolding spanPieces
-length-span controls k s = length-pieces k (control controls (3 * s)) (control controls (3 * s + 1)) (control controls (3 * s + 2)) (control controls (3 * s + 3))
+length-span controls k s =
+    let r = firstRecord Bezier s in
+    length-pieces k (control controls r) (control controls (r + 1)) (control controls (r + 2)) (control controls (r + 3))
 
 module _ (controls : List ℤ) (k : ℕ) (l : List Float) (at s n : ℕ) where
   pub span-step : s < n → sets (sets l at (spanPieces controls k s)) (at + 2 * 2 ^ k) (halved controls k (s + 1) (n - (s + 1))) ≡ sets l at (halved controls k s (n - s))
@@ -49,8 +62,8 @@ module _ (controls : List ℤ) (k : ℕ) (l : List Float) (at s n : ℕ) where
       ∙ sym (sets-append l at (spanPieces controls k s) rest)
       ∙ ap (λ (i : ℕ). sets l at (halved controls k s i)) left
 
-  pub end-written : s ≡ n → set (set l at (control controls (3 * n) .x)) (at + 1) (control controls (3 * n) .y) ≡ sets l at (halved controls k s (n - s))
+  pub end-written : s ≡ n → set (set l at (control controls (firstRecord Bezier n) .x)) (at + 1) (control controls (firstRecord Bezier n) .y) ≡ sets l at (halved controls k s (n - s))
   unfolding halved
   end-written e =
       let none : 0 ≡ n - s = omega arith in
-      two-written l at (control controls (3 * n)) ∙ ap (λ (i : ℕ). sets l at (halved controls k i 0)) (sym e) ∙ ap (λ (i : ℕ). sets l at (halved controls k s i)) none
+      two-written l at (control controls (firstRecord Bezier n)) ∙ ap (λ (i : ℕ). sets l at (halved controls k i 0)) (sym e) ∙ ap (λ (i : ℕ). sets l at (halved controls k s i)) none

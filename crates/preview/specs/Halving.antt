@@ -1,10 +1,11 @@
 -- The halving of document 01 in doubles ("Preview and drawing"): four points are cut at the middle by midpoints until the depth is used up, and the pieces' first points
 -- are the preview's. Numbers come x then y. Definitions only.
 use mathlib.Core.List.{List, [], _∷_, _++_}
-use Prim.Native.Nat.{ℕ, zero, suc, _+_, _*_}
+use Prim.Native.Nat.{ℕ, zero, suc, _+_}
 use lib.IntN.{ℤ}
 use lib.Ieee.{Float}
-use Rattle.curve.specs.Span.{coordinate}
+use Rattle.curve.specs.declared.Basis.the-variants.{Bezier}
+use Rattle.curve.specs.Span.{coordinate, firstRecord}
 use Rattle.doubles.specs.Exact.{dyadic}
 use Rattle.doubles.specs.Midpoint.{midPair}
 use Rattle.doubles.specs.declared.Pair.{Pair}
@@ -29,11 +30,13 @@ pieces (suc left) a b c d =
 unfoldable pub control : List ℤ → ℕ → Pair
 control controls r = record { x = dyadic (coordinate controls 0 r) 0; y = dyadic (coordinate controls 1 r) 0 }
 
--- The points of span s at depth k but its end: its records are 3s to 3s + 3.
+-- The points of Bezier span s at depth k but its end.
 unfoldable pub spanPieces : List ℤ → ℕ → ℕ → List Float
-spanPieces controls k s = pieces k (control controls (3 * s)) (control controls (3 * s + 1)) (control controls (3 * s + 2)) (control controls (3 * s + 3))
+spanPieces controls k s =
+    let r = firstRecord Bezier s in
+    pieces k (control controls r) (control controls (r + 1)) (control controls (r + 2)) (control controls (r + 3))
 
--- The points of n spans from span s on, and then the end of the last.
+-- The points of n spans from span s on, and then the end of the last, where a next one would start.
 unfoldable pub halved : List ℤ → ℕ → ℕ → ℕ → List Float
-halved controls k s zero = two (control controls (3 * s))
+halved controls k s zero = two (control controls (firstRecord Bezier s))
 halved controls k s (suc n) = spanPieces controls k s ++ halved controls k (suc s) n

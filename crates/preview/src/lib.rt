@@ -3,12 +3,15 @@ ghost use mathlib.Core.Path.{_≡_};
 ghost use Prim.Native.Nat.{_+_, _*_, _^_, _≤_, _<_};
 ghost use lib.ListN.{length, set};
 ghost use lib.Seq.{sets};
+ghost use Rattle.curve.specs.Span.{firstRecord};
 ghost use Rattle.curve.specs.Ways.{deepest};
 ghost use Rattle.shape.specs.Refusals.{judge};
 ghost use Rattle.shape.specs.Shape.{mostRecords, pointsOf};
 ghost use Rattle.shape.specs.Good.{Good};
 ghost use Rattle.preview.specs.Halving.{control, pieces, spanPieces, halved};
 ghost use Rattle.preview.specs.Preview.{both, laterRows, refusing, drawing, previewing};
+use curve::Basis;
+use curve::records::first_record;
 use doubles::Pair;
 use doubles::double_of;
 use doubles::midpoint_pair;
@@ -72,10 +75,10 @@ fn fill_pieces(points: &mut [f64], at: usize, left: usize, a: Pair, b: Pair, c: 
 // The points of a span but its end, from number `at` on.
 fn fill_span(controls: &[i32], span: usize, depth: usize, points: &mut [f64], at: usize)
     requires { ⌜ (depth ≤ deepest) × (at + 2 * 2 ^ depth ≤ length (now points)) ⌝ }
-    requires { ⌜ 6 * span + 8 ≤ length (now controls) ⌝ }
+    requires { ⌜ (span < mostRecords) × (2 * firstRecord Basis.Bezier span + 8 ≤ length (now controls)) ⌝ }
     ensures { λ _. ⌜ now (points .exit) ≡ sets (now (points .entry)) at (spanPieces (now (controls .entry)) depth span) ⌝ }
 {
-    let first = 3 * span;
+    let first = first_record(Basis::Bezier, span);
     let a = control_point(controls, first);
     let b = control_point(controls, first + 1);
     let c = control_point(controls, first + 2);
@@ -83,10 +86,10 @@ fn fill_span(controls: &[i32], span: usize, depth: usize, points: &mut [f64], at
     fill_pieces(points, at, depth, a, b, c, d);
 }
 
-// All points of a plan's spans: span by span, and the end of the last.
+// All points of a plan's spans: span by span, and the end of the last, where a next one would start.
 fn fill_spans(controls: &[i32], spans: usize, depth: usize, points: &mut [f64])
-    requires { ⌜ (depth ≤ deepest) × (spans ≤ mostRecords) ⌝ }
-    requires { ⌜ (6 * spans + 2 ≤ length (now controls)) × (2 * pointsOf depth spans ≤ length (now points)) ⌝ }
+    requires { ⌜ (depth ≤ deepest) × (spans < mostRecords) ⌝ }
+    requires { ⌜ (2 * firstRecord Basis.Bezier spans + 2 ≤ length (now controls)) × (2 * pointsOf depth spans ≤ length (now points)) ⌝ }
     ensures { λ _. ⌜ now (points .exit) ≡ sets (now (points .entry)) 0 (halved (now (controls .entry)) depth 0 spans) ⌝ }
 {
     let width: usize = 2 << depth;
@@ -97,7 +100,8 @@ fn fill_spans(controls: &[i32], spans: usize, depth: usize, points: &mut [f64])
         s += 1;
         at += width;
     }
-    put_point(points, at, control_point(controls, 3 * spans));
+    let end = first_record(Basis::Bezier, spans);
+    put_point(points, at, control_point(controls, end));
 }
 
 // Rows 4, 7, 8, 9 for a shape that was found sound, and then the points.

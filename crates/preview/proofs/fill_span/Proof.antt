@@ -1,13 +1,14 @@
 -- The callee's four points are the span's records.
 use mathlib.Core.Path.{_∙_}
+use Prim.Native.Nat.{_+_}
 use lib.Seq.{sets}
-use Rattle.preview.specs.Halving.{pieces, spanPieces}
+use Rattle.preview.specs.Halving.{control, pieces, spanPieces}
 use borrow.Author.Needs.{needs}
 use Rattle.preview.proofs.fill_span.Statement.{statement}
 use Rattle.preview.proofs.fill_span.Tie as tie
 
-mul-first : tie.Need-mul-first
-mul-first c = search needs
+first-record-requires : tie.Need-first-record-requires
+first-record-requires c κs = search needs
 
 control-point-requires : tie.Need-control-point-requires
 control-point-requires c κs = search needs
@@ -39,18 +40,20 @@ same-length c = search needs
 returns : tie.Need-returns
 unfolding spanPieces
 returns c =
-    let a = c .before .before .before .before .before .before .before .before .before .args in
-    let p = c .before .before .before .before .before .before .before .control-point .ensures in
-    let q = c .before .before .before .before .before .before .control-point2 .ensures in
-    let r = c .before .before .before .before .before .control-point3 .ensures in
-    let s = c .before .before .before .before .control-point4 .ensures in
-    c .before .before .fill-pieces .ensures ∙ (λ k. sets (a .points .now) (a .at) (pieces (a .depth) (p k) (q k) (r k) (s k)))
+    let a = c .before .before .before .before .before .before .before .before .before .before .args in
+    let l = a .controls .now in
+    let r = c .before .before .before .before .before .before .before .before .first-record .ensures in
+    let p = c .before .before .before .before .before .before .before .control-point .ensures ∙ (λ k. control l (r k)) in
+    let q = c .before .before .before .before .before .before .control-point2 .ensures ∙ (λ k. control l (r k + 1)) in
+    let u = c .before .before .before .before .before .control-point3 .ensures ∙ (λ k. control l (r k + 2)) in
+    let v = c .before .before .before .before .control-point4 .ensures ∙ (λ k. control l (r k + 3)) in
+    c .before .before .fill-pieces .ensures ∙ (λ k. sets (a .points .now) (a .at) (pieces (a .depth) (p k) (q k) (u k) (v k)))
 
 pub fill-span-spec : {M : Type 1} → statement M
 fill-span-spec =
     tie.close
     (tie.spec
-    mul-first
+    first-record-requires
     control-point-requires
     add-control-point
     control-point-requires-2

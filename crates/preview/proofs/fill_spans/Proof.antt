@@ -4,8 +4,8 @@ use Prim.Native.Nat.{ℕ, _+_, _*_, _-_, _^_, _≤_, _<_}
 use native.Mathlib.Omega.{arith}
 use lib.ListN.{length, set}
 use lib.Seq.{sets}
-use Rattle.preview.specs.Halving.{halved}
-use Rattle.preview.proofs.Spans.{shift-two, points-are, next-start, starts-inside, span-step, end-written}
+use Rattle.preview.specs.Halving.{control, halved}
+use Rattle.preview.proofs.Spans.{shift-two, points-are, records-before, next-start, starts-inside, span-step, end-written}
 use Rattle.preview.proofs.fill_spans.Statement.{statement}
 use Rattle.preview.proofs.fill_spans.Tie as tie
 
@@ -32,7 +32,8 @@ loop-holds c =
 fill-span-requires : tie.Need-fill-span-requires Inv-loop μ-loop
 fill-span-requires c κs =
     let a = c .before .before .before .before .args in
-    ((omega arith, omega (arith, points-are (a .depth) (a .spans), starts-inside (c .before .before .loop .s) (a .spans) (a .depth) (omega arith))), omega arith)
+    let here : c .before .before .loop .s < a .spans = omega arith in
+    ((omega arith, omega (arith, points-are (a .depth) (a .spans), starts-inside (c .before .before .loop .s) (a .spans) (a .depth) here)), (omega arith, omega (arith, records-before (c .before .before .loop .s) (a .spans) here)))
 
 add-s : tie.Need-add-s Inv-loop μ-loop
 add-s c = omega arith
@@ -59,27 +60,28 @@ loop-again c =
           ∙ l .inv .4,
     )
 
-mul-control-point : tie.Need-mul-control-point Inv-loop μ-loop
-mul-control-point c = omega arith
+first-record-requires : tie.Need-first-record-requires Inv-loop μ-loop
+first-record-requires c κs = omega arith
 
 control-point-requires : tie.Need-control-point-requires Inv-loop μ-loop
-control-point-requires c κs = omega arith
+control-point-requires c κs = omega (arith, c .before .first-record .ensures)
 
 put-point-requires : tie.Need-put-point-requires Inv-loop μ-loop
 put-point-requires c κs =
-    let a = c .before .before .before .before .before .args in
-    let l = c .before .before .before .loop in
+    let a = c .before .before .before .before .before .before .args in
+    let l = c .before .before .before .before .loop in
     let end : l .s ≡ a .spans = omega arith in
     omega (arith, points-are (a .depth) (a .spans), ap (λ (n : ℕ). n * 2 ^ a .depth) end)
 
 same-length : tie.Need-same-length Inv-loop μ-loop
-same-length c = c .before .before .put-point .kept .0 ∙ c .before .before .before .before .before .before .loop .inv .3
+same-length c = c .before .before .put-point .kept .0 ∙ c .before .before .before .before .before .before .before .loop .inv .3
 
 returns : tie.Need-returns Inv-loop μ-loop
 returns c =
-    let a = c .before .before .before .before .before .before .before .before .args in
-    let l = c .before .before .before .before .before .before .loop in
-    let p = c .before .before .before .control-point .ensures in
+    let a = c .before .before .before .before .before .before .before .before .before .args in
+    let l = c .before .before .before .before .before .before .before .loop in
+    let r = c .before .before .before .before .before .first-record .ensures in
+    let p = c .before .before .before .control-point .ensures ∙ (λ k. control (a .controls .now) (r k)) in
     let end : l .s ≡ a .spans = omega arith in
     c .before .before .put-point .ensures
     ∙ (λ k. set (set (l .points) (l .at) (p k .x)) (l .at + 1) (p k .y))
@@ -99,7 +101,7 @@ fill-spans-spec =
     add-at
     loop-less
     loop-again
-    mul-control-point
+    first-record-requires
     control-point-requires
     put-point-requires
     same-length
