@@ -1,7 +1,7 @@
 -- What the preview answers and leaves (document 01, "Preview and drawing"): rows 1, 2, 3, 4, 7, 8, 9 in that order, and for basis 1 the exact double of each whole
 -- weighted sum of the plain controls over 2^(3k). Definitions only.
 use mathlib.Core.Bool.{not}
-use mathlib.Core.List.{List, _∷_, _++_}
+use mathlib.Core.List.{List, [], _∷_, _++_}
 use Prim.Native.Nat.{ℕ, _*_, _-_, _/_, _%_, _^_, min}
 use lib.Dec.{eqb}
 use lib.IntN.{ℤ, pos}
@@ -67,3 +67,8 @@ drawing p controls points =
 
 unfoldable pub previewing : Shape → List ℤ → List Float → Outcome
 previewing s controls points = judge (previewRows s controls (length points)) (refusing points) (drawing (planOf s) controls points)
+
+-- Document 01's number and values for each answer: no refusal, 0, with how many points were drawn; or the refusal's number with its place.
+abbrev pub paper : Previewed → ℕ × List ℕ
+paper (Drawn n) = (0, n ∷ [])
+paper (Refused r) = (r .number, r .place ∷ [])

@@ -5,3 +5,4 @@ pub mod Outside
 pub mod Readings
 pub mod RoundTrip
 pub mod Unique
+pub mod Examples

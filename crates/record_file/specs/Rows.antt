@@ -84,3 +84,8 @@ accepting file n controls = both (Read (shapeOf file n)) (sets controls 0 (numbe
 
 unfoldable pub reading : List ℕ → List ℤ → Outcome
 reading file controls = judge (fileRows file controls) (refusing controls) (accepting file (recordCount file) controls)
+
+-- Document 01's number and values for each answer: no refusal, 0, with basis, depth and control count; or the refusal's number with its place.
+abbrev pub paper : Reading → ℕ × List ℕ
+paper (Read s) = (0, s .basis ∷ s .depth ∷ s .count ∷ [])
+paper (Refused r) = (r .number, r .place ∷ [])
