@@ -1,0 +1,46 @@
+-- Files small enough to be read by computation alone: document 01's own, one with two faults in a record, and two words.
+use mathlib.Core.Path.{_≡_, refl}
+use mathlib.Core.List.{List, [], _∷_}
+use Prim.Native.Nat.{ℕ}
+use lib.IntN.{ℤ, pos, negsuc}
+use lib.ListN.{replicate}
+use Rattle.curve.specs.Numbers.{tab}
+use Rattle.curve.specs.Span.{coordinate}
+use Rattle.shape.specs.Shape.{basisOf, spansOf, recordsOf, allowed}
+use Rattle.shape.specs.Refusals.{judge, outside, seek}
+use Rattle.record_file.specs.declared.Reading.the-variants.{Read}
+use Rattle.record_file.specs.Format.{word, signed, number}
+use Rattle.record_file.specs.Rows.{recordRows, both, refusing, reading}
+
+-- basis 1, depth 1 and records (0,0), (0,8), (8,8), (8,0)
+abbrev paper : List ℕ
+paper =
+    1 ∷ 1 ∷ 0 ∷ 0 ∷ 0 ∷ 0 ∷ 0 ∷ 0 ∷ 0 ∷ 0 ∷ 0 ∷ 0
+    ∷ 1 ∷ 1 ∷ 0 ∷ 0 ∷ 0 ∷ 0 ∷ 0 ∷ 0 ∷ 8 ∷ 0 ∷ 0 ∷ 0
+    ∷ 1 ∷ 1 ∷ 0 ∷ 0 ∷ 8 ∷ 0 ∷ 0 ∷ 0 ∷ 8 ∷ 0 ∷ 0 ∷ 0
+    ∷ 1 ∷ 1 ∷ 0 ∷ 0 ∷ 8 ∷ 0 ∷ 0 ∷ 0 ∷ 0 ∷ 0 ∷ 0 ∷ 0
+    ∷ []
+
+abbrev lent : List ℤ
+lent = replicate 10 (negsuc 4)
+
+pub paper-read :
+    reading paper lent
+    ≡ both (Read (record { basis = 1; depth = 1; count = 4 })) (pos 0 ∷ pos 0 ∷ pos 0 ∷ pos 8 ∷ pos 8 ∷ pos 8 ∷ pos 8 ∷ pos 0 ∷ negsuc 4 ∷ negsuc 4 ∷ [])
+unfolding reading judge recordRows number word signed tab coordinate basisOf spansOf recordsOf allowed outside seek
+paper-read = refl
+
+-- a record with both faults is refused for its zero bytes, and the place is the record
+pub zeros-first :
+    reading (1 ∷ 1 ∷ 0 ∷ 0 ∷ 0 ∷ 0 ∷ 0 ∷ 0 ∷ 0 ∷ 0 ∷ 0 ∷ 0 ∷ 2 ∷ 1 ∷ 0 ∷ 7 ∷ 0 ∷ 0 ∷ 0 ∷ 0 ∷ 0 ∷ 0 ∷ 0 ∷ 0 ∷ []) lent ≡ refusing lent (record { number = 14; place = 1 })
+unfolding reading judge recordRows number word signed tab coordinate basisOf spansOf recordsOf allowed outside seek
+zeros-first = refl
+
+-- 255 255 255 255 is -1, and 0 0 0 128 the least number
+pub minus-one : signed (word (255 ∷ 255 ∷ 255 ∷ 255 ∷ []) 0) ≡ negsuc 0
+unfolding word signed
+minus-one = refl
+
+pub least : signed (word (0 ∷ 0 ∷ 0 ∷ 128 ∷ []) 0) ≡ negsuc 2147483647
+unfolding word signed
+least = refl

@@ -1,0 +1,168 @@
+-- A file of given records is read back: record by record its bytes are the fields they were made from, four bytes and two's complement lose nothing of 32 bits, and so
+-- the table's rows are those of the records themselves.
+use mathlib.Core.Path.{_≡_, refl, sym, ap, _∙_, subst}
+use mathlib.Core.Bool.{false, not, _&&_}
+use mathlib.Core.List.{List, [], _∷_, _++_}
+use Prim.Native.Nat.{ℕ, zero, suc, _+_, _*_, _-_, _/_, _%_, _^_, _≤_, _<_}
+use native.Mathlib.Nat.{div-div-eq-div-mul, mod-eq-of-lt}
+use native.Mathlib.Omega.{arith}
+use borrow.Author.Tests.{eq-eqb, ne-eqb, le-ltb}
+use lib.Dec.{eqb}
+use lib.IntN.{ℤ, pos, negsuc, natAbs}
+use lib.ListN.{length, getD}
+use lib.Seq.{sets, ext-getD}
+use Rattle.curve.specs.Limits.{limit}
+use Rattle.curve.specs.Span.{coordinate}
+use Rattle.curve.proofs.Tab.{length-tab, getD-tab}
+use Rattle.shape.specs.declared.Shape.{Shape}
+use Rattle.shape.specs.Refusals.{Row, NoRow, planOf, shapeRows, controlsRow, limitsRow}
+use Rattle.shape.specs.Good.{Lent}
+use Rattle.shape.proofs.Refusals.{none-sound, sound-facts, none-fine, fine-facts}
+use Rattle.record_file.specs.declared.Reading.the-variants.{Read}
+use Rattle.record_file.specs.Format.{byte, word, signed, number, numbers, unsigned, encoded}
+use Rattle.record_file.specs.Rows.{mostBytes, recordRows, recordCount, laterRows, fileRows, shapeOf, both, accepting, reading}
+use Rattle.record_file.proofs.Words.{signed-low, signed-high}
+use Rattle.record_file.proofs.Readings.{read-when}
+
+-- ---- one coordinate
+
+four-bytes : (n : ℕ) → n < 2 ^ 32 → n % 256 + 256 * (n / 256 % 256) + 65536 * (n / 65536 % 256) + 16777216 * (n / 16777216 % 256) ≡ n
+four-bytes n h = joined (n % 256) (n / 256 % 256) (n / 65536 % 256) (n / 16777216 % 256) (n / 256) (n / 65536) (n / 16777216) (split n) (split (n / 256) ∙ carried (n / 256 % 256) (div-div-eq-div-mul n 256 256)) (split (n / 65536) ∙ carried (n / 65536 % 256) (div-div-eq-div-mul n 65536 256)) (sym (mod-eq-of-lt (top n h)))
+  where
+    split : (m : ℕ) → m ≡ m % 256 + 256 * (m / 256)
+    split m = omega arith
+
+    carried : (a : ℕ) {m k : ℕ} → m ≡ k → a + 256 * m ≡ a + 256 * k
+    carried a e = ap (λ (j : ℕ). a + 256 * j) e
+
+    top : (n : ℕ) → n < 2 ^ 32 → n / 16777216 < 256
+    top n h = omega arith
+
+    joined : (a b c d p q r : ℕ) → n ≡ a + 256 * p → p ≡ b + 256 * q → q ≡ c + 256 * r → r ≡ d → a + 256 * b + 65536 * c + 16777216 * d ≡ n
+    joined a b c d p q r e f g k = omega arith
+
+unsigned-fits : (z : ℤ) → natAbs z ≤ limit → unsigned z < 2 ^ 32
+unsigned-fits (pos n) h = omega arith
+unsigned-fits (negsuc n) h = omega arith
+
+signed-unsigned : (z : ℤ) → natAbs z ≤ limit → signed (unsigned z) ≡ z
+signed-unsigned (pos n) h = signed-low n (omega arith)
+signed-unsigned (negsuc n) h = let e : 2 ^ 32 - suc (2 ^ 32 - suc n) ≡ n = omega arith in signed-high (2 ^ 32 - suc n) (omega arith) (omega arith) ∙ ap negsuc e
+
+coordinate-back : (z : ℤ) → natAbs z ≤ limit
+    → signed (unsigned z % 256 + 256 * (unsigned z / 256 % 256) + 65536 * (unsigned z / 65536 % 256) + 16777216 * (unsigned z / 16777216 % 256)) ≡ z
+coordinate-back z h = ap signed (four-bytes (unsigned z) (unsigned-fits z h)) ∙ signed-unsigned z h
+
+module _ (basis depth : ℕ) where
+  -- ---- the first record, and the others
+
+  shift : (x y : ℤ) (rest : List ℤ) (m : ℕ) → getD (encoded basis depth (x ∷ y ∷ rest)) (12 + m) 0 ≡ getD (encoded basis depth rest) m 0
+  unfolding encoded
+  shift x y rest m =
+      let e : 12 + m ≡ suc (suc (suc (suc (suc (suc (suc (suc (suc (suc (suc (suc m))))))))))) = omega arith in
+      ap (λ (i : ℕ). getD (encoded basis depth (x ∷ y ∷ rest)) i 0) e
+
+  shifted : (x y : ℤ) (rest : List ℤ) (i m : ℕ) → i ≡ 12 + m → getD (encoded basis depth (x ∷ y ∷ rest)) i 0 ≡ getD (encoded basis depth rest) m 0
+  shifted x y rest i m e = ap (λ (j : ℕ). getD (encoded basis depth (x ∷ y ∷ rest)) j 0) e ∙ shift x y rest m
+
+  pub length-encoded : (records : List ℤ) (n : ℕ) → length records ≡ 2 * n → length (encoded basis depth records) ≡ 12 * n
+  unfolding encoded
+  length-encoded [] n e = omega arith
+  length-encoded (x ∷ []) n e = absurd (omega arith)
+  length-encoded (x ∷ y ∷ rest) n e = omega (arith, length-encoded rest (n - 1) (omega arith))
+
+  heads : (records : List ℤ) (n r : ℕ) → length records ≡ 2 * n → r < n
+      → (byte (encoded basis depth records) r 0 ≡ basis) × (byte (encoded basis depth records) r 1 ≡ depth) × (byte (encoded basis depth records) r 2 ≡ 0) × (byte (encoded basis depth records) r 3 ≡ 0)
+  unfolding encoded
+  heads [] n r e h = absurd (omega arith)
+  heads (x ∷ []) n r e h = absurd (omega arith)
+  heads (x ∷ y ∷ rest) n zero e h = (refl, refl, refl, refl)
+  heads (x ∷ y ∷ rest) n (suc r) e h =
+      let (a, b, c, d) = heads rest (n - 1) r (omega arith) (omega arith) in (
+        shifted x y rest (12 * suc r + 0) (12 * r + 0) (omega arith) ∙ a,
+        shifted x y rest (12 * suc r + 1) (12 * r + 1) (omega arith) ∙ b,
+        shifted x y rest (12 * suc r + 2) (12 * r + 2) (omega arith) ∙ c,
+        shifted x y rest (12 * suc r + 3) (12 * r + 3) (omega arith) ∙ d,
+      )
+
+  word-shifted : (x y : ℤ) (rest : List ℤ) (i m : ℕ) → i ≡ 12 + m → word (encoded basis depth (x ∷ y ∷ rest)) i ≡ word (encoded basis depth rest) m
+  unfolding word
+  word-shifted x y rest i m e =
+      let a = shifted x y rest i m e in
+      let b = shifted x y rest (i + 1) (m + 1) (omega arith) in
+      let c = shifted x y rest (i + 2) (m + 2) (omega arith) in
+      let d = shifted x y rest (i + 3) (m + 3) (omega arith) in
+      λ k. a k + 256 * b k + 65536 * c k + 16777216 * d k
+
+  back : (records : List ℤ) (q : ℕ) → ((i : ℕ) → i < length records → natAbs (getD records i (pos 0)) ≤ limit) → (n : ℕ) → length records ≡ 2 * n → q < 2 * n → number (encoded basis depth records) q ≡ getD records q (pos 0)
+  unfolding encoded number word
+  back [] q h n e l = absurd (omega arith)
+  back (x ∷ []) q h n e l = absurd (omega arith)
+  back (x ∷ y ∷ rest) zero h n e l = coordinate-back x (h 0 (omega arith))
+  back (x ∷ y ∷ rest) (suc zero) h n e l = coordinate-back y (h 1 (omega arith))
+  back (x ∷ y ∷ rest) (suc (suc q)) h n e l =
+      ap signed (word-shifted x y rest (12 * (suc (suc q) / 2) + 4 + 4 * (suc (suc q) % 2)) (12 * (q / 2) + 4 + 4 * (q % 2)) (omega arith))
+      ∙ back rest q (λ i k. h (suc (suc i)) (omega arith)) (n - 1) (omega arith) (omega arith)
+
+-- ---- the rows
+
+no-rows : (xs ys : List Row) → NoRow xs → NoRow ys → NoRow (xs ++ ys)
+no-rows [] ys h k = k
+no-rows (x ∷ xs) ys h k = (h .0, no-rows xs ys (h .1) k)
+
+alike : (a b c d : ℕ) → a ≡ c → b ≡ d → not (eqb a c && eqb b d) ≡ false
+alike a b c d e f = simp (eq-eqb a c e, eq-eqb b d f)
+
+-- each number of n records inside the limits is
+inside : (n : ℕ) (records : List ℤ) → length records ≡ 2 * n → Lent n records 0 0 → (q : ℕ) → q < length records → natAbs (getD records q (pos 0)) ≤ limit
+unfolding coordinate
+inside n records even lent q h = go (q % 2) refl
+  where
+    go : (axis : ℕ) → q % 2 ≡ axis → natAbs (getD records q (pos 0)) ≤ limit
+    go zero e = subst (λ (j : ℕ). natAbs (getD records j (pos 0)) ≤ limit) (omega arith) (lent .x (q / 2) (omega arith))
+    go (suc zero) e = subst (λ (j : ℕ). natAbs (getD records j (pos 0)) ≤ limit) (omega arith) (lent .y (q / 2) (omega arith))
+    go (suc (suc axis)) e = absurd (omega arith)
+
+module _ (basis depth n : ℕ) (records controls : List ℤ) (even : length records ≡ 2 * n) where
+  abbrev file : List ℕ
+  file = encoded basis depth records
+
+  abbrev given : Shape
+  given = record { basis = basis; depth = depth; count = n }
+
+  records-pass : (r m : ℕ) → r + m ≤ n → NoRow (recordRows file r m)
+  unfolding recordRows
+  records-pass r zero h = tt
+  records-pass r (suc m) h =
+      let (a, b, c, d) = heads basis depth records n r even (omega arith) in
+      let (a₀, b₀, c₀, d₀) = heads basis depth records n 0 even (omega arith) in
+      (alike (byte file r 2) (byte file r 3) 0 0 c d, (alike (byte file r 0) (byte file r 1) (byte file 0 0) (byte file 0 1) (a ∙ sym a₀) (b ∙ sym b₀), records-pass (suc r) m (omega arith)))
+
+  -- Reading a file of given records gives them back, wherever the rows of the records themselves pass: 1, 2, 3, 7 and 8.
+  pub read-back : NoRow (shapeRows given ++ (controlsRow n controls ∷ limitsRow n records ∷ [])) → reading file controls ≡ both (Read given) (sets controls 0 records)
+  read-back h =
+      let good = sound-facts given (planOf given) (none-sound given (h .0, (h .1 .0, (h .1 .1 .0, tt)))) in
+      let lent = fine-facts n records 0 0 (none-fine n records 0 0 (le-ltb (length records) (2 * n) (omega arith), (h .1 .1 .1 .1 .0, (refl, tt)))) in
+      let some : 4 ≤ n = omega (arith, good .spans-least, good .spans-most) in
+      let few : n ≤ 64 = good .records-most in
+      let long = length-encoded basis depth records n even in
+      let count : recordCount file ≡ n = omega (arith, long) in
+      let (first, second, zero-2, zero-3) = heads basis depth records n 0 even (omega arith) in
+      let shape : shapeOf file n ≡ given = λ k. record { basis = first k; depth = second k; count = n } in
+      let whole : numbers file n ≡ records = same lent in
+      let none : NoRow (fileRows file controls) = (
+        simp (ne-eqb (length file) 0 (λ e. absurd (omega (arith, long))), le-ltb mostBytes (length file) (omega (arith, long))),
+        (
+          simp (eq-eqb (length file % 12) 0 (omega (arith, long))),
+          subst (λ (m : ℕ). NoRow (recordRows file 0 m ++ laterRows file m controls)) (sym count)
+              (no-rows (recordRows file 0 n) (laterRows file n controls) (records-pass 0 n (omega arith))
+              (subst (λ s. NoRow (shapeRows s ++ (controlsRow n controls ∷ limitsRow n (numbers file n) ∷ []))) (sym shape)
+              (subst (λ v. NoRow (shapeRows given ++ (controlsRow n controls ∷ limitsRow n v ∷ []))) (sym whole) h))),
+        ),
+      ) in
+      read-when file controls none ∙ ap (λ (m : ℕ). accepting file m controls) count ∙ (λ k. both (Read (shape k)) (sets controls 0 (whole k)))
+    where
+      same : Lent n records 0 0 → numbers file n ≡ records
+      same lent =
+          ext-getD (pos 0) (numbers file n) records (length-tab (number file) 0 (2 * n) ∙ sym even)
+          (λ q l. getD-tab (number file) 0 (2 * n) q (omega (arith, length-tab (number file) 0 (2 * n))) (pos 0) ∙ ap (number file) (omega arith) ∙ back basis depth records q (inside n records even lent) n even (omega (arith, length-tab (number file) 0 (2 * n))))

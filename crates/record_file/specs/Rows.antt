@@ -1,0 +1,91 @@
+-- What reading a record file answers and leaves: the refusal table's rows in the order of document 01 (3 for the length, 13, then record by record 14 and 15, then
+-- 1, 2, 3 for the shape, 7, 8), and one total reading over them. Definitions only.
+use mathlib.Core.Bool.{not, cond, _&&_, _||_}
+use mathlib.Core.List.{List, [], _∷_, _++_}
+use Prim.Native.Nat.{ℕ, zero, suc, _*_, _/_, _%_}
+use lib.Dec.{ltb, eqb}
+use lib.IntN.{ℤ}
+use lib.ListN.{length}
+use lib.Seq.{sets}
+use Rattle.shape.specs.declared.Shape.{Shape}
+use Rattle.shape.specs.declared.Refusal.{Refusal}
+use Rattle.shape.specs.Shape.{mostRecords}
+use Rattle.shape.specs.Refusals.{Row, row, judge, shapeRows, controlsRow, limitsRow}
+use Rattle.record_file.specs.declared.Reading.{Reading}
+use Rattle.record_file.specs.declared.Reading.the-variants.{Read, Refused}
+use Rattle.record_file.specs.Format.{recordBytes, byte, numbers}
+
+-- ---- rows 3 and 13: the length
+
+-- 64 records, 768 bytes.
+abbrev pub mostBytes : ℕ
+mostBytes = mostRecords * recordBytes
+
+abbrev pub lengthRow : ℕ → Row
+lengthRow len = row (eqb len 0 || ltb mostBytes len) 3 0
+
+abbrev pub wholeRow : ℕ → Row
+wholeRow len = row (not (eqb (len % recordBytes) 0)) 13 0
+
+-- ---- rows 14 and 15: record by record
+
+abbrev pub zerosRow : List ℕ → ℕ → Row
+zerosRow file r = row (not (eqb (byte file r 2) 0 && eqb (byte file r 3) 0)) 14 r
+
+abbrev pub alikeRow : List ℕ → ℕ → Row
+alikeRow file r = row (not (eqb (byte file r 0) (byte file 0 0) && eqb (byte file r 1) (byte file 0 1))) 15 r
+
+-- The rows of n records from record r on.
+unfoldable pub recordRows : List ℕ → ℕ → ℕ → List Row
+recordRows file r zero = []
+recordRows file r (suc n) = zerosRow file r ∷ alikeRow file r ∷ recordRows file (suc r) n
+
+-- What is wrong with record r: the number of its first row that holds, or 0.
+unfoldable pub fault : List ℕ → ℕ → ℕ
+fault file r = cond (zerosRow file r .holds) 14 (cond (alikeRow file r .holds) 15 0)
+
+-- ---- rows 1, 2, 3 for the shape of the first record, then 7 for the lent controls and 8 for the file's own records
+
+-- The shape of a file of n records.
+abbrev pub shapeOf : List ℕ → ℕ → Shape
+shapeOf file n = record { basis = byte file 0 0; depth = byte file 0 1; count = n }
+
+abbrev pub listRows : List ℕ → ℕ → List ℤ → List Row
+listRows file n controls = controlsRow n controls ∷ limitsRow n (numbers file n) ∷ []
+
+abbrev pub laterRows : List ℕ → ℕ → List ℤ → List Row
+laterRows file n controls = shapeRows (shapeOf file n) ++ listRows file n controls
+
+-- ---- the whole table, and the reading
+
+abbrev pub recordCount : List ℕ → ℕ
+recordCount file = length file / recordBytes
+
+abbrev pub fileRows : List ℕ → List ℤ → List Row
+fileRows file controls =
+    let n = recordCount file in
+    lengthRow (length file) ∷ wholeRow (length file) ∷ (recordRows file 0 n ++ laterRows file n controls)
+
+-- An answer, and what the lent controls hold then.
+pub record Outcome : Type 0 where
+  pub answer : Reading
+  pub held : List ℤ
+
+abbrev pub both : Reading → List ℤ → Outcome
+both r l = record { answer = r; held = l }
+
+-- A refusal changes nothing.
+abbrev pub refusing : List ℤ → Refusal → Outcome
+refusing controls r = both (Refused r) controls
+
+-- n records are written from the start of the controls on, x then y, and all past them is kept.
+abbrev pub accepting : List ℕ → ℕ → List ℤ → Outcome
+accepting file n controls = both (Read (shapeOf file n)) (sets controls 0 (numbers file n))
+
+unfoldable pub reading : List ℕ → List ℤ → Outcome
+reading file controls = judge (fileRows file controls) (refusing controls) (accepting file (recordCount file) controls)
+
+-- Document 01's number and values for each answer: no refusal, 0, with basis, depth and control count; or the refusal's number with its place.
+abbrev pub paper : Reading → ℕ × List ℕ
+paper (Read s) = (0, s .basis ∷ s .depth ∷ s .count ∷ [])
+paper (Refused r) = (r .number, r .place ∷ [])
