@@ -1,41 +1,45 @@
+-- The rows 6 and 7 are tested in their order; where neither holds, the three records are written.
+use mathlib.Core.Path.{_≡_, sym, ap, _∙_}
+use mathlib.Core.List.{[], _∷_}
+use native.Mathlib.Omega.{arith}
+use Rattle.drawing.specs.declared.Stepped.the-variants.{Next}
+use Rattle.drawing.specs.Reading.{both}
+use Rattle.drawing.proofs.Tables.{too-many, too-short, roomy}
 use borrow.Author.Needs.{needs}
 use Rattle.drawing.proofs.State.add_three.Statement.{statement}
 use Rattle.drawing.proofs.State.add_three.Tie as tie
-use Rattle.drawing.proofs.State.add_three.Reads as reads
-use Rattle.drawing.proofs.State.add_three.Lts as lts
-use Rattle.drawing.proofs.put_three.Reads as put-three-reads
 
--- src/lib.rt:238:20
 add-next : tie.Need-add-next
 add-next c = search needs
 
--- src/lib.rt:240:13
 returns : tie.Need-returns
-returns c = ?
+returns c =
+    let t = c .before .before .args in
+    sym (too-many (t .self) (t .a ∷ t .b ∷ t .c ∷ []) (t .self .start) (t .closed) (t .controls .now) (c .if1 .taken))
 
--- src/lib.rt:245:29
 mul-if2 : tie.Need-mul-if2
 mul-if2 c = search needs
 
--- src/lib.rt:246:13
 returns-2 : tie.Need-returns-2
-returns-2 c = ?
+returns-2 c =
+    let t = c .before .before .before .args in
+    sym (too-short (t .self) (t .a ∷ t .b ∷ t .c ∷ []) (t .self .start) (t .closed) (t .controls .now) (c .before .if1 .left) (c .if2 .taken))
 
--- src/lib.rt:251:29
 mul-put-three : tie.Need-mul-put-three
 mul-put-three c = search needs
 
--- src/lib.rt:251:9
 put-three-requires : tie.Need-put-three-requires
 put-three-requires c κs = search needs
 
--- src/lib.rt:232:5
 same-length : tie.Need-same-length
 same-length c = search needs
 
--- src/lib.rt:232:5
 returns-3 : tie.Need-returns-3
-returns-3 c = ?
+returns-3 c =
+    let e = c .before .before .before in
+    let t = e .before .before .before .args in
+    ap (both (Next _)) (c .before .put-three .ensures)
+    ∙ sym (roomy (t .self) (t .a ∷ t .b ∷ t .c ∷ []) (t .self .start) (t .closed) (t .controls .now) (e .before .if1 .left) (e .if2 .left))
 
 pub add-three-spec : {M : Type 1} → statement M
 add-three-spec =

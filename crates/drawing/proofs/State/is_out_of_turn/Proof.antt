@@ -1,19 +1,42 @@
+-- A closed drawing takes no step; else Move comes exactly at count 0.
+use mathlib.Core.Path.{_≡_, refl}
+use mathlib.Core.Bool.{Bool, true, false, not, _&&_, _||_}
+use borrow.Author.Tests.{eq-eqb, ne-eqb}
+use lib.Dec.{eqb}
+use Rattle.drawing.specs.declared.State.{State}
+use Rattle.drawing.specs.Reading.{outOfTurn}
 use Rattle.drawing.proofs.State.is_out_of_turn.Statement.{statement}
 use Rattle.drawing.proofs.State.is_out_of_turn.Tie as tie
-use Rattle.drawing.proofs.State.is_out_of_turn.Reads as reads
-use Rattle.drawing.proofs.State.is_out_of_turn.Lts as lts
 
--- src/lib.rt:198:13
+last-true : (a b : Bool) → true ≡ (a || (b || true))
+last-true true b = refl
+last-true false true = refl
+last-true false false = refl
+
+or-false-right : (a : Bool) → (a || false) ≡ a
+or-false-right true = refl
+or-false-right false = refl
+
+after-close : (s : State) (opening : Bool) → s .closed ≡ true → true ≡ outOfTurn s opening
+unfolding outOfTurn
+after-close s opening e = rw e (last-true (eqb (s .count) 0 && not opening) (not (eqb (s .count) 0) && opening))
+
+at-first : (s : State) (opening : Bool) → s .closed ≡ false → s .count ≡ 0 → not opening ≡ outOfTurn s opening
+unfolding outOfTurn
+at-first s opening e h = simp (e, eq-eqb (s .count) 0 h, or-false-right)
+
+later : (s : State) (opening : Bool) → s .closed ≡ false → (s .count ≡ 0 → ⊥) → opening ≡ outOfTurn s opening
+unfolding outOfTurn
+later s opening e h = simp (e, ne-eqb (s .count) 0 h, or-false-right)
+
 returns : tie.Need-returns
-returns c = ?
+returns c = after-close (c .before .args .self) (c .before .args .opening) (c .if1 .taken)
 
--- src/lib.rt:201:13
 returns-2 : tie.Need-returns-2
-returns-2 c = ?
+returns-2 c = at-first (c .before .before .args .self) (c .before .before .args .opening) (c .before .if1 .left) (c .if2 .taken)
 
--- src/lib.rt:193:5
 returns-3 : tie.Need-returns-3
-returns-3 c = ?
+returns-3 c = later (c .before .before .args .self) (c .before .before .args .opening) (c .before .if1 .left) (c .if2 .left)
 
 pub is-out-of-turn-spec : {M : Type 1} → statement M
 is-out-of-turn-spec = tie.close (tie.spec returns returns-2 returns-3)
