@@ -163,8 +163,7 @@ module _ (s : State) (cs : List Control) (start : Control) (closed : Bool) (l : 
   unfolding extends
   too-short h short =
       judge-first (spaceRows (s .count) (s .count + length cs) l) (refused l) (extended s cs start closed l) (record { number = 7; place = 0 })
-      (inr
-      (
+      (inr (
         le-ltb mostRecords (s .count + length cs) h,
         ⊎-elim (λ t. inl (t, refl)) (λ f. inr (f, inl (lt-ltb (length l) (2 * (s .count + length cs)) short, refl))) (passes (ltb (length l) (2 * s .count))),
       ))

@@ -68,14 +68,8 @@ fn number(mm: f64, place: usize) -> Numbered
     ensures { λ r. ⌜ r ≡ judgeNumber place mm ⌝ }
 {
     match micrometres(mm) {
-        Measure::NotFinite => Numbered::Wrong(Refusal {
-            number: 10,
-            place,
-        }),
-        Measure::Outside => Numbered::Wrong(Refusal {
-            number: 11,
-            place,
-        }),
+        Measure::NotFinite => Numbered::Wrong(Refusal { number: 10, place }),
+        Measure::Outside => Numbered::Wrong(Refusal { number: 11, place }),
         Measure::Micrometres(n) => Numbered::Good(n),
     }
 }
@@ -89,10 +83,7 @@ fn control_of(x: f64, y: f64, place: usize) -> Placed
         Numbered::Wrong(refusal) => Placed::Amiss(refusal),
         Numbered::Good(x) => match number(y, place + 1) {
             Numbered::Wrong(refusal) => Placed::Amiss(refusal),
-            Numbered::Good(y) => Placed::At(Control {
-                x,
-                y,
-            }),
+            Numbered::Good(y) => Placed::At(Control { x, y }),
         },
     }
 }
@@ -149,14 +140,8 @@ impl State {
     {
         State {
             count: 0,
-            start: Control {
-                x: 0,
-                y: 0,
-            },
-            current: Control {
-                x: 0,
-                y: 0,
-            },
+            start: Control { x: 0, y: 0 },
+            current: Control { x: 0, y: 0 },
             closed: false,
         }
     }
@@ -229,7 +214,14 @@ impl State {
     }
 
     // Three records more: the checks 6 and 7, the writing, and the next state.
-    fn add_three(self, a: Control, b: Control, c: Control, closed: bool, controls: &mut [i32]) -> Stepped
+    fn add_three(
+        self,
+        a: Control,
+        b: Control,
+        c: Control,
+        closed: bool,
+        controls: &mut [i32],
+    ) -> Stepped
         requires { ⌜ self .count ≤ 64 ⌝ }
         ensures { λ r. ⌜ both r (now (controls .exit)) ≡ extends self (a ∷ b ∷ c ∷ []) (self .start) closed (now (controls .entry)) ⌝ }
     {

@@ -35,8 +35,7 @@ returns-3 c =
     let t = e .before .before .args in
     sym
     (first-unfit (t .self) (t .opening) (record { number = 12; place = 0 })
-    (inr
-    (
+    (inr (
       sym (e .before .is-miscounted .ensures) ∙ e .if1 .left,
       inr (sym (d .before .is-astray .ensures) ∙ d .if2 .left, inl (sym (c .before .is-out-of-turn .ensures) ∙ c .if3 .taken, refl)),
     )))
@@ -47,8 +46,7 @@ returns-4 c =
     let e = d .before .before in
     let t = e .before .before .args in
     sym
-    (none-fine (t .self) (t .opening)
-    (
+    (none-fine (t .self) (t .opening) (
       sym (e .before .is-miscounted .ensures) ∙ e .if1 .left,
       (sym (d .before .is-astray .ensures) ∙ d .if2 .left, (sym (c .before .is-out-of-turn .ensures) ∙ c .if3 .left, tt)),
     ))

@@ -51,13 +51,13 @@ returns-2 c =
     ap (λ n. ltb n 2)
     (c .first-outside .ensures
     ∙ (λ k.
-      firstOutside
-      (kept-is w32 (s .start .x) (record { sfits = f .0 .1 }) k
-      ∷ kept-is w32 (s .start .y) (record { sfits = f .1 .0 .1 }) k
-      ∷ kept-is w32 (s .current .x) (record { sfits = g .0 .1 }) k
-      ∷ kept-is w32 (s .current .y) (record { sfits = g .1 .0 .1 }) k
-      ∷ [])
-      2))
+    firstOutside
+    (kept-is w32 (s .start .x) (record { sfits = f .0 .1 }) k
+    ∷ kept-is w32 (s .start .y) (record { sfits = f .1 .0 .1 }) k
+    ∷ kept-is w32 (s .current .x) (record { sfits = g .0 .1 }) k
+    ∷ kept-is w32 (s .current .y) (record { sfits = g .1 .0 .1 }) k
+    ∷ [])
+    2))
     ∙ some s (c .before .before .before .before .if1 .left)
 
 pub is-astray-spec : {M : Type 1} → statement M
