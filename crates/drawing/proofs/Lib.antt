@@ -1,2 +1,5 @@
 pub mod Tables
 pub mod Same
+pub mod Records
+pub mod Sequences
+pub mod Unique

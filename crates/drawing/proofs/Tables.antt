@@ -3,7 +3,7 @@ use mathlib.Core.Path.{_≡_, refl, sym, ap, _∙_}
 use mathlib.Core.Bool.{Bool, true, false, not, _&&_, _||_}
 use mathlib.Core.List.{List, [], _∷_, _++_}
 use mathlib.Core.Logic.{_⊎_, inl, inr, ⊎-elim}
-use Prim.Native.Nat.{ℕ, _+_, _*_, _%_, _≤_, _<_}
+use Prim.Native.Nat.{ℕ, zero, suc, _+_, _*_, _%_, _≤_, _<_}
 use native.Mathlib.Omega.{arith}
 use borrow.Author.Tests.{lt-ltb, le-ltb, leb-true, eqb-true, eqb-false, not-false}
 use lib.Dec.{leb, ltb, eqb}
@@ -23,7 +23,8 @@ use Rattle.drawing.specs.declared.Checked.the-variants.{Fine, Unfit}
 use Rattle.drawing.specs.declared.Numbered.the-variants.{Good, Wrong}
 use Rattle.drawing.specs.declared.Placed.the-variants.{At, Amiss}
 use Rattle.drawing.specs.Drawing.{numbers, at, opens, added, startAfter, closedAfter}
-use Rattle.drawing.specs.Reading.{reached, miscounted, astray, outOfTurn, stateRows, numberRow, numberRows, spaceRows, Outcome, refused, extended, stepped, judgeState, judgeNumber, judgeControl, extends, goesOn}
+use Rattle.drawing.specs.Reading.{reached, miscounted, astray, outOfTurn, stateRows, numberRow, numberRows, spaceRows, Outcome, refused, stepped}
+use Rattle.drawing.specs.Parts.{extended, judgeState, judgeNumber, judgeControl, extends, goesOn}
 
 -- ---- any part
 
@@ -86,6 +87,17 @@ fine-empty s e =
     let h = fine-none s true e .1 .1 .0 in
     let late = or-false (not (eqb (s .count) 0) && true) (s .closed) (or-false (eqb (s .count) 0 && not true) ((not (eqb (s .count) 0) && true) || s .closed) h .1) .0 in
     ⊎-elim (λ t. eqb-true (s .count) 0 t) (λ f. absurd (true-is-not-false refl (rw f at late))) (passes (eqb (s .count) 0))
+
+pub fine-begun : (s : State) → judgeState s false ≡ Fine → 0 < s .count
+unfolding outOfTurn
+fine-begun s e =
+    let h = fine-none s false e .1 .1 .0 in
+    let early = or-false (eqb (s .count) 0 && not false) ((not (eqb (s .count) 0) && false) || s .closed) h .0 in
+    ⊎-elim (λ t. absurd (true-is-not-false refl (rw t at early))) (λ f. above (s .count) (eqb-false (s .count) 0 f)) (passes (eqb (s .count) 0))
+  where
+    above : (n : ℕ) → (n ≡ 0 → ⊥) → 0 < n
+    above zero h = absurd (h refl)
+    above (suc n) h = omega arith
 
 -- ---- rows 10 and 11
 

@@ -17,13 +17,7 @@ use Rattle.drawing.specs.declared.State.{State}
 use Rattle.drawing.specs.declared.Step.{Step}
 use Rattle.drawing.specs.declared.Stepped.{Stepped}
 use Rattle.drawing.specs.declared.Stepped.the-variants.{Next, Refused}
-use Rattle.drawing.specs.declared.Checked.{Checked}
-use Rattle.drawing.specs.declared.Checked.the-variants.{Fine, Unfit}
-use Rattle.drawing.specs.declared.Numbered.{Numbered}
-use Rattle.drawing.specs.declared.Numbered.the-variants.{Good, Wrong}
-use Rattle.drawing.specs.declared.Placed.{Placed}
-use Rattle.drawing.specs.declared.Placed.the-variants.{At, Amiss}
-use Rattle.drawing.specs.Drawing.{numbers, at, opens, added, grown, next, flat}
+use Rattle.drawing.specs.Drawing.{numbers, opens, added, next, flat}
 
 -- ---- row 3: the count is not 0, 1, 4, .., 64, or 0 while closed
 
@@ -80,10 +74,7 @@ both a l = record { answer = a; controls = l }
 abbrev pub refused : List ℤ → Refusal → Outcome
 refused l r = both (Refused r) l
 
--- The records are written from record number count on, and all other numbers stay.
-abbrev pub extended : State → List Control → Control → Bool → List ℤ → Outcome
-extended s cs start closed l = both (Next (grown s cs start closed)) (sets l (2 * s .count) (flat cs))
-
+-- The records that the step adds are written from record number count on, and all other numbers stay.
 abbrev pub accepted : State → Step → List ℤ → Outcome
 accepted s step l = both (Next (next s step)) (sets l (2 * s .count) (flat (added s step)))
 
@@ -99,22 +90,3 @@ pub record Answered : Type 0 where
 abbrev pub paperOf : State → Stepped → Answered
 paperOf s (Next t) = record { number = 0; place = 0; state = t }
 paperOf s (Refused r) = record { number = r .number; place = r .place; state = s }
-
--- ---- the parts of the table, each as the function that works it answers
-
-unfoldable pub judgeState : State → Bool → Checked
-judgeState s opening = judge (stateRows s opening) Unfit Fine
-
-unfoldable pub judgeNumber : ℕ → Float → Numbered
-judgeNumber i x = judge (numberRow i x ∷ []) Wrong (Good (paper (measure x) .1))
-
-unfoldable pub judgeControl : ℕ → Float → Float → Placed
-judgeControl i x y = judge (numberRows i (x ∷ y ∷ [])) Amiss (At (at x y))
-
--- What is left of a call whose state was found fit and whose records are known.
-unfoldable pub extends : State → List Control → Control → Bool → List ℤ → Outcome
-extends s cs start closed l = judge (spaceRows (s .count) (s .count + length cs) l) (refused l) (extended s cs start closed l)
-
--- What is left of a call whose state was found fit.
-unfoldable pub goesOn : State → Step → List ℤ → Outcome
-goesOn s step l = judge (numberRows 0 (numbers step) ++ spaceRows (s .count) (next s step .count) l) (refused l) (accepted s step l)

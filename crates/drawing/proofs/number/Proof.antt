@@ -15,7 +15,7 @@ use Rattle.doubles.specs.declared.Measure.{Measure}
 use Rattle.doubles.specs.declared.Measure.the-variants.{NotFinite, Outside, Micrometres}
 use Rattle.drawing.specs.declared.Numbered.{Numbered}
 use Rattle.drawing.specs.declared.Numbered.the-variants.{Good, Wrong}
-use Rattle.drawing.specs.Reading.{judgeNumber}
+use Rattle.drawing.specs.Parts.{judgeNumber}
 use Rattle.drawing.proofs.number.Statement.{statement}
 use Rattle.drawing.proofs.number.Tie as tie
 

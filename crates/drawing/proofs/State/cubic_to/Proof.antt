@@ -13,7 +13,8 @@ use Rattle.shape.specs.Refusals.{Row, judge}
 use Rattle.drawing.specs.declared.Step.the-variants.{Cubic}
 use Rattle.drawing.specs.declared.Placed.the-variants.{At, Amiss}
 use Rattle.drawing.specs.Drawing.{at, added}
-use Rattle.drawing.specs.Reading.{Outcome, refused, numberRows, spaceRows, judgeControl, extends, goesOn, accepted}
+use Rattle.drawing.specs.Reading.{Outcome, refused, numberRows, spaceRows, accepted}
+use Rattle.drawing.specs.Parts.{judgeControl, extends, goesOn}
 use Rattle.drawing.proofs.Tables.{reached-most, fine-reached, placed-none, placed-is, placed, amiss, numbers-good}
 use borrow.Author.Needs.{needs}
 use Rattle.drawing.proofs.State.cubic_to.Statement.{statement}

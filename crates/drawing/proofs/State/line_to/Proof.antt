@@ -12,7 +12,8 @@ use Rattle.drawing.specs.declared.State.{State}
 use Rattle.drawing.specs.declared.Step.the-variants.{Line}
 use Rattle.drawing.specs.declared.Placed.the-variants.{At, Amiss}
 use Rattle.drawing.specs.Drawing.{line, added}
-use Rattle.drawing.specs.Reading.{refused, spaceRows, judgeControl, extends, goesOn, accepted}
+use Rattle.drawing.specs.Reading.{refused, spaceRows, accepted}
+use Rattle.drawing.specs.Parts.{judgeControl, extends, goesOn}
 use Rattle.drawing.proofs.Tables.{reached-most, fine-reached, placed-none, placed-is, amiss, numbers-good}
 use borrow.Author.Needs.{needs}
 use Rattle.drawing.proofs.State.line_to.Statement.{statement}

@@ -16,7 +16,8 @@ use Rattle.drawing.specs.declared.Checked.the-variants.{Fine}
 use Rattle.drawing.specs.declared.Placed.the-variants.{At, Amiss}
 use Rattle.drawing.specs.declared.Stepped.the-variants.{Next}
 use Rattle.drawing.specs.Drawing.{at, added, flat}
-use Rattle.drawing.specs.Reading.{both, refused, spaceRows, judgeState, judgeControl, goesOn, accepted}
+use Rattle.drawing.specs.Reading.{both, refused, spaceRows, accepted}
+use Rattle.drawing.specs.Parts.{judgeState, judgeControl, goesOn}
 use Rattle.drawing.proofs.Tables.{fine-open, fine-empty, placed-none, placed-is, amiss, numbers-good, too-short, roomy}
 use borrow.Author.Needs.{needs}
 use Rattle.drawing.proofs.State.move_to.Statement.{statement}

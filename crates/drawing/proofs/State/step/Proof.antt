@@ -3,7 +3,8 @@ use mathlib.Core.Path.{_≡_, sym, ap, _∙_}
 use Rattle.drawing.specs.declared.Step.{Step}
 use Rattle.drawing.specs.declared.Checked.the-variants.{Fine}
 use Rattle.drawing.specs.Drawing.{opens}
-use Rattle.drawing.specs.Reading.{Outcome, judgeState, stepped, goesOn}
+use Rattle.drawing.specs.Reading.{Outcome, stepped}
+use Rattle.drawing.specs.Parts.{judgeState, goesOn}
 use Rattle.drawing.proofs.Tables.{fit, unfit}
 use borrow.Author.Needs.{needs}
 use Rattle.drawing.proofs.State.step.Statement.{statement}
