@@ -2,4 +2,5 @@ pub mod Tables
 pub mod Same
 pub mod Records
 pub mod Sequences
+pub mod Lines
 pub mod Unique

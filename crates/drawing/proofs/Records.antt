@@ -1,7 +1,7 @@
 -- Records written to a list, one after another: each stands where it was written, and those below it stay. By induction on the records that are left to write.
 use mathlib.Core.Path.{_≡_, refl, sym, ap, _∙_, subst}
 use mathlib.Core.List.{List, [], _∷_}
-use mathlib.Core.Logic.{_⊎_, inl, inr, ⊎-elim}
+use mathlib.Core.Logic.{_⊎_, ⊎-elim}
 use Prim.Native.Nat.{ℕ, zero, suc, _+_, _*_, _-_, _≤_, _<_}
 use native.Mathlib.Omega.{arith}
 use borrow.Author.Tests.{ltb-true, ltb-false}
@@ -44,6 +44,30 @@ put-below l n c r h =
     let is-x = stays (2 * r + 0) (omega arith) in
     let is-y = stays (2 * r + 1) (omega arith) in
     (λ k. record { x = is-x k; y = is-y k })
+
+-- ---- some records, from record n on
+
+-- the next one, and the rest from the record after it
+next-record : (l : List ℤ) (n : ℕ) (c : Control) (cs : List Control) → sets l (2 * n) (flat (c ∷ cs)) ≡ sets (put l n c) (2 * (n + 1)) (flat cs)
+next-record l n c cs = let next : 2 * (n + 1) ≡ suc (suc (2 * n)) = omega arith in ap (λ (m : ℕ). sets (put l n c) m (flat cs)) (sym next)
+
+pub sets-below : (cs : List Control) (l : List ℤ) (n r : ℕ) → r < n → recordAt (sets l (2 * n) (flat cs)) r ≡ recordAt l r
+sets-below [] l n r h = refl
+sets-below (c ∷ cs) l n r h = ap (λ m. recordAt m r) (next-record l n c cs) ∙ sets-below cs (put l n c) (n + 1) r (omega arith) ∙ put-below l n c r h
+
+pub sets-at : (cs : List Control) (l : List ℤ) (n : ℕ) → 2 * (n + length cs) ≤ length l → (i : ℕ) (d : Control) → i < length cs → recordAt (sets l (2 * n) (flat cs)) (n + i) ≡ getD cs i d
+sets-at [] l n h i d b = absurd (omega arith)
+sets-at (c ∷ cs) l n h zero d b =
+    let here : n + 0 ≡ n = omega arith in
+    ap (λ m. recordAt m (n + 0)) (next-record l n c cs)
+    ∙ ap (λ (r : ℕ). recordAt (sets (put l n c) (2 * (n + 1)) (flat cs)) r) here
+    ∙ sets-below cs (put l n c) (n + 1) n (omega arith)
+    ∙ put-here l n c (omega arith)
+sets-at (c ∷ cs) l n h (suc i) d b =
+    let on : n + suc i ≡ n + 1 + i = omega arith in
+    ap (λ m. recordAt m (n + suc i)) (next-record l n c cs)
+    ∙ ap (λ (r : ℕ). recordAt (sets (put l n c) (2 * (n + 1)) (flat cs)) r) on
+    ∙ sets-at cs (put l n c) (n + 1) (omega (arith, length-put l n c)) i d (omega arith)
 
 -- ---- a list that holds the records of a drawing
 
@@ -94,8 +118,7 @@ AllInside (c ∷ cs) = Inside c × AllInside cs
 pub all-more : (cs : List Control) (l : List ℤ) (n : ℕ) (s p : Control) → Kept l n s p → 2 * (n + length cs) ≤ length l → AllInside cs → Kept (sets l (2 * n) (flat cs)) (n + length cs) s (lastOf p cs)
 all-more [] l n s p k h i = let same : n ≡ n + 0 = omega arith in subst (λ (m : ℕ). Kept l m s p) same k
 all-more (c ∷ cs) l n s p k h i =
-    let next : 2 * (n + 1) ≡ suc (suc (2 * n)) = omega arith in
     let count : n + 1 + length cs ≡ n + suc (length cs) = omega arith in
     let rest = all-more cs (put l n c) (n + 1) s c (more l n s p c k (omega arith) (i .0)) (omega (arith, length-put l n c)) (i .1) in
-    subst (λ (m : ℕ). Kept (sets (put l n c) (suc (suc (2 * n))) (flat cs)) m s (lastOf c cs)) count
-    (subst (λ (m : ℕ). Kept (sets (put l n c) m (flat cs)) (n + 1 + length cs) s (lastOf c cs)) next rest)
+    subst (λ (m : ℕ). Kept (sets l (2 * n) (flat (c ∷ cs))) m s (lastOf c cs)) count
+    (subst (λ m. Kept m (n + 1 + length cs) s (lastOf c cs)) (sym (next-record l n c cs)) rest)

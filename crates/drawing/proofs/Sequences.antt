@@ -1,16 +1,15 @@
 -- Any sequence of steps leaves a sound drawing: a refused step leaves what there was, and an accepted one writes records inside the limits right after those that
 -- there are. A sound drawing of a span or more is a shape of basis 1 that the checks 1, 2, 3, 7, 8 accept.
-use mathlib.Core.Path.{_≡_, refl, sym, ap, _∙_, subst}
-use mathlib.Core.Bool.{Bool, true, false, not, cond, _&&_, _||_}
+use mathlib.Core.Path.{_≡_, refl, sym, ap, subst}
+use mathlib.Core.Bool.{Bool, true, false, not, cond}
 use mathlib.Core.List.{List, [], _∷_, _++_}
-use mathlib.Core.Logic.{_⊎_, inl, inr, ⊎-elim}
-use Prim.Native.Nat.{ℕ, zero, suc, _+_, _*_, _-_, _/_, _%_, _≤_, _<_}
-use native.Mathlib.Nat.{le-refl}
+use mathlib.Core.Logic.{_⊎_, ⊎-elim}
+use Prim.Native.Nat.{ℕ, _+_, _*_, _-_, _/_, _%_, _≤_, _<_}
 use native.Mathlib.Omega.{arith}
 use borrow.Author.Tests.{le-leb, le-ltb, leb-true, ltb-false, eq-eqb}
-use lib.Dec.{leb, ltb, eqb}
+use lib.Dec.{leb}
 use lib.Ieee.{Float, nan, inf, fin, up, down}
-use lib.IntN.{ℤ, pos, natAbs}
+use lib.IntN.{ℤ, natAbs}
 use lib.ListN.{length}
 use lib.Seq.{sets}
 use Rattle.whole.specs.Nearest.{nearest}
@@ -21,7 +20,7 @@ use Rattle.doubles.specs.Exact.{signed}
 use Rattle.doubles.specs.Number.{thousand, within, measure, paper}
 use Rattle.doubles.specs.declared.Measure.the-variants.{Micrometres, Outside}
 use Rattle.shape.specs.Shape.{mostRecords, allowed, basisOf, spansOf, recordsOf}
-use Rattle.shape.specs.Refusals.{Row, judge, First, NoRow, seek, outside, beyond, firstOutside, shapeRows, controlsRow, limitsRow}
+use Rattle.shape.specs.Refusals.{Row, First, NoRow, outside, firstOutside, shapeRows, controlsRow, limitsRow}
 use Rattle.shape.specs.declared.Refusal.{Refusal}
 use Rattle.shape.proofs.Tests.{passes, true-is-not-false}
 use Rattle.shape.proofs.Refusals.{judge-first, judge-none, verdict}
@@ -31,11 +30,11 @@ use Rattle.drawing.specs.declared.State.{State}
 use Rattle.drawing.specs.declared.Step.{Step}
 use Rattle.drawing.specs.declared.Step.the-variants.{Move, Line, Cubic, Close}
 use Rattle.drawing.specs.declared.Checked.the-variants.{Fine}
-use Rattle.drawing.specs.Drawing.{numbers, at, opens, same, line, added, lastOf, grown, next, flat}
+use Rattle.drawing.specs.Drawing.{numbers, at, opens, same, line, added, grown, next, flat}
 use Rattle.drawing.specs.Reading.{reached, numberRows, spaceRows, rows, refused, accepted, stepped, paperOf}
 use Rattle.drawing.specs.Parts.{judgeState}
 use Rattle.drawing.specs.Sequences.{Held, begin, after, drawn, recordAt, Inside, Sound, bezier}
-use Rattle.drawing.proofs.Tables.{none-fine, fine-reached, fine-open, fine-empty, fine-begun, reached-facts}
+use Rattle.drawing.proofs.Tables.{or-true-right, none-fine, fine-open, fine-empty, fine-begun, reached-facts}
 use Rattle.drawing.proofs.Same.{same-is}
 use Rattle.drawing.proofs.Records.{Kept, opened, all-more, AllInside}
 
@@ -59,13 +58,9 @@ at-inside x y = record { x = number-small x; y = number-small y }
 
 -- ---- counts
 
-or-true : (a : Bool) → (a || true) ≡ true
-or-true true = refl
-or-true false = refl
-
 by-threes : (n : ℕ) → n ≤ mostRecords → n % 3 ≡ 1 → reached n ≡ true
 unfolding reached
-by-threes n h e = simp (le-leb n mostRecords h, eq-eqb (n % 3) 1 e, or-true)
+by-threes n h e = simp (le-leb n mostRecords h, eq-eqb (n % 3) 1 e, or-true-right)
 
 begun-count : (n : ℕ) → 0 < n → reached n ≡ true → n % 3 ≡ 1
 begun-count n h e = ⊎-elim (λ z. absurd (omega arith)) (λ w. w .1) (reached-facts n e)
@@ -124,10 +119,10 @@ module _ (h : Held) (k : Sound h) where
   l = h .controls
 
   -- what no row's holding says
-  fine : (step : Step) → NoRow (rows s step l) → judgeState s (opens step) ≡ Fine
+  pub fine : (step : Step) → NoRow (rows s step l) → judgeState s (opens step) ≡ Fine
   fine step n = none-fine s (opens step) (n .0, (n .1 .0, (n .1 .1 .0, tt)))
 
-  spacious : (step : Step) → NoRow (rows s step l) → (next s step .count ≤ mostRecords) × (2 * next s step .count ≤ length l)
+  pub spacious : (step : Step) → NoRow (rows s step l) → (next s step .count ≤ mostRecords) × (2 * next s step .count ≤ length l)
   spacious step n =
       space-facts (s .count) (next s step .count) l (none-append (numberRows 0 (numbers step)) (spaceRows (s .count) (next s step .count) l) (n .1 .1 .1) .1)
 
@@ -175,6 +170,14 @@ module _ (h : Held) (k : Sound h) where
       ⊎-elim (λ (v : (r : Refusal) × First (rows s step l) r). subst Sound (sym (after-refused step (v .0) (v .1))) k)
       (λ n. subst Sound (sym (after-accepted step n)) (accepted-sound step n))
       (verdict (rows s step l))
+
+-- nothing follows Close
+pub nothing-follows : (s : State) (step : Step) (l : List ℤ) → s .closed ≡ true → (r : Refusal) × (stepped s step l ≡ refused l r)
+unfolding stepped
+nothing-follows s step l c =
+    ⊎-elim (λ (v : (r : Refusal) × First (rows s step l) r). (v .0, judge-first (rows s step l) (refused l) (accepted s step l) (v .0) (v .1)))
+    (λ n. absurd (true-is-not-false c (fine-open s (opens step) (none-fine s (opens step) (n .0, (n .1 .0, (n .1 .1 .0, tt)))))))
+    (verdict (rows s step l))
 
 -- ---- any sequence
 

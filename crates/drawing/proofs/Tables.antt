@@ -1,5 +1,5 @@
 -- The table of a step falls into parts, each worked by one function: a part that refuses decides the whole, and a part that does not leaves it to the rest.
-use mathlib.Core.Path.{_≡_, refl, sym, ap, _∙_}
+use mathlib.Core.Path.{_≡_, refl, sym, _∙_}
 use mathlib.Core.Bool.{Bool, true, false, not, _&&_, _||_}
 use mathlib.Core.List.{List, [], _∷_, _++_}
 use mathlib.Core.Logic.{_⊎_, inl, inr, ⊎-elim}
@@ -23,8 +23,18 @@ use Rattle.drawing.specs.declared.Checked.the-variants.{Fine, Unfit}
 use Rattle.drawing.specs.declared.Numbered.the-variants.{Good, Wrong}
 use Rattle.drawing.specs.declared.Placed.the-variants.{At, Amiss}
 use Rattle.drawing.specs.Drawing.{numbers, at, opens, added, startAfter, closedAfter}
-use Rattle.drawing.specs.Reading.{reached, miscounted, astray, outOfTurn, stateRows, numberRow, numberRows, spaceRows, Outcome, refused, stepped}
+use Rattle.drawing.specs.Reading.{reached, miscounted, outOfTurn, stateRows, numberRow, numberRows, spaceRows, refused, stepped}
 use Rattle.drawing.specs.Parts.{extended, judgeState, judgeNumber, judgeControl, extends, goesOn}
+
+-- ---- tests
+
+pub or-false-right : (a : Bool) → (a || false) ≡ a
+or-false-right true = refl
+or-false-right false = refl
+
+pub or-true-right : (a : Bool) → (a || true) ≡ true
+or-true-right true = refl
+or-true-right false = refl
 
 -- ---- any part
 

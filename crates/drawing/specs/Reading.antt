@@ -1,12 +1,11 @@
 -- A drawing step's refusals in the paper's order (document 01: 3, 8, 12, then its numbers in order, 6, 7), and the one reading of the call: what it answers and
 -- what the lent controls hold afterwards, for every state, step and list. Definitions only.
-use mathlib.Core.Bool.{Bool, true, false, not, _&&_, _||_}
+use mathlib.Core.Bool.{Bool, not, _&&_, _||_}
 use mathlib.Core.List.{List, [], _∷_, _++_}
 use Prim.Native.Nat.{ℕ, _+_, _*_, _%_}
 use lib.Dec.{leb, ltb, eqb}
 use lib.Ieee.{Float}
 use lib.IntN.{ℤ}
-use lib.ListN.{length}
 use lib.Seq.{sets}
 use Rattle.doubles.specs.Number.{measure, paper}
 use Rattle.shape.specs.Shape.{mostRecords}

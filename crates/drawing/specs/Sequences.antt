@@ -1,5 +1,5 @@
 -- Steps one after another, each passed what the last accepted one left, and what holds of a drawing that came about so. Definitions only.
-use mathlib.Core.Bool.{true, false}
+use mathlib.Core.Bool.{true}
 use mathlib.Core.List.{List, [], _∷_}
 use mathlib.Core.Path.{_≡_}
 use Prim.Native.Nat.{ℕ, _*_, _-_, _≤_, _<_}

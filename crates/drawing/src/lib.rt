@@ -5,6 +5,7 @@ ghost use mathlib.Core.List.{[], _∷_};
 ghost use Prim.Native.Nat.{_+_, _*_, _≤_};
 ghost use lib.ListN.{length};
 ghost use lib.Seq.{sets};
+ghost use Rattle.shape.specs.Shape.{mostRecords};
 ghost use Rattle.drawing.specs.declared.Checked.the-variants.{Fine};
 ghost use Rattle.drawing.specs.declared.Step.the-variants.{Move, Line, Cubic, Close};
 ghost use Rattle.drawing.specs.Drawing.{empty, opens, same, flat};
@@ -61,7 +62,7 @@ enum Placed {
     Amiss(Refusal),
 }
 
-// A shape has at most this many records.
+// A drawing has at most this many records, as a shape has.
 const MOST_RECORDS: usize = 64;
 
 // One number of a step, at its index: micrometres, or refused with the index.
@@ -223,7 +224,7 @@ impl State {
         closed: bool,
         controls: &mut [i32],
     ) -> Stepped
-        requires { ⌜ self .count ≤ 64 ⌝ }
+        requires { ⌜ self .count ≤ mostRecords ⌝ }
         ensures { λ r. ⌜ both r (now (controls .exit)) ≡ extends self (a ∷ b ∷ c ∷ []) (self .start) closed (now (controls .entry)) ⌝ }
     {
         let count = self.count;
@@ -340,7 +341,8 @@ impl State {
         })
     }
 
-    // One step of a drawing: the checks 3, 8, 12, its numbers in order, 6, 7; then the records that it adds, written from record number count on, and the next state.
+    // One step of a drawing. It is refused by the first check that fails, 3, 8, 12, then its numbers in order, 6, 7, and then no lent number changes and no state.
+    // Else the records that it adds are written from record number count on, every other lent number stays, and the next state comes back.
     pub fn step(self, step: Step, controls: &mut [i32]) -> Stepped
         ensures { λ r. ⌜ both r (now (controls .exit)) ≡ stepped self step (now (controls .entry)) ⌝ }
     {

@@ -1,5 +1,5 @@
 -- The first number decides, or leaves it to the second; where both are coordinates, they are the control's.
-use mathlib.Core.Path.{_≡_, sym, _∙_}
+use mathlib.Core.Path.{sym, _∙_}
 use Prim.Native.Nat.{_+_}
 use mir.Syntax.{w32}
 use Rattle.whole.proofs.Fit.{kept-is}

@@ -1,8 +1,5 @@
 -- Each answer of the conversion gives its own number of the paper, or none.
-use mathlib.Core.Path.{_≡_, refl, sym, ap, _∙_}
-use mathlib.Core.Bool.{true, false}
-use mathlib.Core.Logic.{inl}
-use mathlib.Core.List.{[], _∷_}
+use mathlib.Core.Path.{_≡_, sym, ap, _∙_}
 use Prim.Native.Nat.{ℕ}
 use borrow.Author.Needs.{needs}
 use lib.Ieee.{Float}
@@ -10,10 +7,8 @@ use lib.IntN.{ℤ}
 use mir.Syntax.{w32}
 use Rattle.whole.proofs.Fit.{kept-is}
 use Rattle.shape.specs.Refusals.{judge}
-use Rattle.doubles.specs.Number.{measure, paper}
-use Rattle.doubles.specs.declared.Measure.{Measure}
+use Rattle.doubles.specs.Number.{measure}
 use Rattle.doubles.specs.declared.Measure.the-variants.{NotFinite, Outside, Micrometres}
-use Rattle.drawing.specs.declared.Numbered.{Numbered}
 use Rattle.drawing.specs.declared.Numbered.the-variants.{Good, Wrong}
 use Rattle.drawing.specs.Parts.{judgeNumber}
 use Rattle.drawing.proofs.number.Statement.{statement}

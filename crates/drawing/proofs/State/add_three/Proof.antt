@@ -1,7 +1,6 @@
 -- The rows 6 and 7 are tested in their order; where neither holds, the three records are written.
-use mathlib.Core.Path.{_≡_, sym, ap, _∙_}
+use mathlib.Core.Path.{sym, ap, _∙_}
 use mathlib.Core.List.{[], _∷_}
-use native.Mathlib.Omega.{arith}
 use Rattle.drawing.specs.declared.Stepped.the-variants.{Next}
 use Rattle.drawing.specs.Reading.{both}
 use Rattle.drawing.proofs.Tables.{too-many, too-short, roomy}

@@ -1,5 +1,5 @@
 -- Each return is where a row of the table is the first that holds, or where none does.
-use mathlib.Core.Path.{_≡_, refl, sym, _∙_}
+use mathlib.Core.Path.{refl, sym, _∙_}
 use mathlib.Core.Logic.{inl, inr}
 use Rattle.drawing.proofs.Tables.{first-unfit, none-fine}
 use borrow.Author.Needs.{needs}

@@ -1,6 +1,6 @@
 -- Its six numbers are three controls, converted in order: the first bad number refuses, and where none is bad the three are added.
-use mathlib.Core.Path.{_≡_, sym, ap, _∙_}
-use mathlib.Core.Bool.{true, false}
+use mathlib.Core.Path.{_≡_, sym, _∙_}
+use mathlib.Core.Bool.{false}
 use mathlib.Core.List.{List, [], _∷_, _++_}
 use Prim.Native.Nat.{_+_}
 use lib.Ieee.{Float}
@@ -9,10 +9,10 @@ use lib.ListN.{length}
 use Rattle.shape.specs.declared.Refusal.{Refusal}
 use Rattle.drawing.specs.declared.Control.{Control}
 use Rattle.drawing.specs.declared.State.{State}
-use Rattle.shape.specs.Refusals.{Row, judge}
+use Rattle.shape.specs.Refusals.{Row}
 use Rattle.drawing.specs.declared.Step.the-variants.{Cubic}
 use Rattle.drawing.specs.declared.Placed.the-variants.{At, Amiss}
-use Rattle.drawing.specs.Drawing.{at, added}
+use Rattle.drawing.specs.Drawing.{added}
 use Rattle.drawing.specs.Reading.{Outcome, refused, numberRows, spaceRows, accepted}
 use Rattle.drawing.specs.Parts.{judgeControl, extends, goesOn}
 use Rattle.drawing.proofs.Tables.{reached-most, fine-reached, placed-none, placed-is, placed, amiss, numbers-good}

@@ -1,13 +1,12 @@
 -- Of two records, the first that is outside comes before the end exactly when one of them is outside.
-use mathlib.Core.Path.{_≡_, refl, sym, ap, _∙_}
+use mathlib.Core.Path.{_≡_, refl, ap, _∙_}
 use mathlib.Core.Bool.{Bool, true, false, cond, _||_}
-use mathlib.Core.List.{List, [], _∷_}
+use mathlib.Core.List.{[], _∷_}
 use borrow.Author.Needs.{needs}
 use borrow.Author.Tests.{eq-eqb, ne-eqb}
 use lib.Dec.{ltb}
-use lib.IntN.{ℤ}
 use mir.Syntax.{w32}
-use Rattle.whole.proofs.Fit.{kept, kept-is}
+use Rattle.whole.proofs.Fit.{kept-is}
 use Rattle.curve.specs.Span.{coordinate}
 use Rattle.shape.specs.Refusals.{seek, outside, firstOutside}
 use Rattle.drawing.specs.declared.Control.{Control}

@@ -1,18 +1,15 @@
 -- At count 0 the test is whether the drawing is closed; at any other, whether the count is above 64 or not 1 more than a multiple of 3.
-use mathlib.Core.Path.{_≡_, refl}
-use mathlib.Core.Bool.{Bool, true, false, not, _||_}
+use mathlib.Core.Path.{_≡_}
+use mathlib.Core.Bool.{true, not}
 use Prim.Native.Nat.{_%_, _≤_, _<_}
 use borrow.Author.Tests.{eq-eqb, ne-eqb, le-leb, lt-leb}
 use lib.Dec.{eqb}
 use Rattle.shape.specs.Shape.{mostRecords}
 use Rattle.drawing.specs.declared.State.{State}
 use Rattle.drawing.specs.Reading.{reached, miscounted}
+use Rattle.drawing.proofs.Tables.{or-false-right}
 use Rattle.drawing.proofs.State.is_miscounted.Statement.{statement}
 use Rattle.drawing.proofs.State.is_miscounted.Tie as tie
-
-or-false-right : (a : Bool) → (a || false) ≡ a
-or-false-right true = refl
-or-false-right false = refl
 
 at-none : (s : State) → s .count ≡ 0 → s .closed ≡ miscounted s
 unfolding miscounted reached

@@ -1,25 +1,16 @@
 -- A closed drawing takes no step; else Move comes exactly at count 0.
-use mathlib.Core.Path.{_≡_, refl}
-use mathlib.Core.Bool.{Bool, true, false, not, _&&_, _||_}
+use mathlib.Core.Path.{_≡_}
+use mathlib.Core.Bool.{Bool, true, false, not}
 use borrow.Author.Tests.{eq-eqb, ne-eqb}
-use lib.Dec.{eqb}
 use Rattle.drawing.specs.declared.State.{State}
 use Rattle.drawing.specs.Reading.{outOfTurn}
+use Rattle.drawing.proofs.Tables.{or-false-right, or-true-right}
 use Rattle.drawing.proofs.State.is_out_of_turn.Statement.{statement}
 use Rattle.drawing.proofs.State.is_out_of_turn.Tie as tie
 
-last-true : (a b : Bool) → true ≡ (a || (b || true))
-last-true true b = refl
-last-true false true = refl
-last-true false false = refl
-
-or-false-right : (a : Bool) → (a || false) ≡ a
-or-false-right true = refl
-or-false-right false = refl
-
 after-close : (s : State) (opening : Bool) → s .closed ≡ true → true ≡ outOfTurn s opening
 unfolding outOfTurn
-after-close s opening e = rw e (last-true (eqb (s .count) 0 && not opening) (not (eqb (s .count) 0) && opening))
+after-close s opening e = simp (e, or-true-right)
 
 at-first : (s : State) (opening : Bool) → s .closed ≡ false → s .count ≡ 0 → not opening ≡ outOfTurn s opening
 unfolding outOfTurn

@@ -1,7 +1,7 @@
 -- Its two numbers are the far end of the line, and three records follow.
 use mathlib.Core.Path.{_≡_, sym, ap, _∙_}
-use mathlib.Core.Bool.{true, false}
-use mathlib.Core.List.{List, [], _∷_, _++_}
+use mathlib.Core.Bool.{false}
+use mathlib.Core.List.{List}
 use Prim.Native.Nat.{_+_}
 use lib.Ieee.{Float}
 use lib.IntN.{ℤ}
