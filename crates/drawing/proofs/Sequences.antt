@@ -1,12 +1,12 @@
 -- Any sequence of steps leaves a sound drawing: a refused step leaves what there was, and an accepted one writes records inside the limits right after those that
--- there are. A sound drawing of a span or more is a shape of basis 1 that the checks 1, 2, 3, 7, 8 accept.
+-- there are.
 use mathlib.Core.Path.{_≡_, refl, sym, ap, subst}
-use mathlib.Core.Bool.{Bool, true, false, not, cond}
+use mathlib.Core.Bool.{Bool, true, cond}
 use mathlib.Core.List.{List, [], _∷_, _++_}
 use mathlib.Core.Logic.{_⊎_, ⊎-elim}
-use Prim.Native.Nat.{ℕ, _+_, _*_, _-_, _/_, _%_, _≤_, _<_}
+use Prim.Native.Nat.{ℕ, _+_, _*_, _-_, _%_, _≤_, _<_}
 use native.Mathlib.Omega.{arith}
-use borrow.Author.Tests.{le-leb, le-ltb, leb-true, ltb-false, eq-eqb}
+use borrow.Author.Tests.{le-leb, leb-true, ltb-false, eq-eqb}
 use lib.Dec.{leb}
 use lib.Ieee.{Float, nan, inf, fin, up, down}
 use lib.IntN.{ℤ, natAbs}
@@ -14,17 +14,14 @@ use lib.ListN.{length}
 use lib.Seq.{sets}
 use Rattle.whole.specs.Nearest.{nearest}
 use Rattle.curve.specs.Limits.{limit}
-use Rattle.curve.specs.Span.{coordinate}
-use Rattle.curve.specs.Ways.{deepest}
 use Rattle.doubles.specs.Exact.{signed}
 use Rattle.doubles.specs.Number.{thousand, within, measure, paper}
 use Rattle.doubles.specs.declared.Measure.the-variants.{Micrometres, Outside}
-use Rattle.shape.specs.Shape.{mostRecords, allowed, basisOf, spansOf, recordsOf}
-use Rattle.shape.specs.Refusals.{Row, First, NoRow, outside, firstOutside, shapeRows, controlsRow, limitsRow}
+use Rattle.shape.specs.Shape.{mostRecords}
+use Rattle.shape.specs.Refusals.{Row, First, NoRow}
 use Rattle.shape.specs.declared.Refusal.{Refusal}
 use Rattle.shape.proofs.Tests.{passes, true-is-not-false}
 use Rattle.shape.proofs.Refusals.{judge-first, judge-none, verdict}
-use Rattle.shape.proofs.Seek.{seek-none}
 use Rattle.drawing.specs.declared.Control.{Control}
 use Rattle.drawing.specs.declared.State.{State}
 use Rattle.drawing.specs.declared.Step.{Step}
@@ -33,7 +30,7 @@ use Rattle.drawing.specs.declared.Checked.the-variants.{Fine}
 use Rattle.drawing.specs.Drawing.{numbers, at, opens, same, line, added, grown, next, flat}
 use Rattle.drawing.specs.Reading.{reached, numberRows, spaceRows, rows, refused, accepted, stepped, paperOf}
 use Rattle.drawing.specs.Parts.{judgeState}
-use Rattle.drawing.specs.Sequences.{Held, begin, after, drawn, recordAt, Inside, Sound, bezier}
+use Rattle.drawing.specs.Sequences.{Held, begin, after, drawn, Inside, Sound}
 use Rattle.drawing.proofs.Tables.{or-true-right, none-fine, fine-open, fine-empty, fine-begun, reached-facts}
 use Rattle.drawing.proofs.Same.{same-is}
 use Rattle.drawing.proofs.Records.{Kept, opened, all-more, AllInside}
@@ -194,34 +191,3 @@ empty-sound l =
 -- from the empty state, whatever the list of controls and the steps
 pub sound : (l : List ℤ) (steps : List Step) → Sound (drawn (begin l) steps)
 sound l steps = drawn-sound (begin l) (empty-sound l) steps
-
--- ---- what the checks of a shape say of it
-
-spans-there : (n : ℕ) → 4 ≤ n → n ≤ mostRecords → n % 3 ≡ 1 → allowed (basisOf 1) n ≡ true
-unfolding allowed basisOf spansOf recordsOf
-spans-there n h m e =
-    let some : 1 ≤ (n - 1) / 3 = omega arith in
-    let whole : 3 * ((n - 1) / 3) + 1 ≡ n = omega arith in
-    simp (le-leb n mostRecords m, le-leb 1 ((n - 1) / 3) some, eq-eqb (3 * ((n - 1) / 3) + 1) n whole)
-
-not-outside : (l : List ℤ) (r : ℕ) → Inside (recordAt l r) → outside l r ≡ false
-unfolding outside recordAt
-not-outside l r i = simp (le-ltb limit (natAbs (coordinate l 0 r)) (i .x), le-ltb limit (natAbs (coordinate l 1 r)) (i .y))
-
--- once there is a span, basis 1 at any depth with these controls: none of 1, 2, 3, 7, 8
-pub shape-accepted :
-    (h : Held) → Sound h → 4 ≤ h .state .count → (k : ℕ) → k ≤ deepest
-    → NoRow (shapeRows (bezier k (h .state .count)) ++ controlsRow (h .state .count) (h .controls) ∷ limitsRow (h .state .count) (h .controls) ∷ [])
-shape-accepted h ok b k d =
-    let n = h .state .count in
-    let found = ⊎-elim (λ (z : n ≡ 0). absurd (omega arith)) (λ w. w) (reached-facts n (ok .counted)) in
-    let all : firstOutside (h .controls) n ≡ 0 + n = seek-none (outside (h .controls)) 0 n (λ r lo hi. not-outside (h .controls) r (ok .inside r (omega arith))) in (
-      refl,
-      (
-        le-ltb deepest k d,
-        (
-          ap not (spans-there n b (found .0) (found .1)),
-          (le-ltb (length (h .controls)) (2 * n) (ok .room), (le-ltb (firstOutside (h .controls) n) n (omega arith), tt)),
-        ),
-      ),
-    )
