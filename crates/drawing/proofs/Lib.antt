@@ -1,0 +1,7 @@
+pub mod Tables
+pub mod Same
+pub mod Records
+pub mod Sequences
+pub mod Shapes
+pub mod Lines
+pub mod Unique
