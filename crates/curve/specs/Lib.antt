@@ -4,3 +4,4 @@ pub mod BSpline
 pub mod Span
 pub mod Ways
 pub mod Limits
+pub mod Cases

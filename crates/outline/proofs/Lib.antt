@@ -1,2 +1,4 @@
 pub mod Draws
 pub mod Views
+pub mod Exactly
+pub mod Unique
