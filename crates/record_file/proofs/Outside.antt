@@ -8,7 +8,7 @@ use lib.IntN.{ℤ, pos}
 use lib.ListN.{length, getD, drop, List·getD-append}
 use lib.Seq.{sets, sets-eq}
 use Rattle.curve.specs.Span.{coordinate}
-use Rattle.curve.specs.Limits.{limit, beyond}
+use Rattle.curve.specs.Limits.{beyond, limit}
 use Rattle.shape.specs.Refusals.{outside, firstOutside, seek}
 
 -- two tests that agree find the same
