@@ -1,3 +1,5 @@
 pub mod Fills
 pub mod Worked
 pub mod Rows
+pub mod Unique
+pub mod Exactly
