@@ -3,3 +3,4 @@ pub mod Worked
 pub mod Rows
 pub mod Unique
 pub mod Exactly
+pub mod Kept
