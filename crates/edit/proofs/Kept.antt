@@ -117,3 +117,131 @@ unfolding recordsFrom
 four-same r t f g h =
     let first : f r ≡ g t = ap f (sym (add-zero r)) ∙ h 0 (lit< tt) ∙ ap g (add-zero t) in
     λ i. four (first i) (h 1 (lit< tt) i) (h 2 (lit< tt) i) (h 3 (lit< tt) i)
+
+-- ---- the four records of a span that is not named
+
+-- a span before the fresh ones has its records before the place
+span-before : (e : Edit) (b : Basis) (j s : ℕ) → offered e b ≡ true → s < firstFresh e b j → firstRecord b s + 3 < j
+unfolding firstRecord
+span-before (Move x y) Bezier j s o h = omega arith
+span-before (Move x y) BSpline j s o h = omega arith
+span-before (Move x y) Cardinal j s o h = omega arith
+span-before (Move x y) Hermite j s o h = omega arith
+span-before (Insert x y) Bezier j s o h = absurd (true-is-not-false o refl)
+span-before (Insert x y) BSpline j s o h = omega arith
+span-before (Insert x y) Cardinal j s o h = omega arith
+span-before (Insert x y) Hermite j s o h = absurd (true-is-not-false o refl)
+span-before Remove Bezier j s o h = absurd (true-is-not-false o refl)
+span-before Remove BSpline j s o h = omega arith
+span-before Remove Cardinal j s o h = omega arith
+span-before Remove Hermite j s o h = absurd (true-is-not-false o refl)
+
+-- a span past them has its records past it
+span-beyond : (e : Edit) (b : Basis) (j m s i : ℕ) → offered e b ≡ true → s < m → pastFresh e b j m ≤ s → Beyond e j (firstRecord b s + i)
+unfolding firstRecord
+span-beyond (Move x y) Bezier j m s i o h p = omega arith
+span-beyond (Move x y) BSpline j m s i o h p = omega arith
+span-beyond (Move x y) Cardinal j m s i o h p = omega arith
+span-beyond (Move x y) Hermite j m s i o h p = omega arith
+span-beyond (Insert x y) Bezier j m s i o h p = absurd (true-is-not-false o refl)
+span-beyond (Insert x y) BSpline j m s i o h p = omega arith
+span-beyond (Insert x y) Cardinal j m s i o h p = omega arith
+span-beyond (Insert x y) Hermite j m s i o h p = absurd (true-is-not-false o refl)
+span-beyond Remove Bezier j m s i o h p = absurd (true-is-not-false o refl)
+span-beyond Remove BSpline j m s i o h p = omega arith
+span-beyond Remove Cardinal j m s i o h p = omega arith
+span-beyond Remove Hermite j m s i o h p = absurd (true-is-not-false o refl)
+
+-- and comes from the old span that has them
+span-from : (e : Edit) (b : Basis) (j m s i : ℕ) → offered e b ≡ true → s < m → pastFresh e b j m ≤ s → carriedFrom e 1 (firstRecord b s + i) ≡ firstRecord b (carriedFrom e 1 s) + i
+unfolding firstRecord
+span-from (Move x y) b j m s i o h p = refl
+span-from (Insert x y) Bezier j m s i o h p = absurd (true-is-not-false o refl)
+span-from (Insert x y) BSpline j m s i o h p = omega arith
+span-from (Insert x y) Cardinal j m s i o h p = omega arith
+span-from (Insert x y) Hermite j m s i o h p = absurd (true-is-not-false o refl)
+span-from Remove Bezier j m s i o h p = absurd (true-is-not-false o refl)
+span-from Remove BSpline j m s i o h p = omega arith
+span-from Remove Cardinal j m s i o h p = omega arith
+span-from Remove Hermite j m s i o h p = absurd (true-is-not-false o refl)
+
+module _ (e : Edit) (b : Basis) (j m : ℕ) (old : List ℤ) (o : offered e b ≡ true) (some : 1 ≤ m) where
+  -- the controls asked for
+  abbrev new : List ℤ
+  new = asked e j old (countAfter e (recordsOf b m))
+
+  has-records : (s i : ℕ) → s < spansAfter e m → i < 4 → firstRecord b s + i < countAfter e (recordsOf b m)
+  has-records s i h few = omega (arith, last-record b (spansAfter e m) s h, records-then e b m o some)
+
+  -- an earlier span has the same four records as before
+  pub records-stay : (s axis : ℕ) → s < spansAfter e m → axis < 2 → s < firstFresh e b j → records b s (coordinate new axis) ≡ records b s (coordinate old axis)
+  records-stay s axis h a first =
+      four-same (firstRecord b s) (firstRecord b s) (coordinate new axis) (coordinate old axis)
+      (λ i few. coordinate-asked e j old (countAfter e (recordsOf b m)) (firstRecord b s + i) axis a (has-records s i h few) ∙ control-before e j old (firstRecord b s + i) axis a (omega (arith, span-before e b j s o first)))
+
+  -- a later one has those of the span that it is carried from: itself, the one before or the one after
+  pub records-carried : (s axis : ℕ) → s < spansAfter e m → axis < 2 → pastFresh e b j (spansAfter e m) ≤ s → records b s (coordinate new axis) ≡ records b (carriedFrom e 1 s) (coordinate old axis)
+  records-carried s axis h a past =
+      four-same (firstRecord b s) (firstRecord b (carriedFrom e 1 s)) (coordinate new axis) (coordinate old axis)
+      (λ i few.
+      coordinate-asked e j old (countAfter e (recordsOf b m)) (firstRecord b s + i) axis a (has-records s i h few)
+      ∙ control-beyond e j old (firstRecord b s + i) axis a (span-beyond e b j (spansAfter e m) s i o h past)
+      ∙ ap (coordinate old axis) (span-from e b j (spansAfter e m) s i o h past))
+
+-- ---- the numbers
+
+-- two numbers at the same step of spans with the same four records
+same-number : (b : Basis) (k m n : ℕ) (c d : List ℤ) (q p s t i : ℕ) → min (q / 2 / 2 ^ k) (m - 1) ≡ s → q / 2 ≡ s * 2 ^ k + i → min (p / 2 / 2 ^ k) (n - 1) ≡ t
+    → p / 2 ≡ t * 2 ^ k + i
+    → q % 2 ≡ p % 2
+    → records b s (coordinate c (q % 2)) ≡ records b t (coordinate d (q % 2))
+    → number b k m c q ≡ number b k n d p
+same-number b k m n c d q p s t i span at span' at' axis same =
+    located b k m c q s i span at
+    ∙ ap (λ r. point b k r i) same
+    ∙ ap (λ (a : ℕ). point b k (records b t (coordinate d a)) i) axis
+    ∙ sym (located b k n d p t i span' at')
+
+-- where a carried number comes from: the same step of the span that it is carried from, of m old spans
+record Source (e : Edit) (k m q s i : ℕ) : Type 0 where
+  span : min (carriedFrom e (perSpan k) q / 2 / 2 ^ k) (m - 1) ≡ carriedFrom e 1 s
+  at : carriedFrom e (perSpan k) q / 2 ≡ carriedFrom e 1 s * 2 ^ k + i
+  axis : q % 2 ≡ carriedFrom e (perSpan k) q % 2
+  within : carriedFrom e (perSpan k) q < m * perSpan k + 2
+
+source : (e : Edit) (b : Basis) (k j m q s i : ℕ) → 1 ≤ m → 1 ≤ spansAfter e m → q < spansAfter e m * perSpan k + 2 → min (q / 2 / 2 ^ k) (spansAfter e m - 1) ≡ s → q / 2 ≡ s * 2 ^ k + i
+    → pastFresh e b j (spansAfter e m) ≤ s → Source e k m q s i
+source (Move x y) b k j m q s i some left h span at past = record { span = span; at = at; axis = refl; within = h }
+source (Insert x y) b k j m q s i some left h span at past =
+    let d = 2 ^ k in
+    let one : suc (s - 1) ≡ s = omega arith in
+    let row : s * d ≡ (s - 1) * d + d = ap (λ (n : ℕ). n * d) (sym one) ∙ suc-mul (s - 1) d in
+    let half : (q - perSpan k) / 2 ≡ (s - 1) * d + i = omega (arith, row) in
+    let all : (q - perSpan k) / 2 + d ≡ q / 2 = omega (arith, row) in
+    let spans : q / 2 / d ≡ (q - perSpan k) / 2 / d + 1 = ap (λ (n : ℕ). n / d) (sym all) ∙ add-div-right ((q - perSpan k) / 2) {k = d} (pow-pos k) in
+    let wide : (m + 1) * perSpan k ≡ m * perSpan k + perSpan k = ap (λ (n : ℕ). n * perSpan k) (sym (suc-one m)) ∙ suc-mul m (perSpan k) in
+    record {
+      span = omega (arith, spans, span);
+      at = half;
+      axis = omega (arith, row);
+      within = omega (arith, wide, row);
+    }
+  where
+    suc-one : (n : ℕ) → suc n ≡ n + 1
+    suc-one n = omega arith
+source Remove b k j m q s i some left h span at past =
+    let d = 2 ^ k in
+    let row : (s + 1) * d ≡ s * d + d = ap (λ (n : ℕ). n * d) (sym (suc-one s)) ∙ suc-mul s d in
+    let all : (q + perSpan k) / 2 ≡ q / 2 + d = omega arith in
+    let spans : (q + perSpan k) / 2 / d ≡ q / 2 / d + 1 = ap (λ (n : ℕ). n / d) all ∙ add-div-right (q / 2) {k = d} (pow-pos k) in
+    let one : suc (m - 1) ≡ m = omega arith in
+    let wide : m * perSpan k ≡ (m - 1) * perSpan k + perSpan k = ap (λ (n : ℕ). n * perSpan k) (sym one) ∙ suc-mul (m - 1) (perSpan k) in
+    record {
+      span = omega (arith, spans, span);
+      at = omega (arith, row);
+      axis = omega arith;
+      within = omega (arith, wide);
+    }
+  where
+    suc-one : (n : ℕ) → suc n ≡ n + 1
+    suc-one n = omega arith
