@@ -6,11 +6,12 @@ use mathlib.Core.Logic.{⊎-elim}
 use mathlib.Core.List.{List}
 use Prim.Native.Nat.{ℕ, zero, suc, _+_, _*_, _-_, _/_, _%_, _^_, min, _≤_, _<_}
 use native.Mathlib.Nat.{add-zero, zero-add, suc-mul, add-div-right, div-div-eq-div-mul, div-mul-le-self, div-lt-iff-lt-mul, le-div-iff-mul-le, mul-le-mul-right, min-le-left, min-le-right}
+use native.Mathlib.Numerals.{add-one}
 use native.Mathlib.Omega.{arith}
 use borrow.Author.Tests.{ltb-true, leb-true, lt-ltb, le-ltb, le-leb, ne-eqb}
 use lib.Dec.{leb, ltb, eqb, lit<}
 use lib.IntN.{ℤ, pos}
-use lib.ListN.{getD}
+use lib.ListN.{getD, length}
 use lib.Pow.{pow-pos}
 use Rattle.curve.specs.declared.Basis.{Basis}
 use Rattle.curve.specs.declared.Basis.the-variants.{Bezier, BSpline, Cardinal, Hermite}
@@ -24,8 +25,8 @@ use Rattle.spans.specs.Numbers.{number, perSpan}
 use Rattle.spans.proofs.Numbers.{located}
 use Rattle.edit.specs.declared.Edit.{Edit}
 use Rattle.edit.specs.declared.Edit.the-variants.{Move, Insert, Remove}
-use Rattle.edit.specs.Edits.{countAfter, spansAfter, offered, inRange, choose, controlAt, asked, firstUsing, lastUsing, firstFresh, pastFresh, carriedFrom, isFresh}
-use Rattle.edit.proofs.Worked.{either, fewer-numbers}
+use Rattle.edit.specs.Edits.{countAfter, spansAfter, offered, inRange, choose, controlAt, asked, firstFresh, pastFresh, carriedFrom, isFresh, pointAt}
+use Rattle.edit.proofs.Worked.{either, fewer-numbers, fresh-facts, fresh-at, stays-at, carried-at}
 use Rattle.edit.proofs.Rows.{records-then}
 
 -- ---- the spans named are exactly those that the edit touches
@@ -219,19 +220,16 @@ source (Insert x y) b k j m q s i some left h span at past =
     let half : (q - perSpan k) / 2 ≡ (s - 1) * d + i = omega (arith, row) in
     let all : (q - perSpan k) / 2 + d ≡ q / 2 = omega (arith, row) in
     let spans : q / 2 / d ≡ (q - perSpan k) / 2 / d + 1 = ap (λ (n : ℕ). n / d) (sym all) ∙ add-div-right ((q - perSpan k) / 2) {k = d} (pow-pos k) in
-    let wide : (m + 1) * perSpan k ≡ m * perSpan k + perSpan k = ap (λ (n : ℕ). n * perSpan k) (sym (suc-one m)) ∙ suc-mul m (perSpan k) in
+    let wide : (m + 1) * perSpan k ≡ m * perSpan k + perSpan k = ap (λ (n : ℕ). n * perSpan k) (add-one m) ∙ suc-mul m (perSpan k) in
     record {
       span = omega (arith, spans, span);
       at = half;
       axis = omega (arith, row);
       within = omega (arith, wide, row);
     }
-  where
-    suc-one : (n : ℕ) → suc n ≡ n + 1
-    suc-one n = omega arith
 source Remove b k j m q s i some left h span at past =
     let d = 2 ^ k in
-    let row : (s + 1) * d ≡ s * d + d = ap (λ (n : ℕ). n * d) (sym (suc-one s)) ∙ suc-mul s d in
+    let row : (s + 1) * d ≡ s * d + d = ap (λ (n : ℕ). n * d) (add-one s) ∙ suc-mul s d in
     let all : (q + perSpan k) / 2 ≡ q / 2 + d = omega arith in
     let spans : (q + perSpan k) / 2 / d ≡ q / 2 / d + 1 = ap (λ (n : ℕ). n / d) all ∙ add-div-right (q / 2) {k = d} (pow-pos k) in
     let one : suc (m - 1) ≡ m = omega arith in
@@ -242,6 +240,108 @@ source Remove b k j m q s i some left h span at past =
       axis = omega arith;
       within = omega (arith, wide);
     }
-  where
-    suc-one : (n : ℕ) → suc n ≡ n + 1
-    suc-one n = omega arith
+
+-- an insert is of the splines, whose records are three more than their spans
+insert-records : (x y : ℤ) (b : Basis) (m : ℕ) → offered (Insert x y) b ≡ true → recordsOf b m ≡ m + 3
+unfolding recordsOf
+insert-records x y Bezier m o = absurd (true-is-not-false o refl)
+insert-records x y BSpline m o = refl
+insert-records x y Cardinal m o = refl
+insert-records x y Hermite m o = absurd (true-is-not-false o refl)
+
+-- a number of a span before the fresh ones is a number of the old outline too
+stays-within : (e : Edit) (b : Basis) (k j m q : ℕ) → offered e b ≡ true → inRange e j (recordsOf b m) ≡ true → q < spansAfter e m * perSpan k + 2
+    → min (q / perSpan k) (spansAfter e m - 1) < firstFresh e b j → q < m * perSpan k + 2
+stays-within (Move x y) b k j m q o range h first = h
+stays-within (Insert x y) b k j m q o range h first =
+    let below : q / perSpan k < m = omega (arith, leb-true j (recordsOf b m) range, insert-records x y b m o) in
+    omega (arith, div-lt-iff-lt-mul {k = perSpan k} {x = q} {y = m} (omega (arith, pow-pos k)) .0 below)
+stays-within Remove b k j m q o range h first = omega (arith, mul-le-mul-right {m = m - 1} {n = m} (perSpan k) (omega arith))
+
+-- and the same one, whether of the old or of the new number of spans
+stays-same : (e : Edit) (b : Basis) (k m : ℕ) (c : List ℤ) (q : ℕ) → 1 ≤ m → 1 ≤ spansAfter e m → q < spansAfter e m * perSpan k + 2 → q < m * perSpan k + 2
+    → number b k (spansAfter e m) c q ≡ number b k m c q
+stays-same (Move x y) b k m c q some left h g = refl
+stays-same (Insert x y) b k m c q some left h g = sym (fewer-numbers b k m (m + 1) c q some (omega arith) g)
+stays-same Remove b k m c q some left h g = fewer-numbers b k (m - 1) m c q left (omega arith) h
+
+-- Number q of the new outline, where the fresh spans do not hold it. `old` is any list whose first records are the old ones.
+module _ (e : Edit) (b : Basis) (k j m : ℕ) (old : List ℤ) (o : offered e b ≡ true) (range : inRange e j (recordsOf b m) ≡ true) (some : 1 ≤ m) (left : 1 ≤ spansAfter e m)
+    (q : ℕ) (h : q < spansAfter e m * perSpan k + 2) where
+  abbrev w : ℕ
+  w = perSpan k
+
+  abbrev m' : ℕ
+  m' = spansAfter e m
+
+  abbrev a : ℕ
+  a = firstFresh e b j
+
+  abbrev z : ℕ
+  z = pastFresh e b j m'
+
+  abbrev s : ℕ
+  s = min (q / w) (m' - 1)
+
+  abbrev now : List ℤ
+  now = new e b j m old o some
+
+  wide : 0 < w
+  wide = omega (arith, pow-pos k)
+
+  span-is : min (q / 2 / 2 ^ k) (m' - 1) ≡ s
+  span-is = ap (λ (n : ℕ). min n (m' - 1)) (div-div-eq-div-mul q 2 (2 ^ k))
+
+  exists : s < m'
+  exists = omega (arith, min-le-right (q / w) (m' - 1))
+
+  two : q % 2 < 2
+  two = omega arith
+
+  step : q / 2 ≡ s * 2 ^ k + (q / 2 - s * 2 ^ k)
+  step =
+      let low : s ≤ q / 2 / 2 ^ k = omega (arith, min-le-left (q / w) (m' - 1), div-div-eq-div-mul q 2 (2 ^ k)) in
+      omega (arith, le-div-iff-mul-le {k = 2 ^ k} {x = s} {y = q / 2} (pow-pos k) .0 low)
+
+  -- A number of an earlier span is the old outline's, in its place.
+  pub number-stays : s < a → (q < m * w + 2) × (number b k m' now q ≡ number b k m old q)
+  number-stays first =
+      let within = stays-within e b k j m q o range h first in
+      let i = q / 2 - s * 2 ^ k in
+      (within, same-number b k m' m' now old q q s s i span-is step span-is step refl (records-stay e b j m old o some s (q % 2) exists two first) ∙ stays-same e b k m old q some left h within)
+
+  is-fresh : a < z → a * w ≤ q → q < z * w + 2 → isFresh e b k j m' q ≡ true
+  unfolding isFresh
+  is-fresh first low high = simp (lt-ltb a z first, le-leb (a * w) q low, lt-ltb q (z * w + 2) high)
+
+  -- a number that is not fresh, and not of an earlier span, is of a later one
+  later : isFresh e b k j m' q ≡ false → a ≤ s → z ≤ s
+  later stale from =
+      ⊎-elim (λ (g : s < z). absurd (true-is-not-false (is-fresh (omega arith) low (high g)) stale)) (λ (g : z ≤ s). g) (either s z)
+    where
+      low : a * w ≤ q
+      low = le-div-iff-mul-le {k = w} {x = a} {y = q} wide .0 (omega (arith, min-le-left (q / w) (m' - 1)))
+
+      high : s < z → q < z * w + 2
+      high g =
+          ⊎-elim (λ (l : q / w < z). omega (arith, div-lt-iff-lt-mul {k = w} {x = q} {y = z} wide .0 l))
+          (λ (l : z ≤ q / w). omega (arith, mul-le-mul-right {m = m'} {n = z} w (omega arith)))
+          (either (q / w) z)
+
+  -- A number of a later span is the old outline's, at the place that it is carried from.
+  pub number-carried : isFresh e b k j m' q ≡ false → a ≤ s → (carriedFrom e w q < m * w + 2) × (number b k m' now q ≡ number b k m old (carriedFrom e w q))
+  number-carried stale from =
+      let past = later stale from in
+      let i = q / 2 - s * 2 ^ k in
+      let r = source e b k j m q s i some left h span-is step past in
+      (r .within, same-number b k m' m now old q (carriedFrom e w q) s (carriedFrom e 1 s) i span-is step (r .span) (r .at) (r .axis) (records-carried e b j m old o some s (q % 2) exists two past))
+
+  -- So where the lent points are the old outline, what the edit leaves at q is the new outline's number.
+  pub point-drawn : (lent : List ℤ) → m' * w + 2 ≤ length lent → ((i : ℕ) → i < m * w + 2 → getD lent i (pos 0) ≡ number b k m old i) → pointAt e b k j m' now lent q ≡ number b k m' now q
+  point-drawn lent room held =
+      ⊎-elim (λ t. let (first, low, high) = fresh-facts e b k j m' now lent left room q t in fresh-at e b k j m' now lent left room q first low high)
+      (λ stale.
+      ⊎-elim (λ first. let (within, same) = number-stays first in stays-at e b k j m' now lent left room q stale first ∙ held q within ∙ sym same)
+      (λ from. let (within, same) = number-carried stale from in carried-at e b k j m' now lent left room q stale from ∙ held (carriedFrom e w q) within ∙ sym same)
+      (either s a))
+      (passes (isFresh e b k j m' q))
