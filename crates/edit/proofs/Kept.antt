@@ -113,7 +113,7 @@ unfolding asked coordinate
 coordinate-asked e j old n r axis a h = getD-tab (controlAt e j old) 0 (2 * n) (2 * r + axis) (omega arith) (pos 0) ∙ ap (controlAt e j old) (zero-add (2 * r + axis))
 
 -- four records that are one by one the same
-four-same : (r t : ℕ) (f g : ℕ → ℤ) → ((i : ℕ) → i < 4 → f (r + i) ≡ g (t + i)) → recordsFrom r f ≡ recordsFrom t g
+pub four-same : (r t : ℕ) (f g : ℕ → ℤ) → ((i : ℕ) → i < 4 → f (r + i) ≡ g (t + i)) → recordsFrom r f ≡ recordsFrom t g
 unfolding recordsFrom
 four-same r t f g h =
     let first : f r ≡ g t = ap f (sym (add-zero r)) ∙ h 0 (lit< tt) ∙ ap g (add-zero t) in

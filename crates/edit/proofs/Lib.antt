@@ -4,3 +4,4 @@ pub mod Rows
 pub mod Unique
 pub mod Exactly
 pub mod Kept
+pub mod Redrawn
