@@ -5,3 +5,4 @@ pub mod Unique
 pub mod Exactly
 pub mod Kept
 pub mod Redrawn
+pub mod Sequences
