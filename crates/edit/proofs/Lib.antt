@@ -6,3 +6,4 @@ pub mod Exactly
 pub mod Kept
 pub mod Redrawn
 pub mod Sequences
+pub mod Cases

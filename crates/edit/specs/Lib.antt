@@ -3,3 +3,4 @@ pub mod Carried
 pub mod Reading
 pub mod Ready
 pub mod Sequences
+pub mod Cases
