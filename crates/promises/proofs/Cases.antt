@@ -11,10 +11,11 @@ use Rattle.shape.specs.Refusals.{judge, seek, planOf, outside}
 use Rattle.spans.specs.Numbers.{number, farOff}
 use Rattle.doubles.specs.Exact.{dyadic}
 use Rattle.doubles.specs.Number.{within, measure}
+use Rattle.edit.specs.Cases.{flat}
 use Rattle.edit.specs.Edits.{asked, freshCount, freshFirst, isFresh, pointAt}
 use Rattle.edit.specs.Reading.{edits}
 use Rattle.promises.specs.Cases.{cases, allHold}
 
 pub cases-hold : T (allHold cases)
-unfolding allHold alike equal tab point sixfoldControls weighted weights dot nearest floor firstRecord coordinate recordsFrom basisOf recordsOf spansOf allowed pointsOf judge seek planOf outside number farOff dyadic within measure asked freshCount freshFirst isFresh pointAt edits
+unfolding allHold alike equal tab point sixfoldControls weighted weights dot nearest floor firstRecord coordinate recordsFrom basisOf recordsOf spansOf allowed pointsOf judge seek planOf outside number farOff dyadic within measure asked freshCount freshFirst isFresh pointAt edits flat
 cases-hold = tt

@@ -11,6 +11,9 @@ use Rattle.shape.specs.declared.Refusal.{Refusal}
 use Rattle.shape.specs.Refusals.{Row, First}
 use Rattle.outline.specs.Outline as outline
 use Rattle.outline.proofs.Exactly as outline-exactly
+use Rattle.edit.specs.declared.Edit.{Edit}
+use Rattle.edit.specs.Reading as edit
+use Rattle.edit.proofs.Exactly as edit-exactly
 use Rattle.preview.specs.Preview as preview
 use Rattle.preview.proofs.Rows as preview-exactly
 use Rattle.record_file.specs.Rows as file
@@ -22,6 +25,9 @@ Exactly {A} got refused rows = (r : Refusal) → ((got ≡ refused r → First r
 
 pub drawing : (s : Shape) (controls lent : List ℤ) → Exactly (outline.draws s controls lent) (outline.refuses lent) (outline.drawRows s controls lent)
 drawing s controls lent r = (outline-exactly.refused-first s controls lent r, outline-exactly.first-refused s controls lent r)
+
+pub editing : (e : Edit) (s : Shape) (j : ℕ) (controls lent : List ℤ) → Exactly (edit.edits e s j controls lent) (edit.refuses controls lent) (edit-exactly.callRows e s j controls lent)
+editing e s j controls lent r = (edit-exactly.refused-first e s j controls lent r, edit-exactly.first-refused e s j controls lent r)
 
 pub previewing : (s : Shape) (controls : List ℤ) (lent : List Float) → Exactly (preview.previewing s controls lent) (preview.refusing lent) (preview.previewRows s controls (length lent))
 previewing s controls lent r = (preview-exactly.refused-only-when s controls lent r, preview-exactly.refused-when s controls lent r)
