@@ -5,6 +5,7 @@ use mathlib.Core.List.{List, [], _∷_}
 use Prim.Native.Nat.{ℕ, _+_, _*_, _-_, _/_, _%_, _^_, min, _≤_, _<_}
 use native.Mathlib.Nat.{zero-add, min-le-right}
 use native.Mathlib.Omega.{arith}
+use borrow.Author.Tests.{ltb-false}
 use lib.IntN.{ℤ, pos}
 use lib.ListN.{getD, length}
 use lib.Seq.{sets, length-sets}
@@ -17,7 +18,10 @@ use Rattle.shape.specs.Good.{Good}
 use Rattle.shape.specs.Refusals.{First, NoRow, planOf}
 use Rattle.shape.proofs.Refusals.{verdict, good-records}
 use Rattle.spans.specs.Numbers.{number}
-use Rattle.outline.specs.Outline.{numbers, points}
+use Rattle.outline.specs.declared.Drawn.the-variants.{Points}
+use Rattle.outline.specs.Outline as outline
+use Rattle.outline.specs.Outline.{numbers, points, drawn, draws}
+use Rattle.outline.proofs.Exactly.{points-none, none-drawn}
 use Rattle.edit.specs.declared.Edit.{Edit}
 use Rattle.edit.specs.Edits.{countAfter, asked, pointAt}
 use Rattle.edit.specs.Reading.{shapeAfter, controlsAfter, pointsAfter, refuses, accepts, edits}
@@ -82,3 +86,22 @@ pub played-outlined : (t : State) (calls : List Call) → Outlined t → Outline
 unfolding played
 played-outlined t [] out = out
 played-outlined t (c ∷ calls) out = played-outlined (called t c) calls (called-outlined t c out)
+
+-- ---- from the first drawing on
+
+-- a drawing call that answers points leaves an outline
+pub drawn-outlined : (s : Shape) (controls lent : List ℤ) (n : ℕ) (held : List ℤ) → draws s controls lent ≡ outline.outcome (Points n) held → Outlined (record { shape = s; controls = controls; held = held })
+drawn-outlined s controls lent n held answered =
+    let p = planOf s in
+    let none = points-none s controls lent n held answered in
+    let is : drawn p controls lent ≡ held = ap (λ (o : outline.Outcome). o .held) (sym (none-drawn s controls lent none) ∙ answered) in
+    let room : 2 * points p ≤ length lent = ltb-false (length lent) (2 * points p) (none .1 .1 .1 .1 .1 .0) in
+    subst (λ l. Outlined (record { shape = s; controls = controls; held = l })) is
+    (record {
+      room = omega (arith, room, length-sets lent 0 (tab (numbers p controls) 0 (2 * points p)));
+      holds = λ q h. in-filled (numbers p controls) 0 (2 * points p) lent q (omega arith) (omega arith) (omega (arith, room));
+    })
+
+-- so a drawing and any calls after it do
+pub drawn-then-played : (s : Shape) (controls lent : List ℤ) (n : ℕ) (held : List ℤ) (calls : List Call) → draws s controls lent ≡ outline.outcome (Points n) held → Outlined (played (record { shape = s; controls = controls; held = held }) calls)
+drawn-then-played s controls lent n held calls answered = played-outlined (record { shape = s; controls = controls; held = held }) calls (drawn-outlined s controls lent n held answered)
