@@ -24,8 +24,8 @@ use Rattle.outline.specs.Outline.{numbers, points, drawn, draws}
 use Rattle.outline.proofs.Exactly.{points-none, none-drawn}
 use Rattle.edit.specs.declared.Edit.{Edit}
 use Rattle.edit.specs.Edits.{countAfter, asked, pointAt}
-use Rattle.edit.specs.Reading.{shapeAfter, controlsAfter, pointsAfter, refuses, accepts, edits}
-use Rattle.edit.specs.Sequences.{State, Call, shapeThen, stateThen, called, played, Outlined}
+use Rattle.edit.specs.Reading.{shapeAfter, accepts, edits}
+use Rattle.edit.specs.Sequences.{State, Call, stateThen, called, played, Outlined}
 use Rattle.edit.proofs.Fills.{in-sets}
 use Rattle.edit.proofs.Worked.{in-filled}
 use Rattle.edit.proofs.Rows.{length-asked}
@@ -44,7 +44,7 @@ same-records s p good c d same q =
     (four-same (firstRecord (p .basis) t) (firstRecord (p .basis) t) (coordinate c (q % 2)) (coordinate d (q % 2)) (λ i few. same (firstRecord (p .basis) t + i) (q % 2) (omega (arith, good-records s p good t exists)) (omega arith)))
 
 -- the records of a list's front that was written
-front-record : (l vs : List ℤ) (n r axis : ℕ) → length vs ≡ 2 * n → 2 * n ≤ length l → r < n → axis < 2 → coordinate (sets l 0 vs) axis r ≡ coordinate vs axis r
+pub front-record : (l vs : List ℤ) (n r axis : ℕ) → length vs ≡ 2 * n → 2 * n ≤ length l → r < n → axis < 2 → coordinate (sets l 0 vs) axis r ≡ coordinate vs axis r
 unfolding coordinate
 front-record l vs n r axis all room h a =
     ap (λ (i : ℕ). getD (sets l 0 vs) i (pos 0)) (sym (zero-add (2 * r + axis))) ∙ in-sets vs l 0 (2 * r + axis) (pos 0) (omega (arith, all)) (omega (arith, all))
