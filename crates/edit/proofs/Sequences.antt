@@ -56,7 +56,7 @@ module _ (e : Edit) (s : Shape) (j : ℕ) (controls lent : List ℤ) where
   new = asked e j controls (countAfter e (s .count))
 
   -- an edit that is done
-  done-outlined : NoRow (callRows e s j controls lent) → Outlined (record { shape = s; controls = controls; held = lent }) → Outlined (stateThen s (accepts e s (planOf (shapeAfter e s)) j controls lent))
+  pub done-outlined : NoRow (callRows e s j controls lent) → Outlined (record { shape = s; controls = controls; held = lent }) → Outlined (stateThen s (accepts e s (planOf (shapeAfter e s)) j controls lent))
   done-outlined none out =
       let p = planOf (shapeAfter e s) in
       let room = room-then e s j controls lent none in
