@@ -1,17 +1,17 @@
 -- Drawing again: where the drawing call would be done and change nothing, so it would be after every list of calls. The shape stays sound, the records inside the limits,
 -- the lists long enough, and no point is beyond.
-use mathlib.Core.Path.{_≡_, refl, sym, ap, _∙_, subst}
-use mathlib.Core.Bool.{Bool, true, false, not, _&&_, _||_}
+use mathlib.Core.Path.{_≡_, sym, ap, _∙_, subst}
+use mathlib.Core.Bool.{false}
 use mathlib.Core.Logic.{⊎-elim}
 use mathlib.Core.List.{List, [], _∷_, _++_}
 use Prim.Native.Nat.{ℕ, _+_, _*_, _≤_, _<_}
 use native.Mathlib.Omega.{arith}
 use borrow.Author.Tests.{le-leb, le-ltb, eq-eqb}
-use lib.Dec.{ltb, leb, eqb}
+use lib.Dec.{ltb}
 use lib.IntN.{ℤ, pos, natAbs}
 use lib.ListN.{getD, length}
 use lib.Seq.{sets, length-sets}
-use Rattle.curve.specs.Limits.{limit, beyond}
+use Rattle.curve.specs.Limits.{limit}
 use Rattle.curve.specs.Numbers.{tab}
 use Rattle.curve.specs.Span.{coordinate}
 use Rattle.curve.specs.Ways.{deepest}
@@ -28,8 +28,8 @@ use Rattle.shape.proofs.Spans.{spans-records}
 use Rattle.spans.specs.Numbers.{farOff}
 use Rattle.outline.specs.declared.Drawn.the-variants.{Points}
 use Rattle.outline.specs.Outline as outline
-use Rattle.outline.specs.Outline.{numbers, points, firstFar, drawn, drawRows}
-use Rattle.outline.proofs.Exactly.{none-drawn}
+use Rattle.outline.specs.Outline.{numbers, points, firstFar, reachRow, drawn, drawRows, draws}
+use Rattle.outline.proofs.Exactly.{points-none, none-drawn}
 use Rattle.edit.specs.declared.Edit.{Edit}
 use Rattle.edit.specs.Edits.{countAfter, asked, pointAt}
 use Rattle.edit.specs.Reading.{shapeAfter, accepts, edits}
@@ -138,3 +138,19 @@ pub played-redraws : (t : State) (calls : List Call) → Redraws t → Redraws (
 unfolding played
 played-redraws t [] again = again
 played-redraws t (c ∷ calls) again = played-redraws (called t c) calls (called-redraws t c again)
+
+-- ---- from the first drawing on
+
+-- after a drawing call that answers points, drawing again changes nothing
+pub drawn-redraws : (s : Shape) (controls lent : List ℤ) (n : ℕ) (held : List ℤ) → draws s controls lent ≡ outline.outcome (Points n) held → Redraws (record { shape = s; controls = controls; held = held })
+drawn-redraws s controls lent n held answered =
+    let p = planOf s in
+    let none = points-none s controls lent n held answered in
+    let is : drawn p controls lent ≡ held = ap (λ (o : outline.Outcome). o .held) (sym (none-drawn s controls lent none) ∙ answered) in
+    let long : length lent ≡ length held = sym (length-sets lent 0 (tab (numbers p controls) 0 (2 * points p))) ∙ ap length is in
+    outlined-redraws (record { shape = s; controls = controls; held = held }) (drawn-outlined s controls lent n held answered)
+    (subst (λ (len : ℕ). NoRow (shapeRows s ++ (listRows (s .count) controls (points p) len ++ (reachRow p controls ∷ [])))) long none)
+
+-- nor does it after any calls more
+pub drawn-played-redraws : (s : Shape) (controls lent : List ℤ) (n : ℕ) (held : List ℤ) (calls : List Call) → draws s controls lent ≡ outline.outcome (Points n) held → Redraws (played (record { shape = s; controls = controls; held = held }) calls)
+drawn-played-redraws s controls lent n held calls answered = played-redraws (record { shape = s; controls = controls; held = held }) calls (drawn-redraws s controls lent n held answered)

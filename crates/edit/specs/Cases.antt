@@ -10,7 +10,6 @@ use Rattle.curve.specs.Cases.{alike}
 use Rattle.shape.specs.declared.Shape.{Shape}
 use Rattle.edit.specs.declared.Edit.{Edit}
 use Rattle.edit.specs.declared.Edit.the-variants.{Move, Insert, Remove}
-use Rattle.edit.specs.declared.Change.{Change}
 use Rattle.edit.specs.declared.Edited.{Edited}
 use Rattle.edit.specs.declared.Edited.the-variants.{Done, Refused}
 use Rattle.edit.specs.Reading.{Outcome, edits}
