@@ -1,15 +1,15 @@
 -- Which spans an edit names, and why the others need no work: a span that is not worked afresh has the four records that its old span had, so each of its numbers is a
 -- number of the old outline, in its place or one span on or back.
-use mathlib.Core.Path.{_≡_, refl, sym, ap, _∙_, subst}
-use mathlib.Core.Bool.{Bool, true, false, cond, _&&_}
+use mathlib.Core.Path.{_≡_, refl, sym, ap, _∙_}
+use mathlib.Core.Bool.{true, false, cond}
 use mathlib.Core.Logic.{⊎-elim}
 use mathlib.Core.List.{List}
-use Prim.Native.Nat.{ℕ, zero, suc, _+_, _*_, _-_, _/_, _%_, _^_, min, _≤_, _<_}
-use native.Mathlib.Nat.{add-zero, zero-add, suc-mul, add-div-right, div-div-eq-div-mul, div-mul-le-self, div-lt-iff-lt-mul, le-div-iff-mul-le, mul-le-mul-right, min-le-left, min-le-right}
+use Prim.Native.Nat.{ℕ, suc, _+_, _*_, _-_, _/_, _%_, _^_, min, _≤_, _<_}
+use native.Mathlib.Nat.{add-zero, zero-add, suc-mul, add-div-right, div-div-eq-div-mul, div-lt-iff-lt-mul, le-div-iff-mul-le, mul-le-mul-right, min-le-left, min-le-right}
 use native.Mathlib.Numerals.{add-one}
 use native.Mathlib.Omega.{arith}
-use borrow.Author.Tests.{ltb-true, leb-true, lt-ltb, le-ltb, le-leb, ne-eqb}
-use lib.Dec.{leb, ltb, eqb, lit<}
+use borrow.Author.Tests.{leb-true, lt-ltb, le-ltb, le-leb, ne-eqb}
+use lib.Dec.{eqb, lit<}
 use lib.IntN.{ℤ, pos}
 use lib.ListN.{getD, length}
 use lib.Pow.{pow-pos}
@@ -71,10 +71,6 @@ named-touched Remove Cardinal j m s o (low, high) = (omega arith, omega arith)
 named-touched Remove Hermite j m s o t = absurd (true-is-not-false o refl)
 
 -- ---- the records of the new controls that were there before
-
--- number `axis` of record r is of record r
-record-of : (r axis : ℕ) → axis < 2 → (2 * r + axis) / 2 ≡ r
-record-of r axis a = omega arith
 
 -- Record r is past the edit's place.
 abbrev Beyond : Edit → ℕ → ℕ → Type 0
@@ -265,7 +261,7 @@ stays-same (Move x y) b k m c q some left h g = refl
 stays-same (Insert x y) b k m c q some left h g = sym (fewer-numbers b k m (m + 1) c q some (omega arith) g)
 stays-same Remove b k m c q some left h g = fewer-numbers b k (m - 1) m c q left (omega arith) h
 
--- Number q of the new outline, where the fresh spans do not hold it. `old` is any list whose first records are the old ones.
+-- Number q of the new outline: of an earlier span, fresh, or of a later span. `old` is the list of the old controls.
 module _ (e : Edit) (b : Basis) (k j m : ℕ) (old : List ℤ) (o : offered e b ≡ true) (range : inRange e j (recordsOf b m) ≡ true) (some : 1 ≤ m) (left : 1 ≤ spansAfter e m)
     (q : ℕ) (h : q < spansAfter e m * perSpan k + 2) where
   abbrev w : ℕ

@@ -7,3 +7,4 @@ pub mod Kept
 pub mod Redrawn
 pub mod Sequences
 pub mod Cases
+pub mod Again

@@ -1,34 +1,31 @@
 -- An edit that is done leaves the outline of the controls that it leaves, where the lent points were the outline of the old ones.
-use mathlib.Core.Path.{_≡_, refl, sym, ap, _∙_, subst}
-use mathlib.Core.Bool.{true}
-use mathlib.Core.List.{List, _++_}
-use Prim.Native.Nat.{ℕ, _+_, _*_, _-_, _/_, _%_, _^_, min, max, _≤_, _<_}
-use native.Mathlib.Nat.{zero-add, min-le-right}
+use mathlib.Core.Path.{_≡_, sym, ap, subst}
+use mathlib.Core.Bool.{true, false}
+use mathlib.Core.List.{List}
+use Prim.Native.Nat.{ℕ, _+_, _*_, max, _≤_, _<_}
 use native.Mathlib.Omega.{arith}
+use lib.Dec.{ltb}
 use lib.IntN.{ℤ, pos}
 use lib.ListN.{getD, length}
 use lib.Seq.{sets}
-use Rattle.curve.specs.declared.Basis.{Basis}
-use Rattle.curve.specs.Span.{firstRecord, coordinate, records, point}
 use Rattle.curve.proofs.Tab.{tab-same}
 use Rattle.shape.specs.declared.Shape.{Shape}
 use Rattle.shape.specs.declared.Plan.{Plan}
 use Rattle.shape.specs.declared.Listed.the-variants.{Fine, Bad}
-use Rattle.shape.specs.Good.{Good}
+use Rattle.shape.specs.Good.{Good, Lent}
 use Rattle.shape.specs.Shape.{recordsOf}
 use Rattle.shape.specs.Refusals.{NoRow, planOf}
-use Rattle.shape.proofs.Refusals.{judge-none, none-sound, sound-facts, good-records}
-use Rattle.spans.specs.Numbers.{number, perSpan}
-use Rattle.outline.specs.Outline.{numbers, points, drawn}
+use Rattle.shape.proofs.Refusals.{judge-none, none-sound, sound-facts}
+use Rattle.spans.specs.Numbers.{perSpan}
+use Rattle.outline.specs.Outline.{numbers, points, firstFar, drawn}
 use Rattle.outline.proofs.Draws.{all-numbers}
 use Rattle.edit.specs.declared.Edit.{Edit}
 use Rattle.edit.specs.Edits.{countAfter, inRange, asked, pointAt}
-use Rattle.edit.specs.Reading.{shapeAfter, planAfter, askRows, judgeAsk, roomRows, judgeRoom, controlsAfter, pointsAfter}
+use Rattle.edit.specs.Reading.{shapeAfter, planAfter, askRows, judgeAsk, roomRows, judgeRoom, pointsAfter}
 use Rattle.edit.specs.Ready.{Editable, Workable}
-use Rattle.edit.proofs.Fills.{in-sets}
-use Rattle.edit.proofs.Rows.{editable, good-after, plan-after, workable, length-asked}
+use Rattle.edit.proofs.Rows.{editable, good-after, plan-after, workable, new-lent}
 use Rattle.edit.proofs.Exactly.{callRows}
-use Rattle.edit.proofs.Kept.{four-same, point-drawn}
+use Rattle.edit.proofs.Kept.{point-drawn}
 
 -- ---- for the plan of a sound shape that may be edited so
 
@@ -72,13 +69,21 @@ module _ (e : Edit) (s : Shape) (j : ℕ) (controls lent : List ℤ) (none : NoR
   pub same-plan : q ≡ planAfter e p
   same-plan = plan-after e s p j may-edit
 
-  ready : Workable e s (planAfter e p) j controls (length lent)
+  fine : judgeRoom e (s .count) controls (max (points p) (points (planAfter e p))) (length lent) ≡ Fine
   unfolding judgeRoom
-  ready =
+  fine =
       let rows = none .1 .1 .1 .1 .1 .1 in
       let room : NoRow (roomRows e (s .count) controls (max (points p) (points q)) (length lent)) = (rows .0, (rows .1 .0, (rows .1 .1 .0, (rows .1 .1 .1 .0, tt)))) in
-      workable e s p j may-edit controls (length lent)
-      (judge-none (roomRows e (s .count) controls (max (points p) (points (planAfter e p))) (length lent)) Bad Fine (subst (λ r. NoRow (roomRows e (s .count) controls (max (points p) (points r)) (length lent))) same-plan room))
+      judge-none (roomRows e (s .count) controls (max (points p) (points (planAfter e p))) (length lent)) Bad Fine (subst (λ r. NoRow (roomRows e (s .count) controls (max (points p) (points r)) (length lent))) same-plan room)
+
+  ready : Workable e s (planAfter e p) j controls (length lent)
+  ready = workable e s p j may-edit controls (length lent) fine
+
+  pub lent-then : Lent (countAfter e (s .count)) (asked e j controls (countAfter e (s .count))) 0 (length lent)
+  lent-then = new-lent e s p j may-edit controls (length lent) fine
+
+  pub reach-then : ltb (firstFar q (asked e j controls (countAfter e (s .count)))) (points q) ≡ false
+  reach-then = none .1 .1 .1 .1 .1 .1 .1 .1 .1 .1 .0
 
   pub good-then : Good (shapeAfter e s) q
   good-then = subst (λ r. Good (shapeAfter e s) r) (sym same-plan) (ready .good)

@@ -218,9 +218,9 @@ module _ (e : Edit) (s : Shape) (p : Plan) (j : ℕ) (ok : Editable e s p j) (co
       (none-fine n controls 0 len (le-ltb (length controls) (2 * n) (omega (arith, ltb-false (length controls) (2 * max n (countAfter e n)) (none .0), le-max-left n (countAfter e n))), (none .1 .0, (le-ltb len (2 * 0) (omega arith), tt))))
 
   -- the new ones
-  new : Lent (countAfter e n) (asked e j controls (countAfter e n)) 0 len
+  pub new-lent : Lent (countAfter e n) (asked e j controls (countAfter e n)) 0 len
   unfolding asked coordinate
-  new =
+  new-lent =
       let after = countAfter e n in
       let at : (i : ℕ) → i < 2 * after → Small (getD (tab (controlAt e j controls) 0 (2 * after)) i (pos 0)) =
       λ i h. subst Small (sym (getD-tab (controlAt e j controls) 0 (2 * after) i h (pos 0))) (control-small e j n controls (number-small n controls 0 len old) (none .1 .1 .0) (ok .inRange) (0 + i) (omega arith)) in
@@ -248,7 +248,7 @@ module _ (e : Edit) (s : Shape) (p : Plan) (j : ℕ) (ok : Editable e s p j) (co
         most = ok .good .records-most;
         place = place-most e j n (ok .good .records-most) (ok .inRange);
         room = omega (arith, ltb-false (length controls) (2 * max n (countAfter e n)) (none .0), le-max-right n (countAfter e n));
-        drawable = drawable (shapeAfter e s) q (good-after e s p j ok) (asked e j controls (countAfter e n)) 0 len new;
+        drawable = drawable (shapeAfter e s) q (good-after e s p j ok) (asked e j controls (countAfter e n)) 0 len new-lent;
         points-room = new-fits;
         carriable = carriable-by e (p .basis) j (p .spans) (perSpan (p .depth)) len (ok .good .spans-least) (good-after e s p j ok .spans-least) old-fits new-fits;
       }

@@ -1,10 +1,11 @@
 -- After every list of calls, done ones and refused ones in any order, the points are the outline of the controls, where they were at the start.
-use mathlib.Core.Path.{_≡_, refl, sym, ap, _∙_, subst}
+use mathlib.Core.Path.{_≡_, sym, ap, _∙_, subst}
 use mathlib.Core.Logic.{⊎-elim}
 use mathlib.Core.List.{List, [], _∷_}
 use Prim.Native.Nat.{ℕ, _+_, _*_, _-_, _/_, _%_, _^_, min, _≤_, _<_}
 use native.Mathlib.Nat.{zero-add, min-le-right}
 use native.Mathlib.Omega.{arith}
+use borrow.Author.Tests.{ltb-false}
 use lib.IntN.{ℤ, pos}
 use lib.ListN.{getD, length}
 use lib.Seq.{sets, length-sets}
@@ -17,11 +18,14 @@ use Rattle.shape.specs.Good.{Good}
 use Rattle.shape.specs.Refusals.{First, NoRow, planOf}
 use Rattle.shape.proofs.Refusals.{verdict, good-records}
 use Rattle.spans.specs.Numbers.{number}
-use Rattle.outline.specs.Outline.{numbers, points}
+use Rattle.outline.specs.declared.Drawn.the-variants.{Points}
+use Rattle.outline.specs.Outline as outline
+use Rattle.outline.specs.Outline.{numbers, points, drawn, draws}
+use Rattle.outline.proofs.Exactly.{points-none, none-drawn}
 use Rattle.edit.specs.declared.Edit.{Edit}
 use Rattle.edit.specs.Edits.{countAfter, asked, pointAt}
-use Rattle.edit.specs.Reading.{shapeAfter, controlsAfter, pointsAfter, refuses, accepts, edits}
-use Rattle.edit.specs.Sequences.{State, Call, shapeThen, stateThen, called, played, Outlined}
+use Rattle.edit.specs.Reading.{shapeAfter, accepts, edits}
+use Rattle.edit.specs.Sequences.{State, Call, stateThen, called, played, Outlined}
 use Rattle.edit.proofs.Fills.{in-sets}
 use Rattle.edit.proofs.Worked.{in-filled}
 use Rattle.edit.proofs.Rows.{length-asked}
@@ -40,7 +44,7 @@ same-records s p good c d same q =
     (four-same (firstRecord (p .basis) t) (firstRecord (p .basis) t) (coordinate c (q % 2)) (coordinate d (q % 2)) (λ i few. same (firstRecord (p .basis) t + i) (q % 2) (omega (arith, good-records s p good t exists)) (omega arith)))
 
 -- the records of a list's front that was written
-front-record : (l vs : List ℤ) (n r axis : ℕ) → length vs ≡ 2 * n → 2 * n ≤ length l → r < n → axis < 2 → coordinate (sets l 0 vs) axis r ≡ coordinate vs axis r
+pub front-record : (l vs : List ℤ) (n r axis : ℕ) → length vs ≡ 2 * n → 2 * n ≤ length l → r < n → axis < 2 → coordinate (sets l 0 vs) axis r ≡ coordinate vs axis r
 unfolding coordinate
 front-record l vs n r axis all room h a =
     ap (λ (i : ℕ). getD (sets l 0 vs) i (pos 0)) (sym (zero-add (2 * r + axis))) ∙ in-sets vs l 0 (2 * r + axis) (pos 0) (omega (arith, all)) (omega (arith, all))
@@ -52,7 +56,7 @@ module _ (e : Edit) (s : Shape) (j : ℕ) (controls lent : List ℤ) where
   new = asked e j controls (countAfter e (s .count))
 
   -- an edit that is done
-  done-outlined : NoRow (callRows e s j controls lent) → Outlined (record { shape = s; controls = controls; held = lent }) → Outlined (stateThen s (accepts e s (planOf (shapeAfter e s)) j controls lent))
+  pub done-outlined : NoRow (callRows e s j controls lent) → Outlined (record { shape = s; controls = controls; held = lent }) → Outlined (stateThen s (accepts e s (planOf (shapeAfter e s)) j controls lent))
   done-outlined none out =
       let p = planOf (shapeAfter e s) in
       let room = room-then e s j controls lent none in
@@ -82,3 +86,22 @@ pub played-outlined : (t : State) (calls : List Call) → Outlined t → Outline
 unfolding played
 played-outlined t [] out = out
 played-outlined t (c ∷ calls) out = played-outlined (called t c) calls (called-outlined t c out)
+
+-- ---- from the first drawing on
+
+-- a drawing call that answers points leaves an outline
+pub drawn-outlined : (s : Shape) (controls lent : List ℤ) (n : ℕ) (held : List ℤ) → draws s controls lent ≡ outline.outcome (Points n) held → Outlined (record { shape = s; controls = controls; held = held })
+drawn-outlined s controls lent n held answered =
+    let p = planOf s in
+    let none = points-none s controls lent n held answered in
+    let is : drawn p controls lent ≡ held = ap (λ (o : outline.Outcome). o .held) (sym (none-drawn s controls lent none) ∙ answered) in
+    let room : 2 * points p ≤ length lent = ltb-false (length lent) (2 * points p) (none .1 .1 .1 .1 .1 .0) in
+    subst (λ l. Outlined (record { shape = s; controls = controls; held = l })) is
+    (record {
+      room = omega (arith, room, length-sets lent 0 (tab (numbers p controls) 0 (2 * points p)));
+      holds = λ q h. in-filled (numbers p controls) 0 (2 * points p) lent q (omega arith) (omega arith) (omega (arith, room));
+    })
+
+-- so a drawing and any calls after it do
+pub drawn-then-played : (s : Shape) (controls lent : List ℤ) (n : ℕ) (held : List ℤ) (calls : List Call) → draws s controls lent ≡ outline.outcome (Points n) held → Outlined (played (record { shape = s; controls = controls; held = held }) calls)
+drawn-then-played s controls lent n held calls answered = played-outlined (record { shape = s; controls = controls; held = held }) calls (drawn-outlined s controls lent n held answered)

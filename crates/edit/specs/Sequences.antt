@@ -6,7 +6,9 @@ use lib.IntN.{ℤ, pos}
 use lib.ListN.{getD, length}
 use Rattle.shape.specs.declared.Shape.{Shape}
 use Rattle.shape.specs.Refusals.{planOf}
-use Rattle.outline.specs.Outline.{numbers, points}
+use Rattle.outline.specs.declared.Drawn.the-variants.{Points}
+use Rattle.outline.specs.Outline as outline
+use Rattle.outline.specs.Outline.{numbers, points, draws}
 use Rattle.edit.specs.declared.Edit.{Edit}
 use Rattle.edit.specs.declared.Edited.{Edited}
 use Rattle.edit.specs.declared.Edited.the-variants.{Done, Refused}
@@ -41,3 +43,7 @@ played t (c ∷ calls) = played (called t c) calls
 pub record Outlined (t : State) : Type 0 where
   pub room : 2 * points (planOf (t .shape)) ≤ length (t .held)
   pub holds : (q : ℕ) → q < 2 * points (planOf (t .shape)) → getD (t .held) q (pos 0) ≡ numbers (planOf (t .shape)) (t .controls) q
+
+-- Drawing the controls again is done, and changes nothing.
+abbrev pub Redraws : State → Type 0
+Redraws t = draws (t .shape) (t .controls) (t .held) ≡ outline.outcome (Points (points (planOf (t .shape)))) (t .held)

@@ -1,0 +1,156 @@
+-- Drawing again: where the drawing call would be done and change nothing, so it would be after every list of calls. The shape stays sound, the records inside the limits,
+-- the lists long enough, and no point is beyond.
+use mathlib.Core.Path.{_≡_, sym, ap, _∙_, subst}
+use mathlib.Core.Bool.{false}
+use mathlib.Core.Logic.{⊎-elim}
+use mathlib.Core.List.{List, [], _∷_, _++_}
+use Prim.Native.Nat.{ℕ, _+_, _*_, _≤_, _<_}
+use native.Mathlib.Omega.{arith}
+use borrow.Author.Tests.{le-leb, le-ltb, eq-eqb}
+use lib.Dec.{ltb}
+use lib.IntN.{ℤ, pos, natAbs}
+use lib.ListN.{getD, length}
+use lib.Seq.{sets, length-sets}
+use Rattle.curve.specs.Limits.{limit}
+use Rattle.curve.specs.Numbers.{tab}
+use Rattle.curve.specs.Span.{coordinate}
+use Rattle.curve.specs.Ways.{deepest}
+use Rattle.curve.proofs.Tab.{tab-same}
+use Rattle.shape.specs.declared.Shape.{Shape}
+use Rattle.shape.specs.declared.Plan.{Plan}
+use Rattle.shape.specs.declared.Refusal.{Refusal}
+use Rattle.shape.specs.Good.{Good, Lent}
+use Rattle.shape.specs.Shape.{basisOf, recordsOf, spansOf, allowed, mostRecords}
+use Rattle.shape.specs.Refusals.{First, NoRow, seek, outside, firstOutside, shapeRows, listRows, planOf}
+use Rattle.shape.proofs.Refusals.{verdict}
+use Rattle.shape.proofs.Seek.{seek-none}
+use Rattle.shape.proofs.Spans.{spans-records}
+use Rattle.spans.specs.Numbers.{farOff}
+use Rattle.outline.specs.declared.Drawn.the-variants.{Points}
+use Rattle.outline.specs.Outline as outline
+use Rattle.outline.specs.Outline.{numbers, points, firstFar, reachRow, drawn, drawRows, draws}
+use Rattle.outline.proofs.Exactly.{points-none, none-drawn}
+use Rattle.edit.specs.declared.Edit.{Edit}
+use Rattle.edit.specs.Edits.{countAfter, asked, pointAt}
+use Rattle.edit.specs.Reading.{shapeAfter, accepts, edits}
+use Rattle.edit.specs.Sequences.{State, Call, stateThen, called, played, Outlined, Redraws}
+use Rattle.edit.proofs.Worked.{same-filled}
+use Rattle.edit.proofs.Rows.{length-asked}
+use Rattle.edit.proofs.Exactly.{callRows, first-refused, none-done}
+use Rattle.edit.proofs.Redrawn.{good-then, room-then, controls-room, lent-then, reach-then}
+use Rattle.edit.proofs.Sequences.{same-records, front-record, done-outlined, drawn-outlined}
+
+-- ---- no row holds of a sound shape, nor of lists that have what is needed
+
+good-none : (s : Shape) (p : Plan) → Good s p → NoRow (shapeRows s)
+unfolding allowed
+good-none s p good =
+    let b = basisOf (s .basis) in
+    let n = s .count in
+    let records : recordsOf b (p .spans) ≡ n = subst (λ x. recordsOf x (p .spans) ≡ n) (good .basis) (good .records) in
+    let spans : spansOf b n ≡ p .spans = ap (spansOf b) (sym records) ∙ spans-records b (p .spans) in
+    let some : 1 ≤ spansOf b n = omega (arith, spans, good .spans-least) in (
+      simp (le-leb 1 (s .basis) (good .basis-least), le-leb (s .basis) 4 (good .basis-most)),
+      (
+        le-ltb deepest (s .depth) (omega (arith, good .depth, good .depth-most)),
+        (simp (le-leb n mostRecords (good .records-most), le-leb 1 (spansOf b n) some, eq-eqb (recordsOf b (spansOf b n)) n (ap (recordsOf b) spans ∙ records)), tt),
+      ),
+    )
+
+lent-none : (n : ℕ) (controls : List ℤ) (k len : ℕ) → Lent n controls k len → NoRow (listRows n controls k len)
+unfolding outside
+lent-none n controls k len lent =
+    let inside : (r : ℕ) → 0 ≤ r → r < 0 + n → outside controls r ≡ false =
+    λ r _ h. simp (le-ltb limit (natAbs (coordinate controls 0 r)) (lent .x r (omega arith)), le-ltb limit (natAbs (coordinate controls 1 r)) (lent .y r (omega arith))) in (
+      le-ltb (length controls) (2 * n) (lent .room),
+      (le-ltb (firstOutside controls n) n (omega (arith, seek-none (outside controls) 0 n inside)), (le-ltb len (2 * k) (lent .points-room), tt)),
+    )
+
+-- ---- an outline drawn over itself
+
+redrawn : (t : State) → Outlined t → drawn (planOf (t .shape)) (t .controls) (t .held) ≡ t .held
+redrawn t out =
+    let p = planOf (t .shape) in
+    ap (sets (t .held) 0) (tab-same (numbers p (t .controls)) (λ (i : ℕ). getD (t .held) i (pos 0)) 0 0 (2 * points p) (λ i h. sym (out .holds (0 + i) (omega arith))))
+    ∙ same-filled (t .held) 0 (2 * points p)
+
+outlined-redraws : (t : State) → Outlined t → NoRow (drawRows (t .shape) (t .controls) (t .held)) → Redraws t
+outlined-redraws t out none =
+    none-drawn (t .shape) (t .controls) (t .held) none ∙ ap (outline.outcome (Points (points (planOf (t .shape))))) (redrawn t out)
+
+-- ---- one call
+
+module _ (e : Edit) (s : Shape) (j : ℕ) (controls lent : List ℤ) (none : NoRow (callRows e s j controls lent)) where
+  abbrev n : ℕ
+  n = countAfter e (s .count)
+
+  abbrev new : List ℤ
+  new = asked e j controls n
+
+  abbrev p : Plan
+  p = planOf (shapeAfter e s)
+
+  abbrev then : State
+  then = stateThen s (accepts e s p j controls lent)
+
+  same-length : length (then .held) ≡ length lent
+  same-length = length-sets lent 0 (tab (pointAt e (p .basis) (p .depth) j (p .spans) new lent) 0 (2 * points p))
+
+  front : (r axis : ℕ) → r < n → axis < 2 → coordinate (then .controls) axis r ≡ coordinate new axis r
+  front r axis h a = front-record controls new n r axis (length-asked e j controls n) (controls-room e s j controls lent none) h a
+
+  still-lent : Lent n (then .controls) (points p) (length (then .held))
+  still-lent =
+      let was = lent-then e s j controls lent none in
+      record {
+        room = omega (arith, length-sets controls 0 new, controls-room e s j controls lent none);
+        x = λ r h. subst (λ z. natAbs z ≤ limit) (sym (front r 0 h (omega arith))) (was .x r h);
+        y = λ r h. subst (λ z. natAbs z ≤ limit) (sym (front r 1 h (omega arith))) (was .y r h);
+        points-room = omega (arith, same-length, room-then e s j controls lent none);
+      }
+
+  still-near : ltb (firstFar p (then .controls)) (points p) ≡ false
+  still-near =
+      let same : numbers p (then .controls) ≡ numbers p new = λ i q. same-records (shapeAfter e s) p (good-then e s j controls lent none) (then .controls) new front q i in
+      ap (λ f. ltb (seek (farOff f) 0 (points p)) (points p)) same ∙ reach-then e s j controls lent none
+
+  none-then : NoRow (drawRows (then .shape) (then .controls) (then .held))
+  none-then =
+      let sound = good-none (shapeAfter e s) p (good-then e s j controls lent none) in
+      let lists = lent-none n (then .controls) (points p) (length (then .held)) still-lent in
+      (sound .0, (sound .1 .0, (sound .1 .1 .0, (lists .0, (lists .1 .0, (lists .1 .1 .0, (still-near, tt)))))))
+
+edit-redraws : (e : Edit) (s : Shape) (j : ℕ) (controls lent : List ℤ) → Redraws (record { shape = s; controls = controls; held = lent }) → Redraws (stateThen s (edits e s j controls lent))
+edit-redraws e s j controls lent again =
+    ⊎-elim (λ (v : (r : Refusal) × First (callRows e s j controls lent) r). subst (λ o. Redraws (stateThen s o)) (sym (first-refused e s j controls lent (v .0) (v .1))) again)
+    (λ none.
+    let out = drawn-outlined s controls lent (points (planOf s)) lent again in
+    subst (λ o. Redraws (stateThen s o)) (sym (none-done e s j controls lent none)) (outlined-redraws (then e s j controls lent none) (done-outlined e s j controls lent none out) (none-then e s j controls lent none)))
+    (verdict (callRows e s j controls lent))
+
+pub called-redraws : (t : State) (c : Call) → Redraws t → Redraws (called t c)
+unfolding called
+called-redraws t c again = edit-redraws (c .edit) (t .shape) (c .place) (t .controls) (t .held) again
+
+-- ---- every list of calls
+
+pub played-redraws : (t : State) (calls : List Call) → Redraws t → Redraws (played t calls)
+unfolding played
+played-redraws t [] again = again
+played-redraws t (c ∷ calls) again = played-redraws (called t c) calls (called-redraws t c again)
+
+-- ---- from the first drawing on
+
+-- after a drawing call that answers points, drawing again changes nothing
+pub drawn-redraws : (s : Shape) (controls lent : List ℤ) (n : ℕ) (held : List ℤ) → draws s controls lent ≡ outline.outcome (Points n) held → Redraws (record { shape = s; controls = controls; held = held })
+drawn-redraws s controls lent n held answered =
+    let p = planOf s in
+    let none = points-none s controls lent n held answered in
+    let is : drawn p controls lent ≡ held = ap (λ (o : outline.Outcome). o .held) (sym (none-drawn s controls lent none) ∙ answered) in
+    let long : length lent ≡ length held = sym (length-sets lent 0 (tab (numbers p controls) 0 (2 * points p))) ∙ ap length is in
+    outlined-redraws (record { shape = s; controls = controls; held = held }) (drawn-outlined s controls lent n held answered)
+    (subst (λ (len : ℕ). NoRow (shapeRows s ++ (listRows (s .count) controls (points p) len ++ (reachRow p controls ∷ [])))) long none)
+
+-- nor does it after any calls more
+pub drawn-played-redraws : (s : Shape) (controls lent : List ℤ) (n : ℕ) (held : List ℤ) (calls : List Call) → draws s controls lent ≡ outline.outcome (Points n) held → Redraws (played (record { shape = s; controls = controls; held = held }) calls)
+drawn-played-redraws s controls lent n held calls answered = played-redraws (record { shape = s; controls = controls; held = held }) calls (drawn-redraws s controls lent n held answered)
