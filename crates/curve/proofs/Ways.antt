@@ -18,7 +18,7 @@ use Rattle.curve.specs.Limits.{Inside, widest, Small}
 use Rattle.curve.specs.Span.{weighted}
 use Rattle.curve.specs.Ways.{deepest, byWeights, byHalving, byDifferences, leftHalf, rightHalf, starts, differences, advance, values}
 use Rattle.curve.proofs.Tab.{tab-append, tab-same}
-use Rattle.curve.proofs.Powers.{cube, eights}
+use Rattle.curve.proofs.Powers.{cube, doubled, eights}
 use Rattle.curve.proofs.Span.{weighted-start, weighted-end}
 use Rattle.curve.proofs.Reflect as R
 use Rattle.curve.proofs.Reflect.{Fourᵉ, num, p, i, h, litᵉ, dotᵉ, weightedᵉ, leftᵉ, rightᵉ}
@@ -36,9 +36,6 @@ right-half q x y = solve (R.values q x y) (weightedᵉ (rightᵉ p) i h) (weight
 -- the sum at step j of n
 abbrev pub sum : Four → ℕ → ℕ → ℤ
 sum q n j = weighted q (pos j) (pos n)
-
-doubled : (k : ℕ) → 2 * 2 ^ k ≡ 2 ^ suc k
-doubled k = omega (arith, pow-suc 2 k)
 
 pub starts-are-sums : (k : ℕ) (q : Four) → starts k q ≡ tab (sum q (2 ^ k)) 0 (2 ^ k)
 unfolding starts tab
@@ -150,3 +147,27 @@ state-small q j m inside hj hm =
       second = le-trans (ev-size r bs ok (secondᵉ i)) (lit≤ tt);
       third = le-trans (ev-size r bs ok (thirdᵉ i)) (lit≤ tt);
     }
+
+-- ---- sizes of halves: eight times as large
+
+pub eightfold : (n m : ℕ) (q : Four) → 8 * n ≤ m → Inside n q → (Inside m (leftHalf q)) × (Inside m (rightHalf q))
+unfolding leftHalf rightHalf
+eightfold n m q most inside =
+    let r = q .a ∷ q .b ∷ q .c ∷ q .d ∷ [] in
+    let bs = n ∷ n ∷ n ∷ n ∷ [] in
+    let ok : Bounded r bs = (inside .a, (inside .b, (inside .c, (inside .d, tt)))) in
+    let l = leftᵉ p in
+    let o = rightᵉ p in (
+      record {
+        a = le-trans (ev-size r bs ok (l .a)) (omega arith);
+        b = le-trans (ev-size r bs ok (l .b)) (omega arith);
+        c = le-trans (ev-size r bs ok (l .c)) (omega arith);
+        d = le-trans (ev-size r bs ok (l .d)) (omega arith);
+      },
+      record {
+        a = le-trans (ev-size r bs ok (o .a)) (omega arith);
+        b = le-trans (ev-size r bs ok (o .b)) (omega arith);
+        c = le-trans (ev-size r bs ok (o .c)) (omega arith);
+        d = le-trans (ev-size r bs ok (o .d)) (omega arith);
+      },
+    )

@@ -9,7 +9,8 @@ use lib.IntN.{ℤ}
 use lib.Seq.{sets}
 use Rattle.doubles.specs.Number.{measure, paper}
 use Rattle.shape.specs.Shape.{mostRecords}
-use Rattle.shape.specs.Refusals.{Row, row, judge, beyond, controlsRow}
+use Rattle.curve.specs.Limits.{beyond, limit}
+use Rattle.shape.specs.Refusals.{Row, row, judge, controlsRow}
 use Rattle.shape.specs.declared.Refusal.{Refusal}
 use Rattle.drawing.specs.declared.Control.{Control}
 use Rattle.drawing.specs.declared.State.{State}
@@ -29,7 +30,7 @@ miscounted s = not (reached (s .count)) || (eqb (s .count) 0 && s .closed)
 -- ---- row 8: start or current outside limits, where there are any
 
 abbrev pub strays : Control → Bool
-strays c = beyond (c .x) || beyond (c .y)
+strays c = beyond limit (c .x) || beyond limit (c .y)
 
 unfoldable pub astray : State → Bool
 astray s = not (eqb (s .count) 0) && (strays (s .start) || strays (s .current))

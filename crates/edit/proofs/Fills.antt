@@ -14,7 +14,7 @@ use lib.Signed.{mag}
 use lib.Seq.{sets, set-comm, getD-set-same, getD-set-other, drop-cons, drop-length}
 use Rattle.curve.specs.Numbers.{tab}
 use Rattle.curve.proofs.Tab.{length-tab, tab-append}
-use Rattle.spans.proofs.Pairs.{sets-append}
+use Rattle.whole.proofs.Writes.{sets-append}
 
 -- a number read from a list is the number that stands there
 pub as-read : (z : ℤ) → mag z < 2 ^ hbits w32 → toZ w32 (ofZ w32 z) ≡ z

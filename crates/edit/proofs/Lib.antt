@@ -1,3 +1,9 @@
 pub mod Fills
 pub mod Worked
 pub mod Rows
+pub mod Unique
+pub mod Exactly
+pub mod Kept
+pub mod Redrawn
+pub mod Sequences
+pub mod Cases

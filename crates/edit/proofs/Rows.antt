@@ -55,7 +55,7 @@ spans-then Remove BSpline m o h = omega arith
 spans-then Remove Cardinal m o h = omega arith
 spans-then Remove Hermite m o h = absurd (true-is-not-false o refl)
 
-records-then : (e : Edit) (b : Basis) (m : ℕ) → offered e b ≡ true → 1 ≤ m → recordsOf b (spansAfter e m) ≡ countAfter e (recordsOf b m)
+pub records-then : (e : Edit) (b : Basis) (m : ℕ) → offered e b ≡ true → 1 ≤ m → recordsOf b (spansAfter e m) ≡ countAfter e (recordsOf b m)
 unfolding recordsOf
 records-then (Move x y) b m o h = refl
 records-then (Insert x y) Bezier m o h = absurd (true-is-not-false o refl)

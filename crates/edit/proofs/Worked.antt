@@ -146,7 +146,7 @@ module _ (ed : Edit) (b : Basis) (k j m : ℕ) (c lent : List ℤ) (some : 1 ≤
   abbrev wanted : ℕ → ℤ
   wanted = pointAt ed b k j m c lent
 
-  fresh-facts : (i : ℕ) → isFresh ed b k j m i ≡ true → (a < e) × (a * w ≤ i) × (i < e * w + 2)
+  pub fresh-facts : (i : ℕ) → isFresh ed b k j m i ≡ true → (a < e) × (a * w ≤ i) × (i < e * w + 2)
   unfolding isFresh
   fresh-facts i t =
       let (first, rest) = and-true (ltb a e) (leb (a * w) i && ltb i (e * w + 2)) t in
@@ -156,17 +156,17 @@ module _ (ed : Edit) (b : Basis) (k j m : ℕ) (c lent : List ℤ) (some : 1 ≤
   not-fresh : (i : ℕ) → (a < e → a * w ≤ i → i < e * w + 2 → ⊥) → isFresh ed b k j m i ≡ false
   not-fresh i none = ⊎-elim (λ t. let (first, low, high) = fresh-facts i t in absurd (none first low high)) (λ t. t) (passes (isFresh ed b k j m i))
 
-  fresh-at : (i : ℕ) → a < e → a * w ≤ i → i < e * w + 2 → wanted i ≡ number b k m c i
+  pub fresh-at : (i : ℕ) → a < e → a * w ≤ i → i < e * w + 2 → wanted i ≡ number b k m c i
   unfolding pointAt isFresh
   fresh-at i first low high = simp (lt-ltb a e first, le-leb (a * w) i low, lt-ltb i (e * w + 2) high)
 
-  stays-at : (i : ℕ) → isFresh ed b k j m i ≡ false → min (i / w) (m - 1) < a → wanted i ≡ getD lent i (pos 0)
+  pub stays-at : (i : ℕ) → isFresh ed b k j m i ≡ false → min (i / w) (m - 1) < a → wanted i ≡ getD lent i (pos 0)
   unfolding pointAt
   stays-at i stale h =
       ap (λ t. cond t (number b k m c i) (cond (ltb (min (i / w) (m - 1)) a) (getD lent i (pos 0)) (carried i))) stale
       ∙ ap (λ t. cond t (getD lent i (pos 0)) (carried i)) (lt-ltb (min (i / w) (m - 1)) a h)
 
-  carried-at : (i : ℕ) → isFresh ed b k j m i ≡ false → a ≤ min (i / w) (m - 1) → wanted i ≡ carried i
+  pub carried-at : (i : ℕ) → isFresh ed b k j m i ≡ false → a ≤ min (i / w) (m - 1) → wanted i ≡ carried i
   unfolding pointAt
   carried-at i stale h =
       ap (λ t. cond t (number b k m c i) (cond (ltb (min (i / w) (m - 1)) a) (getD lent i (pos 0)) (carried i))) stale

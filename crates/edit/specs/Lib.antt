@@ -2,3 +2,5 @@ pub mod Edits
 pub mod Carried
 pub mod Reading
 pub mod Ready
+pub mod Sequences
+pub mod Cases

@@ -6,14 +6,11 @@ use native.Mathlib.Nat.{add-zero}
 use native.Mathlib.Omega.{arith}
 use lib.ListN.{length, set, length-append}
 use lib.Seq.{sets, set-comm, length-sets, append-snoc}
+use Rattle.whole.proofs.Writes.{sets-append}
 use Rattle.listing.specs.Inside.{Laid}
 
 later : (i : ℕ) (x : ℕ) (xs : List ℕ) → i + length (x ∷ xs) ≡ suc i + length xs
 later i x xs = omega arith
-
-sets-append : (l : List ℕ) (i : ℕ) (xs ys : List ℕ) → sets l i (xs ++ ys) ≡ sets (sets l i xs) (i + length xs) ys
-sets-append l i [] ys = rw add-zero
-sets-append l i (x ∷ xs) ys = rw (later i x xs) (sets-append (set l i x) (suc i) xs ys)
 
 pub sets-last : (l : List ℕ) (i : ℕ) (xs : List ℕ) (d : ℕ) → sets l i (xs ++ (d ∷ [])) ≡ sets (set l (i + length xs) d) i xs
 sets-last l i [] d = rw add-zero

@@ -10,25 +10,11 @@ use lib.Ieee.{Float}
 use lib.ListN.{length, set, length-append}
 use lib.Pow.{pow-lt}
 use lib.Seq.{sets}
+use Rattle.whole.proofs.Writes.{sets-append}
+use Rattle.curve.proofs.Powers.{doubled, half-width}
 use Rattle.doubles.specs.declared.Pair.{Pair}
 use Rattle.doubles.specs.Midpoint.{midPair}
 use Rattle.preview.specs.Halving.{two, pieces}
-
--- two lists written one after the other are one list written
-pub sets-append : {A : Type 0} (l : List A) (i : ℕ) (vs ws : List A) → sets l i (vs ++ ws) ≡ sets (sets l i vs) (i + length vs) ws
-sets-append l i [] ws = ap (λ (n : ℕ). sets l n ws) (sym (add-zero i))
-sets-append l i (a ∷ vs) ws = sets-append (set l i a) (suc i) vs ws ∙ ap (λ (n : ℕ). sets (sets (set l i a) (suc i) vs) n ws) (suc-add i (length vs) ∙ sym (add-suc i (length vs)))
-
-pub doubled : (l : ℕ) → 2 * 2 ^ l ≡ 2 ^ suc l
-doubled l = omega (arith, pow-suc 2 l)
-
--- half the numbers of a piece are those of its halves
-pub half-width : (left : ℕ) → 0 < left → 2 * 2 ^ (left - 1) ≡ 2 ^ left
-half-width left h = let whole : suc (left - 1) ≡ left = omega arith in doubled (left - 1) ∙ ap (λ (n : ℕ). 2 ^ n) whole
-
--- 1 shifted left by the depth, at our depths
-pub shift-one : (k : ℕ) → k < 64 → 1 * 2 ^ k % 2 ^ 64 ≡ 2 ^ k
-shift-one k h = ap (λ (n : ℕ). n % 2 ^ 64) (one-mul (2 ^ k)) ∙ mod-eq-of-lt (pow-lt h)
 
 pub length-pieces : (left : ℕ) (a b c d : Pair) → length (pieces left a b c d) ≡ 2 * 2 ^ left
 unfolding pieces

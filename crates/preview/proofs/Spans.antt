@@ -13,7 +13,9 @@ use Rattle.curve.specs.declared.Basis.the-variants.{Bezier}
 use Rattle.curve.specs.Span.{firstRecord}
 use Rattle.shape.specs.Shape.{pointsOf}
 use Rattle.preview.specs.Halving.{control, spanPieces, halved}
-use Rattle.preview.proofs.Pieces.{sets-append, doubled, length-pieces, two-written}
+use Rattle.whole.proofs.Writes.{sets-append}
+use Rattle.curve.proofs.Powers.{doubled}
+use Rattle.preview.proofs.Pieces.{length-pieces, two-written}
 
 -- 2 shifted left by the depth, at our depths
 pub shift-two : (k : ℕ) → k < 63 → 2 * 2 ^ k % 2 ^ 64 ≡ 2 * 2 ^ k

@@ -18,13 +18,13 @@ use Rattle.curve.specs.Span.{weighted}
 use Rattle.curve.specs.Ways.{leftHalf, rightHalf}
 use Rattle.curve.proofs.Tab.{tab-append, tab-same}
 use Rattle.curve.proofs.Span.{weighted-start}
-use Rattle.curve.proofs.Ways.{left-half, right-half}
+use Rattle.curve.proofs.Ways.{eightfold, left-half, right-half}
 use Rattle.curve.proofs.Reflect.{p, leftᵉ, rightᵉ}
 use Rattle.doubles.specs.Exact.{dyadic}
 use Rattle.doubles.specs.Midpoint.{midPair}
 use Rattle.doubles.specs.declared.Pair.{Pair}
 use Rattle.preview.specs.Halving.{two, pieces}
-use Rattle.preview.proofs.Pieces.{doubled}
+use Rattle.curve.proofs.Powers.{doubled}
 use Rattle.preview.proofs.Cuts.{left-a, left-b, left-c, left-d, right-a, right-b, right-c, right-d}
 
 -- a point whose numbers are exact, both over 2^e
@@ -94,29 +94,6 @@ uncut-rule e x y =
 
 -- ---- sizes
 
--- eight times as large
-eightfold : (n : ℕ) (q : Four) → Inside n q → (Inside (n * 8) (leftHalf q)) × (Inside (n * 8) (rightHalf q))
-unfolding leftHalf rightHalf
-eightfold n q inside =
-    let r = q .a ∷ q .b ∷ q .c ∷ q .d ∷ [] in
-    let bs = n ∷ n ∷ n ∷ n ∷ [] in
-    let ok : Bounded r bs = (inside .a, (inside .b, (inside .c, (inside .d, tt)))) in
-    let l = leftᵉ p in
-    let o = rightᵉ p in (
-      record {
-        a = le-trans (ev-size r bs ok (l .a)) (omega arith);
-        b = le-trans (ev-size r bs ok (l .b)) (omega arith);
-        c = le-trans (ev-size r bs ok (l .c)) (omega arith);
-        d = le-trans (ev-size r bs ok (l .d)) (omega arith);
-      },
-      record {
-        a = le-trans (ev-size r bs ok (o .a)) (omega arith);
-        b = le-trans (ev-size r bs ok (o .b)) (omega arith);
-        c = le-trans (ev-size r bs ok (o .c)) (omega arith);
-        d = le-trans (ev-size r bs ok (o .d)) (omega arith);
-      },
-    )
-
 -- what is left for the halves
 next-size : (n l : ℕ) → n * 8 ^ suc l ≤ 2 ^ 53 → n * 8 * 8 ^ l ≤ 2 ^ 53
 next-size n l h = subst (λ (m : ℕ). m ≤ 2 ^ 53) (ap (λ (m : ℕ). n * m) (pow-suc 8 l ∙ native.Mathlib.Nat.mul-comm (8 ^ l) 8) ∙ sym (mul-assoc n 8 (8 ^ l))) h
@@ -145,6 +122,6 @@ pieces-exact (suc l) e n x y hx hy small deep =
     (record { x = right-c e n x hx c t k; y = right-c e n y hy c t k })
     (record { x = right-d e n x hx c t k; y = right-d e n y hy c t k }))
     ∙ (λ k.
-    pieces-exact l (e + 3) (n * 8) (leftHalf x) (leftHalf y) (eightfold n x hx .0) (eightfold n y hy .0) (next-size n l small) (omega arith) k
-    ++ pieces-exact l (e + 3) (n * 8) (rightHalf x) (rightHalf y) (eightfold n x hx .1) (eightfold n y hy .1) (next-size n l small) (omega arith) k)
+    pieces-exact l (e + 3) (n * 8) (leftHalf x) (leftHalf y) (eightfold n (n * 8) x (omega arith) hx .0) (eightfold n (n * 8) y (omega arith) hy .0) (next-size n l small) (omega arith) k
+    ++ pieces-exact l (e + 3) (n * 8) (rightHalf x) (rightHalf y) (eightfold n (n * 8) x (omega arith) hx .1) (eightfold n (n * 8) y (omega arith) hy .1) (next-size n l small) (omega arith) k)
     ∙ sym (cut-rule l e x y)

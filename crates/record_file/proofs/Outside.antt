@@ -8,7 +8,8 @@ use lib.IntN.{ℤ, pos}
 use lib.ListN.{length, getD, drop, List·getD-append}
 use lib.Seq.{sets, sets-eq}
 use Rattle.curve.specs.Span.{coordinate}
-use Rattle.shape.specs.Refusals.{beyond, outside, firstOutside, seek}
+use Rattle.curve.specs.Limits.{beyond, limit}
+use Rattle.shape.specs.Refusals.{outside, firstOutside, seek}
 
 -- two tests that agree find the same
 seek-same : (t u : ℕ → Bool) (i n : ℕ) → ((k : ℕ) → i ≤ k → k < i + n → t k ≡ u k) → seek t i n ≡ seek u i n
@@ -21,8 +22,8 @@ seek-same t u i (suc n) h =
 outside-front : (vs rest : List ℤ) (r : ℕ) → 2 * r + 1 < length vs → outside (vs ++ rest) r ≡ outside vs r
 unfolding outside coordinate
 outside-front vs rest r h =
-    ap (λ z. beyond z || beyond (getD (vs ++ rest) (2 * r + 1) (pos 0))) (List·getD-append vs rest (pos 0) (2 * r + 0) (omega arith))
-    ∙ ap (λ z. beyond (getD vs (2 * r + 0) (pos 0)) || beyond z) (List·getD-append vs rest (pos 0) (2 * r + 1) h)
+    ap (λ z. beyond limit z || beyond limit (getD (vs ++ rest) (2 * r + 1) (pos 0))) (List·getD-append vs rest (pos 0) (2 * r + 0) (omega arith))
+    ∙ ap (λ z. beyond limit (getD vs (2 * r + 0) (pos 0)) || beyond limit z) (List·getD-append vs rest (pos 0) (2 * r + 1) h)
 
 pub outside-written : (l vs : List ℤ) (n : ℕ) → length vs ≡ 2 * n → 2 * n ≤ length l → firstOutside (sets l 0 vs) n ≡ firstOutside vs n
 outside-written l vs n e h =

@@ -3,7 +3,7 @@ use mathlib.Core.Path.{_≡_, refl, sym, ap, _∙_, subst}
 use mathlib.Core.Bool.{Bool, true, false, cond}
 use mathlib.Core.List.{List, [], _∷_, _++_}
 use Prim.Native.Nat.{ℕ, zero, suc, _+_, _*_, _-_, _/_, _%_, _^_, _≤_, _<_}
-use native.Mathlib.Nat.{pow-suc, le-trans, le-mul-of-pos-right, one-le-pow, pow-le-pow-right, mul-le-mul-left}
+use native.Mathlib.Nat.{pow-suc, le-refl, le-trans, le-mul-of-pos-right, one-le-pow, pow-le-pow-right, mul-le-mul-left}
 use native.Mathlib.Numerals.{add-one}
 use native.Mathlib.Omega.{arith}
 use lib.Dec.{eqb, lit≤, lit<}
@@ -14,6 +14,7 @@ use lib.Seq.{sets}
 use mir.Syntax.{w64}
 use mir.Val.{SFits}
 use Rattle.whole.specs.Nearest.{nearest}
+use Rattle.whole.proofs.Writes.{sets-append}
 use Rattle.whole.proofs.Ring.{Ex, var, lit, _⊕_, _⊗_, ev, solve}
 use Rattle.whole.proofs.Fit.{Bounded, size, ev-size, sfits}
 use Rattle.curve.specs.declared.Four.{Four}
@@ -23,43 +24,18 @@ use Rattle.curve.specs.Span.{weighted, divisor}
 use Rattle.curve.specs.Ways.{deepest, leftHalf, rightHalf}
 use Rattle.curve.proofs.Tab.{tab-append, tab-same, length-tab}
 use Rattle.curve.proofs.Span.{weighted-start}
-use Rattle.curve.proofs.Ways.{left-half, right-half}
+use Rattle.curve.proofs.Powers.{doubled, half-width}
+use Rattle.curve.proofs.Ways.{eightfold, left-half, right-half}
 use Rattle.curve.proofs.Reflect.{Fourᵉ, p, leftᵉ, rightᵉ}
 use Rattle.spans.specs.Numbers.{onAxis, paired, perSpan}
 use Rattle.spans.specs.Ready.{Ready, Cuttable}
-use Rattle.spans.proofs.Pairs.{sets-append, paired-x, paired-y}
-
-doubled : (l : ℕ) → 2 * 2 ^ l ≡ 2 ^ suc l
-doubled l = omega (arith, pow-suc 2 l)
+use Rattle.spans.proofs.Pairs.{paired-x, paired-y}
 
 -- half the numbers of a piece are those of its halves
 pub halved : (left : ℕ) → 0 < left → perSpan (left - 1) ≡ 2 ^ left
-halved left h = let whole : suc (left - 1) ≡ left = omega arith in doubled (left - 1) ∙ ap (λ (n : ℕ). 2 ^ n) whole
+halved left h = half-width left h
 
 -- ---- bounds
-
--- eight times as large
-eightfold : (n : ℕ) (q : Four) → Inside n q → (Inside (8 * n) (leftHalf q)) × (Inside (8 * n) (rightHalf q))
-unfolding leftHalf rightHalf
-eightfold n q inside =
-    let r = q .a ∷ q .b ∷ q .c ∷ q .d ∷ [] in
-    let bs = n ∷ n ∷ n ∷ n ∷ [] in
-    let ok : Bounded r bs = (inside .a, (inside .b, (inside .c, (inside .d, tt)))) in
-    let l = leftᵉ p in
-    let o = rightᵉ p in (
-      record {
-        a = le-trans (ev-size r bs ok (l .a)) (omega arith);
-        b = le-trans (ev-size r bs ok (l .b)) (omega arith);
-        c = le-trans (ev-size r bs ok (l .c)) (omega arith);
-        d = le-trans (ev-size r bs ok (l .d)) (omega arith);
-      },
-      record {
-        a = le-trans (ev-size r bs ok (o .a)) (omega arith);
-        b = le-trans (ev-size r bs ok (o .b)) (omega arith);
-        c = le-trans (ev-size r bs ok (o .c)) (omega arith);
-        d = le-trans (ev-size r bs ok (o .d)) (omega arith);
-      },
-    )
 
 -- the bound of one cut more
 next-bound : (l : ℕ) → l < deepest → 8 * (widest * 8 ^ (deepest - suc l)) ≡ widest * 8 ^ (deepest - l)
@@ -74,7 +50,7 @@ module _ (l k : ℕ) (q : Four) (h : l < deepest) (cut : Cuttable (suc l) k q) w
   cut-left : Cuttable l k (leftHalf q)
   cut-left =
       record {
-        inside = subst (λ (n : ℕ). Inside n (leftHalf q)) (next-bound l h) (eightfold (widest * 8 ^ (deepest - suc l)) q (cut .inside) .0);
+        inside = subst (λ (n : ℕ). Inside n (leftHalf q)) (next-bound l h) (eightfold (widest * 8 ^ (deepest - suc l)) (8 * (widest * 8 ^ (deepest - suc l))) q (le-refl _) (cut .inside) .0);
         near = λ i b.
             subst (λ z. natAbs z ≤ divisor k * reach) (ap (λ (n : ℕ). weighted q (pos i) (pos n)) (sym (doubled l)) ∙ sym (left-half q (pos i) (pos (2 ^ l))))
             (cut .near i (omega (arith, doubled l)));
@@ -83,7 +59,7 @@ module _ (l k : ℕ) (q : Four) (h : l < deepest) (cut : Cuttable (suc l) k q) w
   cut-right : Cuttable l k (rightHalf q)
   cut-right =
       record {
-        inside = subst (λ (n : ℕ). Inside n (rightHalf q)) (next-bound l h) (eightfold (widest * 8 ^ (deepest - suc l)) q (cut .inside) .1);
+        inside = subst (λ (n : ℕ). Inside n (rightHalf q)) (next-bound l h) (eightfold (widest * 8 ^ (deepest - suc l)) (8 * (widest * 8 ^ (deepest - suc l))) q (le-refl _) (cut .inside) .1);
         near = λ i b.
             subst (λ z. natAbs z ≤ divisor k * reach) (ap (λ (n : ℕ). weighted q (pos (2 ^ l + i)) (pos n)) (sym (doubled l)) ∙ sym (right-half q (pos i) (pos (2 ^ l))))
             (cut .near (2 ^ l + i) (omega (arith, doubled l)));

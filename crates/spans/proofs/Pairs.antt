@@ -17,11 +17,6 @@ use Rattle.curve.specs.Numbers.{tab}
 use Rattle.curve.specs.Span.{weighted, divisor}
 use Rattle.spans.specs.Numbers.{onAxis, paired}
 
--- two lists written one after the other are one list written
-pub sets-append : {A : Type 0} (l : List A) (i : ℕ) (vs ws : List A) → sets l i (vs ++ ws) ≡ sets (sets l i vs) (i + length vs) ws
-sets-append l i [] ws = ap (λ (n : ℕ). sets l n ws) (sym (add-zero i))
-sets-append l i (a ∷ vs) ws = sets-append (set l i a) (suc i) vs ws ∙ ap (λ (n : ℕ). sets (sets (set l i a) (suc i) vs) n ws) (suc-add i (length vs) ∙ sym (add-suc i (length vs)))
-
 -- the next pair
 tab-pair : {A : Type 0} (f : ℕ → A) (i n : ℕ) → tab f i (suc (suc n)) ≡ f i ∷ f (suc i) ∷ tab f (suc (suc i)) n
 unfolding tab
@@ -60,7 +55,3 @@ paired-y left k x y i =
     let e : (2 * i + 1) % 2 ≡ 1 = omega arith in
     let f : (2 * i + 1) / 2 ≡ i = omega arith in
     rw (e, f)
-
--- 1 shifted left by the depth, at our depths
-pub shift-one : (k : ℕ) → k < 64 → 1 * 2 ^ k % 2 ^ 64 ≡ 2 ^ k
-shift-one k h = ap (λ (n : ℕ). n % 2 ^ 64) (one-mul (2 ^ k)) ∙ mod-eq-of-lt (pow-lt h)

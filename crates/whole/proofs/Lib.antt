@@ -4,3 +4,4 @@ pub mod Floor
 pub mod Nearest
 pub mod Fit
 pub mod Unique
+pub mod Writes

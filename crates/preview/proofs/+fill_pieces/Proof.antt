@@ -9,7 +9,8 @@ use lib.Seq.{sets}
 use Rattle.doubles.specs.Midpoint.{midPair}
 use Rattle.doubles.proofs.midpoint_pair.Reads as midpoint-pair-reads
 use Rattle.preview.specs.Halving.{pieces}
-use Rattle.preview.proofs.Pieces.{half-width, shift-one, leaf, halves}
+use Rattle.curve.proofs.Powers.{half-width, shift-one}
+use Rattle.preview.proofs.Pieces.{leaf, halves}
 use Rattle.preview.proofs.fill_pieces.Reads as reads
 use Rattle.preview.proofs.fill_pieces.Kinds as kinds
 use Rattle.preview.proofs.+fill_pieces.Lts-fill_pieces as lts

@@ -23,7 +23,8 @@ use Rattle.curve.proofs.Four.left_half.Reads as left-half-reads
 use Rattle.curve.proofs.Four.right_half.Reads as right-half-reads
 use Rattle.spans.specs.Numbers.{paired, perSpan}
 use Rattle.spans.specs.Ready.{Cuttable}
-use Rattle.spans.proofs.Pairs.{sets-append, paired-x, paired-y, shift-one}
+use Rattle.curve.proofs.Powers.{shift-one}
+use Rattle.spans.proofs.Pairs.{paired-x, paired-y}
 use Rattle.spans.proofs.Halves.{cut-on, cuttable-small, leaf-fits, leaf-near, leaf-numbers, halves-written, halved}
 use Rattle.spans.proofs.halving.fill_pieces.Reads as reads
 use Rattle.spans.proofs.halving.fill_pieces.Kinds as kinds

@@ -5,7 +5,7 @@ use native.Mathlib.Omega.{arith}
 use Rattle.shape.specs.Refusals.{seek}
 use Rattle.shape.proofs.Seek.{seek-here, seek-step, seek-end}
 use Rattle.spans.specs.Numbers.{farOff, paired}
-use Rattle.spans.proofs.Pairs.{shift-one}
+use Rattle.curve.proofs.Powers.{shift-one}
 use Rattle.spans.proofs.reach.far_step.Statement.{statement}
 use Rattle.spans.proofs.reach.far_step.Tie as tie
 

@@ -15,7 +15,7 @@ use Rattle.shape.specs.Shape.{pointsOf}
 use Rattle.shape.proofs.Seek.{seek-here, seek-on, seek-end, seek-fails}
 use Rattle.spans.specs.Numbers.{farOff, number, paired}
 use Rattle.spans.specs.Ready.{Ready}
-use Rattle.spans.proofs.Pairs.{shift-one}
+use Rattle.curve.proofs.Powers.{shift-one}
 use Rattle.spans.proofs.Numbers.{spanControls}
 use Rattle.spans.proofs.Drawables.{fewer, span-ready}
 use Rattle.spans.proofs.Far.{far-span, far-end, seek-skip, seek-part}

@@ -18,7 +18,7 @@ use Rattle.curve.specs.Ways.{deepest}
 use Rattle.curve.proofs.Tab.{length-tab}
 use Rattle.spans.specs.Numbers.{number, paired, perSpan, filled}
 use Rattle.spans.specs.Ready.{Ready, Closable, Drawable}
-use Rattle.spans.proofs.Pairs.{sets-append}
+use Rattle.whole.proofs.Writes.{sets-append}
 use Rattle.spans.proofs.Numbers.{spanControls, span-numbers, next-span, last-two}
 use Rattle.spans.proofs.Drawables.{fewer, span-ready, span-closable}
 use Rattle.spans.proofs.run.fill_spans.Statement.{statement}

@@ -17,7 +17,7 @@ use Rattle.curve.specs.Ways.{deepest, differences}
 use Rattle.curve.proofs.Tab.{tab-same}
 use Rattle.spans.specs.Numbers.{paired, stepped, perSpan}
 use Rattle.spans.specs.Ready.{Steady}
-use Rattle.spans.proofs.Pairs.{shift-one}
+use Rattle.curve.proofs.Powers.{shift-one}
 use Rattle.spans.proofs.Steps.{ready-steady, stepped-paired}
 use Rattle.spans.proofs.stepping.fill_span.Statement.{statement}
 use Rattle.spans.proofs.stepping.fill_span.Tie as tie

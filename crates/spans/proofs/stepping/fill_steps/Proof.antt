@@ -15,7 +15,8 @@ use Rattle.curve.specs.Span.{divisor}
 use Rattle.curve.specs.Ways.{advance}
 use Rattle.spans.specs.Numbers.{after, stepped, perSpan}
 use Rattle.spans.specs.Ready.{Steady}
-use Rattle.spans.proofs.Pairs.{pair-step, pair-done, shift-one}
+use Rattle.spans.proofs.Pairs.{pair-step, pair-done}
+use Rattle.curve.proofs.Powers.{shift-one}
 use Rattle.spans.proofs.Steps.{stepped-x, stepped-y, value-fits, after-suc}
 use Rattle.spans.proofs.stepping.fill_steps.Statement.{statement}
 use Rattle.spans.proofs.stepping.fill_steps.Tie as tie

@@ -12,7 +12,8 @@ use Rattle.whole.proofs.Fit.{kept, kept-is}
 use Rattle.curve.specs.Numbers.{tab}
 use Rattle.curve.specs.Ways.{deepest}
 use Rattle.spans.specs.Numbers.{paired, perSpan}
-use Rattle.spans.proofs.Pairs.{pair-step, pair-done, paired-x, paired-y, shift-one}
+use Rattle.spans.proofs.Pairs.{pair-step, pair-done, paired-x, paired-y}
+use Rattle.curve.proofs.Powers.{shift-one}
 use Rattle.spans.proofs.weights.fill_span.Statement.{statement}
 use Rattle.spans.proofs.weights.fill_span.Tie as tie
 

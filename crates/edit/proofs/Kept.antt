@@ -1,0 +1,347 @@
+-- Which spans an edit names, and why the others need no work: a span that is not worked afresh has the four records that its old span had, so each of its numbers is a
+-- number of the old outline, in its place or one span on or back.
+use mathlib.Core.Path.{_≡_, refl, sym, ap, _∙_, subst}
+use mathlib.Core.Bool.{Bool, true, false, cond, _&&_}
+use mathlib.Core.Logic.{⊎-elim}
+use mathlib.Core.List.{List}
+use Prim.Native.Nat.{ℕ, zero, suc, _+_, _*_, _-_, _/_, _%_, _^_, min, _≤_, _<_}
+use native.Mathlib.Nat.{add-zero, zero-add, suc-mul, add-div-right, div-div-eq-div-mul, div-mul-le-self, div-lt-iff-lt-mul, le-div-iff-mul-le, mul-le-mul-right, min-le-left, min-le-right}
+use native.Mathlib.Numerals.{add-one}
+use native.Mathlib.Omega.{arith}
+use borrow.Author.Tests.{ltb-true, leb-true, lt-ltb, le-ltb, le-leb, ne-eqb}
+use lib.Dec.{leb, ltb, eqb, lit<}
+use lib.IntN.{ℤ, pos}
+use lib.ListN.{getD, length}
+use lib.Pow.{pow-pos}
+use Rattle.curve.specs.declared.Basis.{Basis}
+use Rattle.curve.specs.declared.Basis.the-variants.{Bezier, BSpline, Cardinal, Hermite}
+use Rattle.curve.specs.Numbers.{four}
+use Rattle.curve.specs.Span.{firstRecord, coordinate, recordsFrom, records, point}
+use Rattle.curve.proofs.Tab.{getD-tab}
+use Rattle.shape.specs.Shape.{recordsOf}
+use Rattle.shape.proofs.Tests.{passes, true-is-not-false}
+use Rattle.shape.proofs.Spans.{last-record}
+use Rattle.spans.specs.Numbers.{number, perSpan}
+use Rattle.spans.proofs.Numbers.{located}
+use Rattle.edit.specs.declared.Edit.{Edit}
+use Rattle.edit.specs.declared.Edit.the-variants.{Move, Insert, Remove}
+use Rattle.edit.specs.Edits.{countAfter, spansAfter, offered, inRange, choose, controlAt, asked, firstFresh, pastFresh, carriedFrom, isFresh, pointAt}
+use Rattle.edit.proofs.Worked.{either, fewer-numbers, fresh-facts, fresh-at, stays-at, carried-at}
+use Rattle.edit.proofs.Rows.{records-then}
+
+-- ---- the spans named are exactly those that the edit touches
+
+-- Span s of the new shape uses record j, which a move or an insert made; or it uses the records on both sides of the place from which one was taken out.
+abbrev pub Touched : Edit → Basis → ℕ → ℕ → Type 0
+Touched (Move x y) b j s = (firstRecord b s ≤ j) × (j ≤ firstRecord b s + 3)
+Touched (Insert x y) b j s = (firstRecord b s ≤ j) × (j ≤ firstRecord b s + 3)
+Touched Remove b j s = (firstRecord b s < j) × (j ≤ firstRecord b s + 3)
+
+abbrev pub Named : Edit → Basis → ℕ → ℕ → ℕ → Type 0
+Named e b j m s = (firstFresh e b j ≤ s) × (s < pastFresh e b j m)
+
+pub touched-named : (e : Edit) (b : Basis) (j m s : ℕ) → offered e b ≡ true → s < m → Touched e b j s → Named e b j m s
+unfolding firstRecord
+touched-named (Move x y) Bezier j m s o h (low, high) = (omega arith, omega arith)
+touched-named (Move x y) BSpline j m s o h (low, high) = (omega arith, omega arith)
+touched-named (Move x y) Cardinal j m s o h (low, high) = (omega arith, omega arith)
+touched-named (Move x y) Hermite j m s o h (low, high) = (omega arith, omega arith)
+touched-named (Insert x y) Bezier j m s o h t = absurd (true-is-not-false o refl)
+touched-named (Insert x y) BSpline j m s o h (low, high) = (omega arith, omega arith)
+touched-named (Insert x y) Cardinal j m s o h (low, high) = (omega arith, omega arith)
+touched-named (Insert x y) Hermite j m s o h t = absurd (true-is-not-false o refl)
+touched-named Remove Bezier j m s o h t = absurd (true-is-not-false o refl)
+touched-named Remove BSpline j m s o h (low, high) = (omega arith, omega arith)
+touched-named Remove Cardinal j m s o h (low, high) = (omega arith, omega arith)
+touched-named Remove Hermite j m s o h t = absurd (true-is-not-false o refl)
+
+pub named-touched : (e : Edit) (b : Basis) (j m s : ℕ) → offered e b ≡ true → Named e b j m s → Touched e b j s
+unfolding firstRecord
+named-touched (Move x y) Bezier j m s o (low, high) = (omega arith, omega arith)
+named-touched (Move x y) BSpline j m s o (low, high) = (omega arith, omega arith)
+named-touched (Move x y) Cardinal j m s o (low, high) = (omega arith, omega arith)
+named-touched (Move x y) Hermite j m s o (low, high) = (omega arith, omega arith)
+named-touched (Insert x y) Bezier j m s o t = absurd (true-is-not-false o refl)
+named-touched (Insert x y) BSpline j m s o (low, high) = (omega arith, omega arith)
+named-touched (Insert x y) Cardinal j m s o (low, high) = (omega arith, omega arith)
+named-touched (Insert x y) Hermite j m s o t = absurd (true-is-not-false o refl)
+named-touched Remove Bezier j m s o t = absurd (true-is-not-false o refl)
+named-touched Remove BSpline j m s o (low, high) = (omega arith, omega arith)
+named-touched Remove Cardinal j m s o (low, high) = (omega arith, omega arith)
+named-touched Remove Hermite j m s o t = absurd (true-is-not-false o refl)
+
+-- ---- the records of the new controls that were there before
+
+-- number `axis` of record r is of record r
+record-of : (r axis : ℕ) → axis < 2 → (2 * r + axis) / 2 ≡ r
+record-of r axis a = omega arith
+
+-- Record r is past the edit's place.
+abbrev Beyond : Edit → ℕ → ℕ → Type 0
+Beyond (Move x y) j r = j < r
+Beyond (Insert x y) j r = j < r
+Beyond Remove j r = j ≤ r
+
+control-before : (e : Edit) (j : ℕ) (old : List ℤ) (r axis : ℕ) → axis < 2 → r < j → controlAt e j old (2 * r + axis) ≡ coordinate old axis r
+unfolding coordinate
+control-before (Move x y) j old r axis a h =
+    ap (λ t. cond t (choose ((2 * r + axis) % 2) x y) (getD old (2 * r + axis) (pos 0))) (ne-eqb ((2 * r + axis) / 2) j (λ g. omega (arith, g)))
+control-before (Insert x y) j old r axis a h =
+    let q = 2 * r + axis in
+    ap (λ t. cond t (getD old q (pos 0)) (cond (eqb (q / 2) j) (choose (q % 2) x y) (getD old (q - 2) (pos 0)))) (lt-ltb (q / 2) j (omega arith))
+control-before Remove j old r axis a h =
+    let q = 2 * r + axis in
+    ap (λ t. cond t (getD old q (pos 0)) (getD old (q + 2) (pos 0))) (lt-ltb (q / 2) j (omega arith))
+
+control-beyond : (e : Edit) (j : ℕ) (old : List ℤ) (r axis : ℕ) → axis < 2 → Beyond e j r → controlAt e j old (2 * r + axis) ≡ coordinate old axis (carriedFrom e 1 r)
+unfolding coordinate
+control-beyond (Move x y) j old r axis a h =
+    ap (λ t. cond t (choose ((2 * r + axis) % 2) x y) (getD old (2 * r + axis) (pos 0))) (ne-eqb ((2 * r + axis) / 2) j (λ g. omega (arith, g)))
+control-beyond (Insert x y) j old r axis a h =
+    let q = 2 * r + axis in
+    let back : q - 2 ≡ 2 * (r - 1) + axis = omega arith in
+    ap (λ t. cond t (getD old q (pos 0)) (cond (eqb (q / 2) j) (choose (q % 2) x y) (getD old (q - 2) (pos 0)))) (le-ltb (q / 2) j (omega arith))
+    ∙ ap (λ t. cond t (choose (q % 2) x y) (getD old (q - 2) (pos 0))) (ne-eqb (q / 2) j (λ g. omega (arith, g)))
+    ∙ ap (λ (i : ℕ). getD old i (pos 0)) back
+control-beyond Remove j old r axis a h =
+    let q = 2 * r + axis in
+    let on : q + 2 ≡ 2 * (r + 1) + axis = omega arith in
+    ap (λ t. cond t (getD old q (pos 0)) (getD old (q + 2) (pos 0))) (le-ltb (q / 2) j (omega arith)) ∙ ap (λ (i : ℕ). getD old i (pos 0)) on
+
+coordinate-asked : (e : Edit) (j : ℕ) (old : List ℤ) (n r axis : ℕ) → axis < 2 → r < n → coordinate (asked e j old n) axis r ≡ controlAt e j old (2 * r + axis)
+unfolding asked coordinate
+coordinate-asked e j old n r axis a h = getD-tab (controlAt e j old) 0 (2 * n) (2 * r + axis) (omega arith) (pos 0) ∙ ap (controlAt e j old) (zero-add (2 * r + axis))
+
+-- four records that are one by one the same
+pub four-same : (r t : ℕ) (f g : ℕ → ℤ) → ((i : ℕ) → i < 4 → f (r + i) ≡ g (t + i)) → recordsFrom r f ≡ recordsFrom t g
+unfolding recordsFrom
+four-same r t f g h =
+    let first : f r ≡ g t = ap f (sym (add-zero r)) ∙ h 0 (lit< tt) ∙ ap g (add-zero t) in
+    λ i. four (first i) (h 1 (lit< tt) i) (h 2 (lit< tt) i) (h 3 (lit< tt) i)
+
+-- ---- the four records of a span that is not named
+
+-- a span before the fresh ones has its records before the place
+span-before : (e : Edit) (b : Basis) (j s : ℕ) → offered e b ≡ true → s < firstFresh e b j → firstRecord b s + 3 < j
+unfolding firstRecord
+span-before (Move x y) Bezier j s o h = omega arith
+span-before (Move x y) BSpline j s o h = omega arith
+span-before (Move x y) Cardinal j s o h = omega arith
+span-before (Move x y) Hermite j s o h = omega arith
+span-before (Insert x y) Bezier j s o h = absurd (true-is-not-false o refl)
+span-before (Insert x y) BSpline j s o h = omega arith
+span-before (Insert x y) Cardinal j s o h = omega arith
+span-before (Insert x y) Hermite j s o h = absurd (true-is-not-false o refl)
+span-before Remove Bezier j s o h = absurd (true-is-not-false o refl)
+span-before Remove BSpline j s o h = omega arith
+span-before Remove Cardinal j s o h = omega arith
+span-before Remove Hermite j s o h = absurd (true-is-not-false o refl)
+
+-- a span past them has its records past it
+span-beyond : (e : Edit) (b : Basis) (j m s i : ℕ) → offered e b ≡ true → s < m → pastFresh e b j m ≤ s → Beyond e j (firstRecord b s + i)
+unfolding firstRecord
+span-beyond (Move x y) Bezier j m s i o h p = omega arith
+span-beyond (Move x y) BSpline j m s i o h p = omega arith
+span-beyond (Move x y) Cardinal j m s i o h p = omega arith
+span-beyond (Move x y) Hermite j m s i o h p = omega arith
+span-beyond (Insert x y) Bezier j m s i o h p = absurd (true-is-not-false o refl)
+span-beyond (Insert x y) BSpline j m s i o h p = omega arith
+span-beyond (Insert x y) Cardinal j m s i o h p = omega arith
+span-beyond (Insert x y) Hermite j m s i o h p = absurd (true-is-not-false o refl)
+span-beyond Remove Bezier j m s i o h p = absurd (true-is-not-false o refl)
+span-beyond Remove BSpline j m s i o h p = omega arith
+span-beyond Remove Cardinal j m s i o h p = omega arith
+span-beyond Remove Hermite j m s i o h p = absurd (true-is-not-false o refl)
+
+-- and comes from the old span that has them
+span-from : (e : Edit) (b : Basis) (j m s i : ℕ) → offered e b ≡ true → s < m → pastFresh e b j m ≤ s → carriedFrom e 1 (firstRecord b s + i) ≡ firstRecord b (carriedFrom e 1 s) + i
+unfolding firstRecord
+span-from (Move x y) b j m s i o h p = refl
+span-from (Insert x y) Bezier j m s i o h p = absurd (true-is-not-false o refl)
+span-from (Insert x y) BSpline j m s i o h p = omega arith
+span-from (Insert x y) Cardinal j m s i o h p = omega arith
+span-from (Insert x y) Hermite j m s i o h p = absurd (true-is-not-false o refl)
+span-from Remove Bezier j m s i o h p = absurd (true-is-not-false o refl)
+span-from Remove BSpline j m s i o h p = omega arith
+span-from Remove Cardinal j m s i o h p = omega arith
+span-from Remove Hermite j m s i o h p = absurd (true-is-not-false o refl)
+
+module _ (e : Edit) (b : Basis) (j m : ℕ) (old : List ℤ) (o : offered e b ≡ true) (some : 1 ≤ m) where
+  -- the controls asked for
+  abbrev new : List ℤ
+  new = asked e j old (countAfter e (recordsOf b m))
+
+  has-records : (s i : ℕ) → s < spansAfter e m → i < 4 → firstRecord b s + i < countAfter e (recordsOf b m)
+  has-records s i h few = omega (arith, last-record b (spansAfter e m) s h, records-then e b m o some)
+
+  -- an earlier span has the same four records as before
+  pub records-stay : (s axis : ℕ) → s < spansAfter e m → axis < 2 → s < firstFresh e b j → records b s (coordinate new axis) ≡ records b s (coordinate old axis)
+  records-stay s axis h a first =
+      four-same (firstRecord b s) (firstRecord b s) (coordinate new axis) (coordinate old axis)
+      (λ i few. coordinate-asked e j old (countAfter e (recordsOf b m)) (firstRecord b s + i) axis a (has-records s i h few) ∙ control-before e j old (firstRecord b s + i) axis a (omega (arith, span-before e b j s o first)))
+
+  -- a later one has those of the span that it is carried from: itself, the one before or the one after
+  pub records-carried : (s axis : ℕ) → s < spansAfter e m → axis < 2 → pastFresh e b j (spansAfter e m) ≤ s → records b s (coordinate new axis) ≡ records b (carriedFrom e 1 s) (coordinate old axis)
+  records-carried s axis h a past =
+      four-same (firstRecord b s) (firstRecord b (carriedFrom e 1 s)) (coordinate new axis) (coordinate old axis)
+      (λ i few.
+      coordinate-asked e j old (countAfter e (recordsOf b m)) (firstRecord b s + i) axis a (has-records s i h few)
+      ∙ control-beyond e j old (firstRecord b s + i) axis a (span-beyond e b j (spansAfter e m) s i o h past)
+      ∙ ap (coordinate old axis) (span-from e b j (spansAfter e m) s i o h past))
+
+-- ---- the numbers
+
+-- two numbers at the same step of spans with the same four records
+same-number : (b : Basis) (k m n : ℕ) (c d : List ℤ) (q p s t i : ℕ) → min (q / 2 / 2 ^ k) (m - 1) ≡ s → q / 2 ≡ s * 2 ^ k + i → min (p / 2 / 2 ^ k) (n - 1) ≡ t
+    → p / 2 ≡ t * 2 ^ k + i
+    → q % 2 ≡ p % 2
+    → records b s (coordinate c (q % 2)) ≡ records b t (coordinate d (q % 2))
+    → number b k m c q ≡ number b k n d p
+same-number b k m n c d q p s t i span at span' at' axis same =
+    located b k m c q s i span at
+    ∙ ap (λ r. point b k r i) same
+    ∙ ap (λ (a : ℕ). point b k (records b t (coordinate d a)) i) axis
+    ∙ sym (located b k n d p t i span' at')
+
+-- where a carried number comes from: the same step of the span that it is carried from, of m old spans
+record Source (e : Edit) (k m q s i : ℕ) : Type 0 where
+  span : min (carriedFrom e (perSpan k) q / 2 / 2 ^ k) (m - 1) ≡ carriedFrom e 1 s
+  at : carriedFrom e (perSpan k) q / 2 ≡ carriedFrom e 1 s * 2 ^ k + i
+  axis : q % 2 ≡ carriedFrom e (perSpan k) q % 2
+  within : carriedFrom e (perSpan k) q < m * perSpan k + 2
+
+source : (e : Edit) (b : Basis) (k j m q s i : ℕ) → 1 ≤ m → 1 ≤ spansAfter e m → q < spansAfter e m * perSpan k + 2 → min (q / 2 / 2 ^ k) (spansAfter e m - 1) ≡ s → q / 2 ≡ s * 2 ^ k + i
+    → pastFresh e b j (spansAfter e m) ≤ s → Source e k m q s i
+source (Move x y) b k j m q s i some left h span at past = record { span = span; at = at; axis = refl; within = h }
+source (Insert x y) b k j m q s i some left h span at past =
+    let d = 2 ^ k in
+    let one : suc (s - 1) ≡ s = omega arith in
+    let row : s * d ≡ (s - 1) * d + d = ap (λ (n : ℕ). n * d) (sym one) ∙ suc-mul (s - 1) d in
+    let half : (q - perSpan k) / 2 ≡ (s - 1) * d + i = omega (arith, row) in
+    let all : (q - perSpan k) / 2 + d ≡ q / 2 = omega (arith, row) in
+    let spans : q / 2 / d ≡ (q - perSpan k) / 2 / d + 1 = ap (λ (n : ℕ). n / d) (sym all) ∙ add-div-right ((q - perSpan k) / 2) {k = d} (pow-pos k) in
+    let wide : (m + 1) * perSpan k ≡ m * perSpan k + perSpan k = ap (λ (n : ℕ). n * perSpan k) (add-one m) ∙ suc-mul m (perSpan k) in
+    record {
+      span = omega (arith, spans, span);
+      at = half;
+      axis = omega (arith, row);
+      within = omega (arith, wide, row);
+    }
+source Remove b k j m q s i some left h span at past =
+    let d = 2 ^ k in
+    let row : (s + 1) * d ≡ s * d + d = ap (λ (n : ℕ). n * d) (add-one s) ∙ suc-mul s d in
+    let all : (q + perSpan k) / 2 ≡ q / 2 + d = omega arith in
+    let spans : (q + perSpan k) / 2 / d ≡ q / 2 / d + 1 = ap (λ (n : ℕ). n / d) all ∙ add-div-right (q / 2) {k = d} (pow-pos k) in
+    let one : suc (m - 1) ≡ m = omega arith in
+    let wide : m * perSpan k ≡ (m - 1) * perSpan k + perSpan k = ap (λ (n : ℕ). n * perSpan k) (sym one) ∙ suc-mul (m - 1) (perSpan k) in
+    record {
+      span = omega (arith, spans, span);
+      at = omega (arith, row);
+      axis = omega arith;
+      within = omega (arith, wide);
+    }
+
+-- an insert is of the splines, whose records are three more than their spans
+insert-records : (x y : ℤ) (b : Basis) (m : ℕ) → offered (Insert x y) b ≡ true → recordsOf b m ≡ m + 3
+unfolding recordsOf
+insert-records x y Bezier m o = absurd (true-is-not-false o refl)
+insert-records x y BSpline m o = refl
+insert-records x y Cardinal m o = refl
+insert-records x y Hermite m o = absurd (true-is-not-false o refl)
+
+-- a number of a span before the fresh ones is a number of the old outline too
+stays-within : (e : Edit) (b : Basis) (k j m q : ℕ) → offered e b ≡ true → inRange e j (recordsOf b m) ≡ true → q < spansAfter e m * perSpan k + 2
+    → min (q / perSpan k) (spansAfter e m - 1) < firstFresh e b j → q < m * perSpan k + 2
+stays-within (Move x y) b k j m q o range h first = h
+stays-within (Insert x y) b k j m q o range h first =
+    let below : q / perSpan k < m = omega (arith, leb-true j (recordsOf b m) range, insert-records x y b m o) in
+    omega (arith, div-lt-iff-lt-mul {k = perSpan k} {x = q} {y = m} (omega (arith, pow-pos k)) .0 below)
+stays-within Remove b k j m q o range h first = omega (arith, mul-le-mul-right {m = m - 1} {n = m} (perSpan k) (omega arith))
+
+-- and the same one, whether of the old or of the new number of spans
+stays-same : (e : Edit) (b : Basis) (k m : ℕ) (c : List ℤ) (q : ℕ) → 1 ≤ m → 1 ≤ spansAfter e m → q < spansAfter e m * perSpan k + 2 → q < m * perSpan k + 2
+    → number b k (spansAfter e m) c q ≡ number b k m c q
+stays-same (Move x y) b k m c q some left h g = refl
+stays-same (Insert x y) b k m c q some left h g = sym (fewer-numbers b k m (m + 1) c q some (omega arith) g)
+stays-same Remove b k m c q some left h g = fewer-numbers b k (m - 1) m c q left (omega arith) h
+
+-- Number q of the new outline, where the fresh spans do not hold it. `old` is any list whose first records are the old ones.
+module _ (e : Edit) (b : Basis) (k j m : ℕ) (old : List ℤ) (o : offered e b ≡ true) (range : inRange e j (recordsOf b m) ≡ true) (some : 1 ≤ m) (left : 1 ≤ spansAfter e m)
+    (q : ℕ) (h : q < spansAfter e m * perSpan k + 2) where
+  abbrev w : ℕ
+  w = perSpan k
+
+  abbrev m' : ℕ
+  m' = spansAfter e m
+
+  abbrev a : ℕ
+  a = firstFresh e b j
+
+  abbrev z : ℕ
+  z = pastFresh e b j m'
+
+  abbrev s : ℕ
+  s = min (q / w) (m' - 1)
+
+  abbrev now : List ℤ
+  now = new e b j m old o some
+
+  wide : 0 < w
+  wide = omega (arith, pow-pos k)
+
+  span-is : min (q / 2 / 2 ^ k) (m' - 1) ≡ s
+  span-is = ap (λ (n : ℕ). min n (m' - 1)) (div-div-eq-div-mul q 2 (2 ^ k))
+
+  exists : s < m'
+  exists = omega (arith, min-le-right (q / w) (m' - 1))
+
+  two : q % 2 < 2
+  two = omega arith
+
+  step : q / 2 ≡ s * 2 ^ k + (q / 2 - s * 2 ^ k)
+  step =
+      let low : s ≤ q / 2 / 2 ^ k = omega (arith, min-le-left (q / w) (m' - 1), div-div-eq-div-mul q 2 (2 ^ k)) in
+      omega (arith, le-div-iff-mul-le {k = 2 ^ k} {x = s} {y = q / 2} (pow-pos k) .0 low)
+
+  -- A number of an earlier span is the old outline's, in its place.
+  pub number-stays : s < a → (q < m * w + 2) × (number b k m' now q ≡ number b k m old q)
+  number-stays first =
+      let within = stays-within e b k j m q o range h first in
+      let i = q / 2 - s * 2 ^ k in
+      (within, same-number b k m' m' now old q q s s i span-is step span-is step refl (records-stay e b j m old o some s (q % 2) exists two first) ∙ stays-same e b k m old q some left h within)
+
+  is-fresh : a < z → a * w ≤ q → q < z * w + 2 → isFresh e b k j m' q ≡ true
+  unfolding isFresh
+  is-fresh first low high = simp (lt-ltb a z first, le-leb (a * w) q low, lt-ltb q (z * w + 2) high)
+
+  -- a number that is not fresh, and not of an earlier span, is of a later one
+  later : isFresh e b k j m' q ≡ false → a ≤ s → z ≤ s
+  later stale from =
+      ⊎-elim (λ (g : s < z). absurd (true-is-not-false (is-fresh (omega arith) low (high g)) stale)) (λ (g : z ≤ s). g) (either s z)
+    where
+      low : a * w ≤ q
+      low = le-div-iff-mul-le {k = w} {x = a} {y = q} wide .0 (omega (arith, min-le-left (q / w) (m' - 1)))
+
+      high : s < z → q < z * w + 2
+      high g =
+          ⊎-elim (λ (l : q / w < z). omega (arith, div-lt-iff-lt-mul {k = w} {x = q} {y = z} wide .0 l))
+          (λ (l : z ≤ q / w). omega (arith, mul-le-mul-right {m = m'} {n = z} w (omega arith)))
+          (either (q / w) z)
+
+  -- A number of a later span is the old outline's, at the place that it is carried from.
+  pub number-carried : isFresh e b k j m' q ≡ false → a ≤ s → (carriedFrom e w q < m * w + 2) × (number b k m' now q ≡ number b k m old (carriedFrom e w q))
+  number-carried stale from =
+      let past = later stale from in
+      let i = q / 2 - s * 2 ^ k in
+      let r = source e b k j m q s i some left h span-is step past in
+      (r .within, same-number b k m' m now old q (carriedFrom e w q) s (carriedFrom e 1 s) i span-is step (r .span) (r .at) (r .axis) (records-carried e b j m old o some s (q % 2) exists two past))
+
+  -- So where the lent points are the old outline, what the edit leaves at q is the new outline's number.
+  pub point-drawn : (lent : List ℤ) → m' * w + 2 ≤ length lent → ((i : ℕ) → i < m * w + 2 → getD lent i (pos 0) ≡ number b k m old i) → pointAt e b k j m' now lent q ≡ number b k m' now q
+  point-drawn lent room held =
+      ⊎-elim (λ t. let (first, low, high) = fresh-facts e b k j m' now lent left room q t in fresh-at e b k j m' now lent left room q first low high)
+      (λ stale.
+      ⊎-elim (λ first. let (within, same) = number-stays first in stays-at e b k j m' now lent left room q stale first ∙ held q within ∙ sym same)
+      (λ from. let (within, same) = number-carried stale from in carried-at e b k j m' now lent left room q stale from ∙ held (carriedFrom e w q) within ∙ sym same)
+      (either s a))
+      (passes (isFresh e b k j m' q))

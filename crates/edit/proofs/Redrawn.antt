@@ -1,0 +1,97 @@
+-- An edit that is done leaves the outline of the controls that it leaves, where the lent points were the outline of the old ones.
+use mathlib.Core.Path.{_≡_, refl, sym, ap, _∙_, subst}
+use mathlib.Core.Bool.{true}
+use mathlib.Core.List.{List, _++_}
+use Prim.Native.Nat.{ℕ, _+_, _*_, _-_, _/_, _%_, _^_, min, max, _≤_, _<_}
+use native.Mathlib.Nat.{zero-add, min-le-right}
+use native.Mathlib.Omega.{arith}
+use lib.IntN.{ℤ, pos}
+use lib.ListN.{getD, length}
+use lib.Seq.{sets}
+use Rattle.curve.specs.declared.Basis.{Basis}
+use Rattle.curve.specs.Span.{firstRecord, coordinate, records, point}
+use Rattle.curve.proofs.Tab.{tab-same}
+use Rattle.shape.specs.declared.Shape.{Shape}
+use Rattle.shape.specs.declared.Plan.{Plan}
+use Rattle.shape.specs.declared.Listed.the-variants.{Fine, Bad}
+use Rattle.shape.specs.Good.{Good}
+use Rattle.shape.specs.Shape.{recordsOf}
+use Rattle.shape.specs.Refusals.{NoRow, planOf}
+use Rattle.shape.proofs.Refusals.{judge-none, none-sound, sound-facts, good-records}
+use Rattle.spans.specs.Numbers.{number, perSpan}
+use Rattle.outline.specs.Outline.{numbers, points, drawn}
+use Rattle.outline.proofs.Draws.{all-numbers}
+use Rattle.edit.specs.declared.Edit.{Edit}
+use Rattle.edit.specs.Edits.{countAfter, inRange, asked, pointAt}
+use Rattle.edit.specs.Reading.{shapeAfter, planAfter, askRows, judgeAsk, roomRows, judgeRoom, controlsAfter, pointsAfter}
+use Rattle.edit.specs.Ready.{Editable, Workable}
+use Rattle.edit.proofs.Fills.{in-sets}
+use Rattle.edit.proofs.Rows.{editable, good-after, plan-after, workable, length-asked}
+use Rattle.edit.proofs.Exactly.{callRows}
+use Rattle.edit.proofs.Kept.{four-same, point-drawn}
+
+-- ---- for the plan of a sound shape that may be edited so
+
+module _ (e : Edit) (s : Shape) (p : Plan) (j : ℕ) (ok : Editable e s p j) (controls lent : List ℤ) where
+  abbrev Drawn : ℕ → Type 0
+  Drawn n =
+      (i : ℕ) → i < planAfter e p .spans * perSpan (p .depth) + 2
+      → pointAt e (p .basis) (p .depth) j (planAfter e p .spans) (asked e j controls (countAfter e n)) lent i ≡ numbers (planAfter e p) (asked e j controls (countAfter e n)) i
+
+  pub plan-draws : 2 * points (planAfter e p) ≤ length lent → ((i : ℕ) → i < 2 * points p → getD lent i (pos 0) ≡ numbers p controls i)
+      → pointsAfter e s (planAfter e p) j controls lent ≡ drawn (planAfter e p) (asked e j controls (countAfter e (s .count))) lent
+  plan-draws room held =
+      let q = planAfter e p in
+      let new = asked e j controls (countAfter e (s .count)) in
+      ap (sets lent 0) (tab-same (pointAt e (q .basis) (q .depth) j (q .spans) new lent) (numbers q new) 0 0 (2 * points q) (λ i h. at (0 + i) (omega (arith, all-numbers (q .depth) (q .spans)))))
+    where
+      by-records : Drawn (recordsOf (p .basis) (p .spans))
+      by-records i h =
+          point-drawn e (p .basis) (p .depth) j (p .spans) controls (ok .offered) (subst (λ (n : ℕ). inRange e j n ≡ true) (sym (ok .good .records)) (ok .inRange)) (ok .good .spans-least) (good-after e s p j ok .spans-least) i h lent
+          (omega (arith, all-numbers (p .depth) (planAfter e p .spans)))
+          (λ n g. held n (omega (arith, all-numbers (p .depth) (p .spans))))
+
+      at : Drawn (s .count)
+      at = subst Drawn (ok .good .records) by-records
+
+-- ---- for an edit that no row refuses
+
+module _ (e : Edit) (s : Shape) (j : ℕ) (controls lent : List ℤ) (none : NoRow (callRows e s j controls lent)) where
+  abbrev p : Plan
+  p = planOf s
+
+  abbrev q : Plan
+  q = planOf (shapeAfter e s)
+
+  pub may-edit : Editable e s p j
+  unfolding judgeAsk
+  may-edit =
+      editable e s p j controls lent (sound-facts s p (none-sound s (none .0, (none .1 .0, (none .1 .1 .0, tt)))))
+      (judge-none (askRows e (p .basis) j (s .count)) Bad Fine (none .1 .1 .1 .0, (none .1 .1 .1 .1 .0, (none .1 .1 .1 .1 .1 .0, tt))))
+
+  pub same-plan : q ≡ planAfter e p
+  same-plan = plan-after e s p j may-edit
+
+  ready : Workable e s (planAfter e p) j controls (length lent)
+  unfolding judgeRoom
+  ready =
+      let rows = none .1 .1 .1 .1 .1 .1 in
+      let room : NoRow (roomRows e (s .count) controls (max (points p) (points q)) (length lent)) = (rows .0, (rows .1 .0, (rows .1 .1 .0, (rows .1 .1 .1 .0, tt)))) in
+      workable e s p j may-edit controls (length lent)
+      (judge-none (roomRows e (s .count) controls (max (points p) (points (planAfter e p))) (length lent)) Bad Fine (subst (λ r. NoRow (roomRows e (s .count) controls (max (points p) (points r)) (length lent))) same-plan room))
+
+  pub good-then : Good (shapeAfter e s) q
+  good-then = subst (λ r. Good (shapeAfter e s) r) (sym same-plan) (ready .good)
+
+  pub room-then : 2 * points q ≤ length lent
+  room-then =
+      subst (λ r. 2 * points r ≤ length lent) (sym same-plan) (omega (arith, all-numbers (p .depth) (planAfter e p .spans), ready .points-room))
+
+  pub controls-room : 2 * countAfter e (s .count) ≤ length controls
+  controls-room = ready .room
+
+  -- The points are those of the outline of the controls asked for, drawn whole.
+  pub edit-draws : ((i : ℕ) → i < 2 * points p → getD lent i (pos 0) ≡ numbers p controls i) → pointsAfter e s q j controls lent ≡ drawn q (asked e j controls (countAfter e (s .count))) lent
+  edit-draws held =
+      subst (λ r. pointsAfter e s r j controls lent ≡ drawn r (asked e j controls (countAfter e (s .count))) lent) (sym same-plan)
+      (plan-draws e s p j may-edit controls lent (subst (λ r. 2 * points r ≤ length lent) same-plan room-then) held)

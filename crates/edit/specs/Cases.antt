@@ -1,0 +1,97 @@
+-- Document 01's "Sums to hold it to" for the edits, P9 to P11, as one list. Each starts from the cardinal outline of 0, 10, 20, 30, 40, 50 at depth 0, which is 10, 20,
+-- 30, 40; y is 0 throughout. The lent lists have room for one record and one point more, and hold -1 there.
+use mathlib.Core.Bool.{Bool, true, false, _&&_}
+use mathlib.Core.List.{List, [], _∷_, _++_}
+use Prim.Native.Nat.{ℕ}
+use lib.Dec.{eqb}
+use lib.IntN.{ℤ, pos}
+use Rattle.curve.specs.Numbers.{neg}
+use Rattle.curve.specs.Cases.{alike}
+use Rattle.shape.specs.declared.Shape.{Shape}
+use Rattle.edit.specs.declared.Edit.{Edit}
+use Rattle.edit.specs.declared.Edit.the-variants.{Move, Insert, Remove}
+use Rattle.edit.specs.declared.Change.{Change}
+use Rattle.edit.specs.declared.Edited.{Edited}
+use Rattle.edit.specs.declared.Edited.the-variants.{Done, Refused}
+use Rattle.edit.specs.Reading.{Outcome, edits}
+
+-- An edit and its place; the count, the first fresh span and their number that it answers; and what the lent lists hold afterwards.
+pub record Case : Type 0 where
+  pub edit : Edit
+  pub place : ℕ
+  pub count : ℕ
+  pub first : ℕ
+  pub fresh : ℕ
+  pub controls : List ℤ
+  pub held : List ℤ
+
+-- Records on the x axis.
+unfoldable pub flat : List ℕ → List ℤ
+flat [] = []
+flat (n ∷ l) = pos n ∷ pos 0 ∷ flat l
+
+abbrev pub free : List ℤ
+free = neg 1 ∷ neg 1 ∷ []
+
+-- The shape, the controls and the points that each starts from.
+abbrev pub cardinal : ℕ → Shape
+cardinal n = record { basis = 3; depth = 0; count = n }
+
+abbrev pub controlsBefore : List ℤ
+controlsBefore = flat (0 ∷ 10 ∷ 20 ∷ 30 ∷ 40 ∷ 50 ∷ []) ++ free
+
+abbrev pub heldBefore : List ℤ
+heldBefore = flat (10 ∷ 20 ∷ 30 ∷ 40 ∷ []) ++ free
+
+abbrev pub p9 : Case
+p9 =
+    record {
+      edit = Insert (pos 60) (pos 0);
+      place = 6;
+      count = 7;
+      first = 3;
+      fresh = 1;
+      controls = flat (0 ∷ 10 ∷ 20 ∷ 30 ∷ 40 ∷ 50 ∷ 60 ∷ []);
+      held = flat (10 ∷ 20 ∷ 30 ∷ 40 ∷ 50 ∷ []);
+    }
+
+-- The fourth point is past the last one then, and still 40; so is the sixth record, still 50.
+abbrev pub p10 : Case
+p10 =
+    record {
+      edit = Remove;
+      place = 0;
+      count = 5;
+      first = 0;
+      fresh = 0;
+      controls = flat (10 ∷ 20 ∷ 30 ∷ 40 ∷ 50 ∷ 50 ∷ []) ++ free;
+      held = flat (20 ∷ 30 ∷ 40 ∷ 40 ∷ []) ++ free;
+    }
+
+-- The paper leaves the new record open: here it is 36.
+abbrev pub p11 : Case
+p11 =
+    record {
+      edit = Move (pos 36) (pos 0);
+      place = 3;
+      count = 6;
+      first = 0;
+      fresh = 3;
+      controls = flat (0 ∷ 10 ∷ 20 ∷ 36 ∷ 40 ∷ 50 ∷ []) ++ free;
+      held = flat (10 ∷ 20 ∷ 36 ∷ 40 ∷ []) ++ free;
+    }
+
+abbrev pub cases : List Case
+cases = p9 ∷ p10 ∷ p11 ∷ []
+
+-- The reading gives what the case says: the edit is done, with this shape and these spans.
+abbrev pub answers : Case → Edited → Bool
+answers c (Done r) = eqb (r .shape .basis) 3 && (eqb (r .shape .depth) 0 && (eqb (r .shape .count) (c .count) && (eqb (r .first) (c .first) && eqb (r .fresh) (c .fresh))))
+answers c (Refused r) = false
+
+abbrev pub agrees : Case → Outcome → Bool
+agrees c o = answers c (o .answer) && (alike (o .controls) (c .controls) && alike (o .held) (c .held))
+
+unfoldable pub allHold : List Case → Bool
+allHold [] = true
+allHold (c ∷ cs) = agrees c (edits (c .edit) (cardinal 6) (c .place) controlsBefore heldBefore) && allHold cs

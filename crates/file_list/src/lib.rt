@@ -1,0 +1,69 @@
+// The listing of a record file: what outline-list writes for it. The one public call, `list_file`, has no `requires`: it is total on any bytes.
+ghost use Rattle.io.specs.Counts.{Counts};
+use listing::Put;
+use listing::list_outline;
+use listing::list_refusal;
+use outline::Drawn;
+use outline::by_weights;
+use record_file::Reading;
+use record_file::read;
+use shape::Judged;
+use shape::Refusal;
+use shape::Shape;
+use shape::check_shape;
+
+// The numbers of 64 records, and those of the most points: 61 spans of depth 6.
+const MOST_CONTROLS: usize = 128;
+
+const MOST_NUMBERS: usize = 7810;
+
+// Writes the listing of a file, or the line of its refusal, from the start of `text`, and answers how many characters it has: 0 where they do not fit.
+pub fn list_file(file: &[u8], text: &mut [u8]) -> usize
+    ensures { λ r. ⌜ Counts r (now (text .exit)) ⌝ }
+{
+    let put = put_file(file, text);
+    end_of(put, text)
+}
+
+// The file's records as controls, and the listing of their shape.
+fn put_file(file: &[u8], text: &mut [u8]) -> Put {
+    let mut controls = [0i32; MOST_CONTROLS];
+    match read(file, &mut controls) {
+        Reading::Refused(refusal) => put_refusal(refusal, text),
+        Reading::Read(shape) => put_shape(shape, &controls, text),
+    }
+}
+
+// The spans of a shape, which the heading names, and the listing of its outline.
+fn put_shape(shape: Shape, controls: &[i32], text: &mut [u8]) -> Put {
+    match check_shape(shape) {
+        Judged::Unsound(refusal) => put_refusal(refusal, text),
+        Judged::Sound(plan) => put_outline(shape, plan.spans, controls, text),
+    }
+}
+
+// The outline of a shape of so many spans, listed.
+fn put_outline(shape: Shape, spans: usize, controls: &[i32], text: &mut [u8]) -> Put {
+    let mut points = [0i32; MOST_NUMBERS];
+    match by_weights(shape, controls, &mut points) {
+        Drawn::Refused(refusal) => put_refusal(refusal, text),
+        Drawn::Points(count) => {
+            list_outline(text, shape.basis, shape.depth, spans, &points, count)
+        }
+    }
+}
+
+// The line of a refusal.
+fn put_refusal(refusal: Refusal, text: &mut [u8]) -> Put {
+    list_refusal(text, refusal.number, refusal.place)
+}
+
+// How many characters stand in the text.
+fn end_of(put: Put, text: &[u8]) -> usize
+    ensures { λ r. ⌜ Counts r (now (text .entry)) ⌝ }
+{
+    match put {
+        Put::Full => 0,
+        Put::End(end) => { if end <= text.len() { end } else { 0 } }
+    }
+}

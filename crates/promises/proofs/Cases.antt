@@ -1,0 +1,20 @@
+-- P1 to P12 of document 01: one statement over one list of cases, computed from the definitions. `curve/proofs/Cases` says what the test means.
+use lib.Dec.{T}
+use Rattle.whole.specs.Nearest.{floor, nearest}
+use Rattle.curve.specs.Numbers.{dot, tab}
+use Rattle.curve.specs.Published.{weights}
+use Rattle.curve.specs.Span.{firstRecord, coordinate, recordsFrom, sixfoldControls, weighted, point}
+use Rattle.curve.specs.Limits.{beyond}
+use Rattle.curve.specs.Cases.{equal, alike}
+use Rattle.shape.specs.Shape.{basisOf, recordsOf, spansOf, allowed, pointsOf}
+use Rattle.shape.specs.Refusals.{judge, seek, planOf, outside}
+use Rattle.spans.specs.Numbers.{number, farOff}
+use Rattle.doubles.specs.Exact.{dyadic}
+use Rattle.doubles.specs.Number.{within, measure}
+use Rattle.edit.specs.Edits.{asked, freshCount, freshFirst, isFresh, pointAt}
+use Rattle.edit.specs.Reading.{edits}
+use Rattle.promises.specs.Cases.{cases, allHold}
+
+pub cases-hold : T (allHold cases)
+unfolding allHold alike equal tab point sixfoldControls weighted weights dot nearest floor firstRecord coordinate recordsFrom basisOf recordsOf spansOf allowed pointsOf judge seek planOf outside number farOff dyadic within measure asked freshCount freshFirst isFresh pointAt edits
+cases-hold = tt
