@@ -48,8 +48,8 @@ insert-record = edit.insert-record-unique
 pub remove-record : Unique 2 remove-record-kinds.ps remove-record-kinds.r remove-record-reads.Post
 remove-record = edit.remove-record-unique
 
-pub preview : Unique 2 preview-kinds.ps preview-kinds.r preview-reads.Post
-preview = preview.preview-unique
+pub preview-call : Unique 2 preview-kinds.ps preview-kinds.r preview-reads.Post
+preview-call = preview.preview-unique
 
 pub new-drawing : Unique 0 new-kinds.ps new-kinds.r new-reads.Post
 new-drawing = drawing.new-unique
