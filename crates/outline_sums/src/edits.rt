@@ -2,6 +2,7 @@
 use crate::outlines::CARDINAL;
 use crate::outlines::put_points;
 use crate::records::ROOM;
+use crate::records::none;
 use crate::records::on_x;
 use crate::text::put;
 use crate::text::put_count;
@@ -19,9 +20,12 @@ use shape::Judged;
 use shape::Shape;
 use shape::check_shape;
 
+// The records before an edit.
+const BEFORE: [i32; 6] = [0, 10, 20, 30, 40, 50];
+
 // The outline before the edits, and P9 to P11.
 pub fn put_edits(text: &mut [u8], at: usize) -> usize {
-    let before = put_points(text, at, b"", CARDINAL, 0, &[0, 10, 20, 30, 40, 50]);
+    let before = put_points(text, at, b"", CARDINAL, 0, &BEFORE);
     let p9 = put_edit(text, before, b"P9", Edit::Insert(60, 0), 6);
     let p10 = put_edit(text, p9, b"P10", Edit::Remove, 0);
     put_edit(text, p10, b"P11", Edit::Move(33, 0), 3)
@@ -29,12 +33,12 @@ pub fn put_edits(text: &mut [u8], at: usize) -> usize {
 
 // The line of an edit: its label, what is asked, and what it leaves.
 fn put_edit(text: &mut [u8], at: usize, label: &[u8], edit: Edit, place: usize) -> usize {
-    let mut controls = on_x(&[0, 10, 20, 30, 40, 50]);
-    let mut points = [0i32; ROOM];
+    let mut controls = on_x(&BEFORE);
+    let mut points = none();
     let shape = Shape {
         basis: CARDINAL,
         depth: 0,
-        count: 6,
+        count: BEFORE.len(),
     };
     by_weights(shape, &controls, &mut points);
     let edited = edit_outline(edit, shape, place, &mut controls, &mut points);

@@ -6,11 +6,18 @@ use crate::least::least;
 // Enough for 64 records, and for the 65 points of one span at depth 6.
 pub const ROOM: usize = 130;
 
+// Zeros alone: no records yet, or no points.
+pub fn none() -> [i32; ROOM]
+    ensures { λ r. ⌜ 130 ≡ length r ⌝ }
+{
+    [0; ROOM]
+}
+
 // Records whose x are the numbers, zeros after them.
 pub fn on_x(numbers: &[i32]) -> [i32; ROOM]
     ensures { λ r. ⌜ 130 ≡ length r ⌝ }
 {
-    let mut records = [0i32; ROOM];
+    let mut records = none();
     let most = least(numbers.len(), ROOM / 2);
     let mut i = 0;
     while i < most {

@@ -13,6 +13,9 @@ Inv-loop numbers records₀ most i₀ records i = 130 ≡ length records
 abbrev μ-loop : tie.MeasureT-loop
 μ-loop numbers records₀ most i₀ records i = most - i
 
+none-requires : tie.Need-none-requires Inv-loop μ-loop
+none-requires c κs = search needs
+
 least-requires : tie.Need-least-requires Inv-loop μ-loop
 least-requires c κs = search needs
 
@@ -52,6 +55,7 @@ on-x-spec =
     (tie.spec
     Inv-loop
     μ-loop
+    none-requires
     least-requires
     loop-holds
     mul-records
