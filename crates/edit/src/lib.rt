@@ -1,9 +1,9 @@
 // Editing an outline: move, insert and remove of one record, and what they leave in the lent controls and points. Every public call takes any input to an end: none
 // has a `requires`.
-pub mod asking;
-pub mod carrying;
-pub mod counts;
-pub mod working;
+mod asking;
+mod carrying;
+mod counts;
+mod working;
 
 ghost use mathlib.Core.Bool.{cond};
 ghost use mathlib.Core.Path.{_≡_};
