@@ -1,0 +1,194 @@
+// The records that call the library, on the lent parts of the lists, and write what it answers.
+use crate::bench::Bench;
+use crate::bench::Turn;
+use crate::record::Placed;
+use crate::record::Record;
+use crate::record::control;
+use crate::record::double;
+use crate::text::say;
+use crate::text::say_numbers;
+use crate::text::say_refusal;
+use crate::text::say_state;
+use drawing::Control;
+use drawing::State;
+use drawing::Step;
+use drawing::Stepped;
+use edit::Edited;
+use file_list::list_file;
+use libc::STDOUT_FILENO;
+use outline::Drawn;
+use preview::Previewed;
+use record_file::Reading;
+use shape::Shape;
+
+// A place is below 2^63.
+const HALF: u64 = 9223372036854775808;
+
+// The longest listing of a file.
+const MOST_TEXT: usize = 113257;
+
+// The outline, by the way that the operation names.
+fn draw_by(op: u8, shape: Shape, controls: &[i32], points: &mut [i32]) -> Drawn {
+    match op {
+        10 => outline::by_weights(shape, controls, points),
+        11 => outline::by_halving(shape, controls, points),
+        _ => outline::by_differences(shape, controls, points),
+    }
+}
+
+pub fn draw(bench: Bench, op: u8, controls: &[i32], points: &mut [i32]) -> Turn {
+    let shape = bench.shape;
+    match draw_by(op, shape, controls, points) {
+        Drawn::Refused(refusal) => say_refusal(refusal),
+        Drawn::Points(count) => say(b"drawn", &[count]),
+    }
+    Turn::Next(bench)
+}
+
+// What an edit answered, said, and the shape that it leaves.
+fn edited(bench: Bench, answer: Edited) -> Turn {
+    match answer {
+        Edited::Refused(refusal) => {
+            say_refusal(refusal);
+            Turn::Next(bench)
+        }
+        Edited::Done(change) => {
+            let shape = change.shape;
+            say(
+                b"edited",
+                &[
+                    shape.basis,
+                    shape.depth,
+                    shape.count,
+                    change.first,
+                    change.fresh,
+                ],
+            );
+            Turn::Next(bench.with_shape(shape))
+        }
+    }
+}
+
+// A record moved, or a new one before it, as the operation names.
+fn place_at(
+    op: u8,
+    shape: Shape,
+    place: usize,
+    at: Control,
+    controls: &mut [i32],
+    points: &mut [i32],
+) -> Edited {
+    match op {
+        20 => edit::move_record(shape, place, at.x, at.y, controls, points),
+        _ => edit::insert_record(shape, place, at.x, at.y, controls, points),
+    }
+}
+
+pub fn place_record(bench: Bench, r: Record, controls: &mut [i32], points: &mut [i32]) -> Turn {
+    if r.a >= HALF {
+        return Turn::Bad;
+    }
+    let Placed::At(at) = control(r.b, r.c) else {
+        return Turn::Bad;
+    };
+    let op = r.op;
+    let shape = bench.shape;
+    let answer = place_at(op, shape, r.a as usize, at, controls, points);
+    edited(bench, answer)
+}
+
+pub fn remove_record(bench: Bench, r: Record, controls: &mut [i32], points: &mut [i32]) -> Turn {
+    if r.a >= HALF {
+        return Turn::Bad;
+    }
+    let shape = bench.shape;
+    let answer = edit::remove_record(shape, r.a as usize, controls, points);
+    edited(bench, answer)
+}
+
+// The view of a span: its length, and its numbers where there are any.
+pub fn view(bench: Bench, r: Record, points: &[i32]) -> Turn {
+    if r.a >= HALF {
+        return Turn::Bad;
+    }
+    let shape = bench.shape;
+    let part = outline::view(shape, r.a as usize, points);
+    say(b"view", &[part.len()]);
+    if part.len() != 0 {
+        say_numbers(part);
+    }
+    Turn::Next(bench)
+}
+
+pub fn draw_preview(bench: Bench, controls: &[i32], preview: &mut [f64]) -> Turn {
+    let shape = bench.shape;
+    match preview::preview(shape, controls, preview) {
+        Previewed::Refused(refusal) => say_refusal(refusal),
+        Previewed::Drawn(count) => say(b"previewed", &[count]),
+    }
+    Turn::Next(bench)
+}
+
+// The step that a record names.
+fn step_of(r: Record) -> Step {
+    let op = r.op;
+    match op {
+        51 => Step::Move(double(r.a), double(r.b)),
+        52 => Step::Line(double(r.a), double(r.b)),
+        53 => Step::Cubic(
+            double(r.a),
+            double(r.b),
+            double(r.c),
+            double(r.d),
+            double(r.e),
+            double(r.f),
+        ),
+        _ => Step::Close,
+    }
+}
+
+fn show_state(state: State) {
+    let start = state.start;
+    let current = state.current;
+    let closed = if state.closed { 1 } else { 0 };
+    say_state(
+        state.count,
+        &[start.x, start.y, current.x, current.y, closed],
+    );
+}
+
+// A step of the drawing.
+pub fn step(bench: Bench, r: Record, controls: &mut [i32]) -> Turn {
+    let state = bench.state;
+    match state.step(step_of(r), controls) {
+        Stepped::Refused(refusal) => {
+            say_refusal(refusal);
+            Turn::Next(bench)
+        }
+        Stepped::Next(next) => {
+            show_state(next);
+            Turn::Next(bench.with_state(next))
+        }
+    }
+}
+
+// The file read into the controls.
+pub fn read_file(bench: Bench, file: &[u8], controls: &mut [i32]) -> Turn {
+    match record_file::read(file, controls) {
+        Reading::Refused(refusal) => {
+            say_refusal(refusal);
+            Turn::Next(bench)
+        }
+        Reading::Read(shape) => {
+            say(b"read", &[shape.basis, shape.depth, shape.count]);
+            Turn::Next(bench.with_shape(shape))
+        }
+    }
+}
+
+// The file listed as outline-list does.
+pub fn show_file(file: &[u8]) {
+    let mut text = [0u8; MOST_TEXT];
+    let end = list_file(file, &mut text);
+    io::write_all(STDOUT_FILENO, &text[..end]);
+}

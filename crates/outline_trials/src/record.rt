@@ -1,0 +1,111 @@
+// A record of a trials file: an operation and six numbers, each kept as the 64 bits that stand in the file.
+ghost use mathlib.Core.Path.{_≡_};
+ghost use Prim.Native.Nat.{_≤_};
+ghost use lib.Ieee.{binary64, nanBits};
+use drawing::Control;
+
+pub struct Record {
+    pub op: u8,
+    pub a: u64,
+    pub b: u64,
+    pub c: u64,
+    pub d: u64,
+    pub e: u64,
+    pub f: u64,
+}
+
+// A number where a coordinate goes.
+pub enum Number {
+    Fits(i32),
+    Outside,
+}
+
+// Two numbers where a record's coordinates go.
+pub enum Placed {
+    At(Control),
+    Outside,
+}
+
+// Half of the words of 32 bits.
+const HALF: u64 = 2147483648;
+
+// The fields of a double: its sign's place, its digits' and the field of all ones.
+const SIGN: u64 = 9223372036854775808;
+
+const LEADING: u64 = 4503599627370496;
+
+const ONES: u64 = 2047;
+
+fn wide(byte: u8) -> u64 {
+    byte as u64
+}
+
+// The eight bytes from byte `at` on, low byte first.
+fn word(bytes: &[u8; 56], at: usize) -> u64
+    requires { ⌜ at ≤ 48 ⌝ }
+{
+    let low = wide(bytes[at])
+        | (wide(bytes[at + 1]) << 8)
+        | (wide(bytes[at + 2]) << 16)
+        | (wide(bytes[at + 3]) << 24);
+    let high = wide(bytes[at + 4])
+        | (wide(bytes[at + 5]) << 8)
+        | (wide(bytes[at + 6]) << 16)
+        | (wide(bytes[at + 7]) << 24);
+    low | (high << 32)
+}
+
+// The record that 56 bytes hold.
+pub fn decoded(bytes: &[u8; 56]) -> Record {
+    Record {
+        op: bytes[0],
+        a: word(bytes, 8),
+        b: word(bytes, 16),
+        c: word(bytes, 24),
+        d: word(bytes, 32),
+        e: word(bytes, 40),
+        f: word(bytes, 48),
+    }
+}
+
+// A word in two's complement, if it is a number of 32 bits. A number z below zero stands there as 2^64 + z, and is the complement of -1 - z.
+pub fn coordinate(word: u64) -> Number {
+    if word < HALF {
+        return Number::Fits(word as i32);
+    }
+    let below = u64::MAX - word;
+    if below < HALF {
+        return Number::Fits(!(below as i32));
+    }
+    Number::Outside
+}
+
+// Two words as a record's coordinates.
+pub fn control(x: u64, y: u64) -> Placed {
+    let Number::Fits(x) = coordinate(x) else {
+        return Placed::Outside;
+    };
+    let Number::Fits(y) = coordinate(y) else {
+        return Placed::Outside;
+    };
+    Placed::At(Control { x, y })
+}
+
+// Whether a pattern is that of a NaN: the field all ones, and a digit.
+fn is_nan(bits: u64) -> bool
+    ensures { λ r. ⌜ r ≡ nanBits binary64 bits ⌝ }
+{
+    if bits % SIGN / LEADING != ONES {
+        return false;
+    }
+    bits % LEADING != 0
+}
+
+// The double of a pattern.
+pub fn double(bits: u64) -> f64 {
+    if is_nan(bits) {
+        0.0 / 0.0
+    } else {
+        f64::from_bits(bits)
+    }
+}
