@@ -3,8 +3,4 @@ pub mod Worked
 pub mod Rows
 pub mod Unique
 pub mod Exactly
-pub mod Kept
-pub mod Redrawn
-pub mod Sequences
 pub mod Cases
-pub mod Again

@@ -2,5 +2,4 @@ pub mod Edits
 pub mod Carried
 pub mod Reading
 pub mod Ready
-pub mod Sequences
 pub mod Cases

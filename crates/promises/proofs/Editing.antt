@@ -11,9 +11,10 @@ use Rattle.shape.specs.Refusals.{planOf}
 use Rattle.outline.specs.Outline.{points}
 use Rattle.edit.specs.declared.Edit.{Edit}
 use Rattle.edit.specs.Edits.{offered}
-use Rattle.edit.specs.Sequences.{State, Call, Outlined, played}
-use Rattle.edit.proofs.Kept.{Touched, Named, touched-named, named-touched}
-use Rattle.edit.proofs.Sequences.{played-outlined}
+use Rattle.sequences.specs.Named.{Touched, Named}
+use Rattle.sequences.specs.Played.{State, Call, Outlined, played}
+use Rattle.sequences.proofs.Named.{touched-named, named-touched}
+use Rattle.sequences.proofs.Played.{played-outlined}
 use Rattle.promises.specs.Points.{publishedNumber}
 use Rattle.promises.proofs.Points.{number-published}
 

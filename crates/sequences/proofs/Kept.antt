@@ -1,5 +1,5 @@
--- Which spans an edit names, and why the others need no work: a span that is not worked afresh has the four records that its old span had, so each of its numbers is a
--- number of the old outline, in its place or one span on or back.
+-- Why the spans that an edit does not name need no work: such a span has the four records that its old span had, so each of its numbers is a number of the old outline,
+-- in its place or one span on or back.
 use mathlib.Core.Path.{_≡_, refl, sym, ap, _∙_}
 use mathlib.Core.Bool.{true, false, cond}
 use mathlib.Core.Logic.{⊎-elim}
@@ -23,52 +23,11 @@ use Rattle.shape.proofs.Tests.{passes, true-is-not-false}
 use Rattle.shape.proofs.Spans.{last-record}
 use Rattle.spans.specs.Numbers.{number, perSpan}
 use Rattle.spans.proofs.Numbers.{located}
 use Rattle.edit.specs.declared.Edit.{Edit}
 use Rattle.edit.specs.declared.Edit.the-variants.{Move, Insert, Remove}
 use Rattle.edit.specs.Edits.{countAfter, spansAfter, offered, inRange, choose, controlAt, asked, firstFresh, pastFresh, carriedFrom, isFresh, pointAt}
 use Rattle.edit.proofs.Worked.{either, fewer-numbers, fresh-facts, fresh-at, stays-at, carried-at}
 use Rattle.edit.proofs.Rows.{records-then}
-
--- ---- the spans named are exactly those that the edit touches
-
--- Span s of the new shape uses record j, which a move or an insert made; or it uses the records on both sides of the place from which one was taken out.
-abbrev pub Touched : Edit → Basis → ℕ → ℕ → Type 0
-Touched (Move x y) b j s = (firstRecord b s ≤ j) × (j ≤ firstRecord b s + 3)
-Touched (Insert x y) b j s = (firstRecord b s ≤ j) × (j ≤ firstRecord b s + 3)
-Touched Remove b j s = (firstRecord b s < j) × (j ≤ firstRecord b s + 3)
-
-abbrev pub Named : Edit → Basis → ℕ → ℕ → ℕ → Type 0
-Named e b j m s = (firstFresh e b j ≤ s) × (s < pastFresh e b j m)
-
-pub touched-named : (e : Edit) (b : Basis) (j m s : ℕ) → offered e b ≡ true → s < m → Touched e b j s → Named e b j m s
-unfolding firstRecord
-touched-named (Move x y) Bezier j m s o h (low, high) = (omega arith, omega arith)
-touched-named (Move x y) BSpline j m s o h (low, high) = (omega arith, omega arith)
-touched-named (Move x y) Cardinal j m s o h (low, high) = (omega arith, omega arith)
-touched-named (Move x y) Hermite j m s o h (low, high) = (omega arith, omega arith)
-touched-named (Insert x y) Bezier j m s o h t = absurd (true-is-not-false o refl)
-touched-named (Insert x y) BSpline j m s o h (low, high) = (omega arith, omega arith)
-touched-named (Insert x y) Cardinal j m s o h (low, high) = (omega arith, omega arith)
-touched-named (Insert x y) Hermite j m s o h t = absurd (true-is-not-false o refl)
-touched-named Remove Bezier j m s o h t = absurd (true-is-not-false o refl)
-touched-named Remove BSpline j m s o h (low, high) = (omega arith, omega arith)
-touched-named Remove Cardinal j m s o h (low, high) = (omega arith, omega arith)
-touched-named Remove Hermite j m s o h t = absurd (true-is-not-false o refl)
-
-pub named-touched : (e : Edit) (b : Basis) (j m s : ℕ) → offered e b ≡ true → Named e b j m s → Touched e b j s
-unfolding firstRecord
-named-touched (Move x y) Bezier j m s o (low, high) = (omega arith, omega arith)
-named-touched (Move x y) BSpline j m s o (low, high) = (omega arith, omega arith)
-named-touched (Move x y) Cardinal j m s o (low, high) = (omega arith, omega arith)
-named-touched (Move x y) Hermite j m s o (low, high) = (omega arith, omega arith)
-named-touched (Insert x y) Bezier j m s o t = absurd (true-is-not-false o refl)
-named-touched (Insert x y) BSpline j m s o (low, high) = (omega arith, omega arith)
-named-touched (Insert x y) Cardinal j m s o (low, high) = (omega arith, omega arith)
-named-touched (Insert x y) Hermite j m s o t = absurd (true-is-not-false o refl)
-named-touched Remove Bezier j m s o t = absurd (true-is-not-false o refl)
-named-touched Remove BSpline j m s o (low, high) = (omega arith, omega arith)
-named-touched Remove Cardinal j m s o (low, high) = (omega arith, omega arith)
-named-touched Remove Hermite j m s o t = absurd (true-is-not-false o refl)
 
 -- ---- the records of the new controls that were there before
 

@@ -30,15 +30,15 @@ use Rattle.outline.specs.declared.Drawn.the-variants.{Points}
 use Rattle.outline.specs.Outline as outline
 use Rattle.outline.specs.Outline.{numbers, points, firstFar, reachRow, drawn, drawRows, draws}
 use Rattle.outline.proofs.Exactly.{points-none, none-drawn}
 use Rattle.edit.specs.declared.Edit.{Edit}
 use Rattle.edit.specs.Edits.{countAfter, asked, pointAt}
 use Rattle.edit.specs.Reading.{shapeAfter, accepts, edits}
-use Rattle.edit.specs.Sequences.{State, Call, stateThen, called, played, Outlined, Redraws}
 use Rattle.edit.proofs.Worked.{same-filled}
 use Rattle.edit.proofs.Rows.{length-asked}
 use Rattle.edit.proofs.Exactly.{callRows, first-refused, none-done}
-use Rattle.edit.proofs.Redrawn.{good-then, room-then, controls-room, lent-then, reach-then}
-use Rattle.edit.proofs.Sequences.{same-records, front-record, done-outlined, drawn-outlined}
+use Rattle.sequences.specs.Played.{State, Call, stateThen, called, played, Outlined, Redraws}
+use Rattle.sequences.proofs.Redrawn.{good-then, room-then, controls-room, lent-then, reach-then}
+use Rattle.sequences.proofs.Played.{same-records, front-record, done-outlined, drawn-outlined}
 
 -- ---- no row holds of a sound shape, nor of lists that have what is needed
 

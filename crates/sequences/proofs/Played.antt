@@ -22,16 +22,16 @@ use Rattle.outline.specs.declared.Drawn.the-variants.{Points}
 use Rattle.outline.specs.Outline as outline
 use Rattle.outline.specs.Outline.{numbers, points, drawn, draws}
 use Rattle.outline.proofs.Exactly.{points-none, none-drawn}
 use Rattle.edit.specs.declared.Edit.{Edit}
 use Rattle.edit.specs.Edits.{countAfter, asked, pointAt}
 use Rattle.edit.specs.Reading.{shapeAfter, accepts, edits}
-use Rattle.edit.specs.Sequences.{State, Call, stateThen, called, played, Outlined}
 use Rattle.edit.proofs.Fills.{in-sets}
 use Rattle.edit.proofs.Worked.{in-filled}
 use Rattle.edit.proofs.Rows.{length-asked}
 use Rattle.edit.proofs.Exactly.{callRows, first-refused, none-done}
-use Rattle.edit.proofs.Kept.{four-same}
-use Rattle.edit.proofs.Redrawn.{good-then, room-then, controls-room, edit-draws}
+use Rattle.sequences.specs.Played.{State, Call, stateThen, called, played, Outlined}
+use Rattle.sequences.proofs.Kept.{four-same}
+use Rattle.sequences.proofs.Redrawn.{good-then, room-then, controls-room, edit-draws}
 
 -- ---- an outline is of its shape's records alone
 

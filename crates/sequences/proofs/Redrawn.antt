@@ -19,13 +19,13 @@ use Rattle.shape.proofs.Refusals.{judge-none, none-sound, sound-facts}
 use Rattle.spans.specs.Numbers.{perSpan}
 use Rattle.outline.specs.Outline.{numbers, points, firstFar, drawn}
 use Rattle.outline.proofs.Draws.{all-numbers}
 use Rattle.edit.specs.declared.Edit.{Edit}
 use Rattle.edit.specs.Edits.{countAfter, inRange, asked, pointAt}
 use Rattle.edit.specs.Reading.{shapeAfter, planAfter, askRows, judgeAsk, roomRows, judgeRoom, pointsAfter}
 use Rattle.edit.specs.Ready.{Editable, Workable}
 use Rattle.edit.proofs.Rows.{editable, good-after, plan-after, workable, new-lent}
 use Rattle.edit.proofs.Exactly.{callRows}
-use Rattle.edit.proofs.Kept.{point-drawn}
+use Rattle.sequences.proofs.Kept.{point-drawn}
 
 -- ---- for the plan of a sound shape that may be edited so
 

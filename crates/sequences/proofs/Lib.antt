@@ -1,0 +1,5 @@
+pub mod Named
+pub mod Kept
+pub mod Redrawn
+pub mod Played
+pub mod Again
