@@ -5,7 +5,7 @@ use crate::outlines::CARDINAL;
 use crate::outlines::HERMITE;
 use crate::outlines::put_points;
 
-pub fn put_bases(text: &mut [u8], at: usize) -> usize {
+pub(crate) fn put_bases(text: &mut [u8], at: usize) -> usize {
     let past_bezier = put_bezier(text, at);
     let past_b_spline = put_b_spline(text, past_bezier);
     let past_cardinal = put_cardinal(text, past_b_spline);

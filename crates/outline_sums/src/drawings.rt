@@ -7,7 +7,7 @@ use drawing::Step;
 use drawing::Stepped;
 
 // P12.
-pub fn put_millimetres(text: &mut [u8], at: usize) -> usize {
+pub(crate) fn put_millimetres(text: &mut [u8], at: usize) -> usize {
     let up = put_move(text, at, b"P12 0.0625 mm:", 0.0625);
     let down = put_move(text, up, b"P12 -0.0625 mm:", -0.0625);
     let farthest = put_move(text, down, b"P12 4000.00048828125 mm:", 4000.00048828125);

@@ -24,7 +24,7 @@ use shape::check_shape;
 const BEFORE: [i32; 6] = [0, 10, 20, 30, 40, 50];
 
 // The outline before the edits, and P9 to P11.
-pub fn put_edits(text: &mut [u8], at: usize) -> usize {
+pub(crate) fn put_edits(text: &mut [u8], at: usize) -> usize {
     let before = put_points(text, at, b"", CARDINAL, 0, &BEFORE);
     let p9 = put_edit(text, before, b"P9", Edit::Insert(60, 0), 6);
     let p10 = put_edit(text, p9, b"P10", Edit::Remove, 0);

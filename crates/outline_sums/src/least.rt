@@ -1,7 +1,7 @@
 // The lesser of two counts.
 ghost use Prim.Native.Nat.{_≤_};
 
-pub fn least(a: usize, b: usize) -> usize
+pub(crate) fn least(a: usize, b: usize) -> usize
     ensures { λ r. ⌜ r ≤ a ⌝ }
     ensures { λ r. ⌜ r ≤ b ⌝ }
 {

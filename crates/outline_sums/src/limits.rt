@@ -14,7 +14,7 @@ use outline::by_weights;
 use shape::Shape;
 
 // Depth 6 and 7, 64 records and 5, a coordinate of 4,000,000 and one more.
-pub fn put_limits(text: &mut [u8], at: usize) -> usize {
+pub(crate) fn put_limits(text: &mut [u8], at: usize) -> usize {
     let deepest = put_deep(text, at, 6, &[0, 0, 0, 4]);
     let too_deep = put_deep(text, deepest, 7, &[0, 0, 0, 4]);
     let most = put_zeros(text, too_deep, 64);

@@ -10,16 +10,16 @@ use outline::by_weights;
 use shape::Shape;
 
 // The bases by their numbers.
-pub const BEZIER: usize = 1;
+pub(crate) const BEZIER: usize = 1;
 
-pub const B_SPLINE: usize = 2;
+pub(crate) const B_SPLINE: usize = 2;
 
-pub const CARDINAL: usize = 3;
+pub(crate) const CARDINAL: usize = 3;
 
-pub const HERMITE: usize = 4;
+pub(crate) const HERMITE: usize = 4;
 
 // The line of a sum: its label, what is drawn, and its points.
-pub fn put_points(
+pub(crate) fn put_points(
     text: &mut [u8],
     at: usize,
     label: &[u8],
@@ -42,13 +42,13 @@ pub fn put_points(
 }
 
 // What is drawn: the basis, the records' x and the depth.
-pub fn put_asked(text: &mut [u8], at: usize, shape: Shape, controls: &[i32]) -> usize {
+pub(crate) fn put_asked(text: &mut [u8], at: usize, shape: Shape, controls: &[i32]) -> usize {
     let past_basis = put_basis(text, at, shape.basis);
     let past_records = put_x(text, past_basis, controls, shape.count);
     put_depth(text, past_records, shape.depth)
 }
 
-pub fn put_basis(text: &mut [u8], at: usize, basis: usize) -> usize {
+pub(crate) fn put_basis(text: &mut [u8], at: usize, basis: usize) -> usize {
     match basis {
         BEZIER => put(text, at, b"Bezier"),
         B_SPLINE => put(text, at, b"B-spline"),
@@ -57,7 +57,7 @@ pub fn put_basis(text: &mut [u8], at: usize, basis: usize) -> usize {
     }
 }
 
-pub fn put_depth(text: &mut [u8], at: usize, depth: usize) -> usize {
+pub(crate) fn put_depth(text: &mut [u8], at: usize, depth: usize) -> usize {
     let past_word = put(text, at, b" depth");
     let past_depth = put_count(text, past_word, depth);
     put(text, past_depth, b":")

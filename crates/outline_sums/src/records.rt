@@ -4,17 +4,17 @@ ghost use lib.ListN.{length};
 use crate::least::least;
 
 // Enough for 64 records, and for the 65 points of one span at depth 6.
-pub const ROOM: usize = 130;
+pub(crate) const ROOM: usize = 130;
 
 // Zeros alone: no records yet, or no points.
-pub fn none() -> [i32; ROOM]
+pub(crate) fn none() -> [i32; ROOM]
     ensures { λ r. ⌜ 130 ≡ length r ⌝ }
 {
     [0; ROOM]
 }
 
 // Records whose x are the numbers, zeros after them.
-pub fn on_x(numbers: &[i32]) -> [i32; ROOM]
+pub(crate) fn on_x(numbers: &[i32]) -> [i32; ROOM]
     ensures { λ r. ⌜ 130 ≡ length r ⌝ }
 {
     let mut records = none();

@@ -16,24 +16,24 @@ fn past(put: Put, at: usize) -> usize {
 }
 
 // A word as it is.
-pub fn put(text: &mut [u8], at: usize, word: &[u8]) -> usize {
+pub(crate) fn put(text: &mut [u8], at: usize, word: &[u8]) -> usize {
     past(put_word(text, at, word), at)
 }
 
 // A space and a number with its sign.
-pub fn put_number(text: &mut [u8], at: usize, z: i32) -> usize {
+pub(crate) fn put_number(text: &mut [u8], at: usize, z: i32) -> usize {
     let start = put(text, at, b" ");
     past(put_decimal(text, start, z as i64), start)
 }
 
 // A space and a count, a depth or a place.
-pub fn put_count(text: &mut [u8], at: usize, n: usize) -> usize {
+pub(crate) fn put_count(text: &mut [u8], at: usize, n: usize) -> usize {
     let start = put(text, at, b" ");
     past(put_natural(text, start, n as u64), start)
 }
 
 // The x of the first `count` records or points that a list holds, a space before each.
-pub fn put_x(text: &mut [u8], at: usize, pairs: &[i32], count: usize) -> usize {
+pub(crate) fn put_x(text: &mut [u8], at: usize, pairs: &[i32], count: usize) -> usize {
     let most = least(count, pairs.len() / 2);
     let mut end = at;
     let mut i = 0;
@@ -45,14 +45,14 @@ pub fn put_x(text: &mut [u8], at: usize, pairs: &[i32], count: usize) -> usize {
 }
 
 // A refusal: its number and its place.
-pub fn put_refusal(text: &mut [u8], at: usize, refusal: Refusal) -> usize {
+pub(crate) fn put_refusal(text: &mut [u8], at: usize, refusal: Refusal) -> usize {
     let past_word = put(text, at, b" refused");
     let past_number = put_count(text, past_word, refusal.number);
     put_count(text, past_number, refusal.place)
 }
 
 // How much of the text there is, where it ends at a place.
-pub fn length_of(end: usize, text: &[u8]) -> usize
+pub(crate) fn length_of(end: usize, text: &[u8]) -> usize
     ensures { λ r. ⌜ Counts r (now (text .entry)) ⌝ }
 {
     least(end, text.len())

@@ -2,7 +2,7 @@
 use drawing::State;
 use shape::Shape;
 
-pub struct Bench {
+pub(crate) struct Bench {
     pub shape: Shape,
     pub state: State,
     pub controls: usize,
@@ -12,7 +12,7 @@ pub struct Bench {
 }
 
 // What playing a record comes to: the bench afterwards, that the record is bad, or that the input has ended.
-pub enum Turn {
+pub(crate) enum Turn {
     Next(Bench),
     Bad,
     End,
@@ -20,7 +20,7 @@ pub enum Turn {
 
 impl Bench {
     // The bench before the first record.
-    pub fn new() -> Bench {
+    pub(crate) fn new() -> Bench {
         let state = State::new();
         Bench {
             shape: Shape {
@@ -36,7 +36,7 @@ impl Bench {
         }
     }
 
-    pub fn with_shape(self, shape: Shape) -> Bench {
+    pub(crate) fn with_shape(self, shape: Shape) -> Bench {
         let state = self.state;
         Bench {
             shape,
@@ -48,7 +48,7 @@ impl Bench {
         }
     }
 
-    pub fn with_state(self, state: State) -> Bench {
+    pub(crate) fn with_state(self, state: State) -> Bench {
         let shape = self.shape;
         Bench {
             shape,
@@ -60,7 +60,7 @@ impl Bench {
         }
     }
 
-    pub fn with_lists(self, controls: usize, points: usize, preview: usize) -> Bench {
+    pub(crate) fn with_lists(self, controls: usize, points: usize, preview: usize) -> Bench {
         let shape = self.shape;
         let state = self.state;
         Bench {
@@ -73,7 +73,7 @@ impl Bench {
         }
     }
 
-    pub fn with_file(self, file: usize) -> Bench {
+    pub(crate) fn with_file(self, file: usize) -> Bench {
         let shape = self.shape;
         let state = self.state;
         Bench {

@@ -36,7 +36,7 @@ fn draw_by(op: u8, shape: Shape, controls: &[i32], points: &mut [i32]) -> Drawn 
     }
 }
 
-pub fn draw(bench: Bench, op: u8, controls: &[i32], points: &mut [i32]) -> Turn {
+pub(crate) fn draw(bench: Bench, op: u8, controls: &[i32], points: &mut [i32]) -> Turn {
     let shape = bench.shape;
     match draw_by(op, shape, controls, points) {
         Drawn::Refused(refusal) => say_refusal(refusal),
@@ -84,7 +84,12 @@ fn place_at(
     }
 }
 
-pub fn place_record(bench: Bench, r: Record, controls: &mut [i32], points: &mut [i32]) -> Turn {
+pub(crate) fn place_record(
+    bench: Bench,
+    r: Record,
+    controls: &mut [i32],
+    points: &mut [i32],
+) -> Turn {
     if r.a >= HALF {
         return Turn::Bad;
     }
@@ -97,7 +102,12 @@ pub fn place_record(bench: Bench, r: Record, controls: &mut [i32], points: &mut 
     edited(bench, answer)
 }
 
-pub fn remove_record(bench: Bench, r: Record, controls: &mut [i32], points: &mut [i32]) -> Turn {
+pub(crate) fn remove_record(
+    bench: Bench,
+    r: Record,
+    controls: &mut [i32],
+    points: &mut [i32],
+) -> Turn {
     if r.a >= HALF {
         return Turn::Bad;
     }
@@ -107,7 +117,7 @@ pub fn remove_record(bench: Bench, r: Record, controls: &mut [i32], points: &mut
 }
 
 // The view of a span: its length, and its numbers where there are any.
-pub fn view(bench: Bench, r: Record, points: &[i32]) -> Turn {
+pub(crate) fn view(bench: Bench, r: Record, points: &[i32]) -> Turn {
     if r.a >= HALF {
         return Turn::Bad;
     }
@@ -120,7 +130,7 @@ pub fn view(bench: Bench, r: Record, points: &[i32]) -> Turn {
     Turn::Next(bench)
 }
 
-pub fn draw_preview(bench: Bench, controls: &[i32], preview: &mut [f64]) -> Turn {
+pub(crate) fn draw_preview(bench: Bench, controls: &[i32], preview: &mut [f64]) -> Turn {
     let shape = bench.shape;
     match preview::preview(shape, controls, preview) {
         Previewed::Refused(refusal) => say_refusal(refusal),
@@ -158,7 +168,7 @@ fn show_state(state: State) {
 }
 
 // A step of the drawing.
-pub fn step(bench: Bench, r: Record, controls: &mut [i32]) -> Turn {
+pub(crate) fn step(bench: Bench, r: Record, controls: &mut [i32]) -> Turn {
     let state = bench.state;
     match state.step(step_of(r), controls) {
         Stepped::Refused(refusal) => {
@@ -173,7 +183,7 @@ pub fn step(bench: Bench, r: Record, controls: &mut [i32]) -> Turn {
 }
 
 // The file read into the controls.
-pub fn read_file(bench: Bench, file: &[u8], controls: &mut [i32]) -> Turn {
+pub(crate) fn read_file(bench: Bench, file: &[u8], controls: &mut [i32]) -> Turn {
     match record_file::read(file, controls) {
         Reading::Refused(refusal) => {
             say_refusal(refusal);
@@ -187,7 +197,7 @@ pub fn read_file(bench: Bench, file: &[u8], controls: &mut [i32]) -> Turn {
 }
 
 // The file listed as outline-list does.
-pub fn show_file(file: &[u8]) {
+pub(crate) fn show_file(file: &[u8]) {
     let mut text = [0u8; MOST_TEXT];
     let end = list_file(file, &mut text);
     io::write_all(STDOUT_FILENO, &text[..end]);

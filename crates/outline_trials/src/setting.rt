@@ -37,7 +37,7 @@ fn fill_doubles(list: &mut [f64], x: f64) {
 }
 
 // Lends so much of each list, every number in them the same.
-pub fn lend(
+pub(crate) fn lend(
     bench: Bench,
     r: Record,
     controls: &mut [i32],
@@ -62,7 +62,7 @@ pub fn lend(
     Turn::Next(bench.with_lists(r.a as usize, r.b as usize, r.c as usize))
 }
 
-pub fn set_shape(bench: Bench, r: Record) -> Turn {
+pub(crate) fn set_shape(bench: Bench, r: Record) -> Turn {
     if r.a > MOST_32 {
         return Turn::Bad;
     }
@@ -80,7 +80,7 @@ pub fn set_shape(bench: Bench, r: Record) -> Turn {
 }
 
 // One number of a list.
-pub fn set_number(bench: Bench, r: Record, list: &mut [i32]) -> Turn {
+pub(crate) fn set_number(bench: Bench, r: Record, list: &mut [i32]) -> Turn {
     let at = r.a as usize;
     let Number::Fits(z) = coordinate(r.b) else {
         return Turn::Bad;
@@ -104,7 +104,7 @@ fn append(bytes: &[u8; 56], more: usize, file: &mut [u8], at: usize)
 }
 
 // More bytes at the end of the file, if there is room for them.
-pub fn more_file(bench: Bench, r: Record, bytes: &[u8; 56], file: &mut [u8]) -> Turn {
+pub(crate) fn more_file(bench: Bench, r: Record, bytes: &[u8; 56], file: &mut [u8]) -> Turn {
     if r.a == 0 {
         return Turn::Bad;
     }
@@ -123,7 +123,7 @@ pub fn more_file(bench: Bench, r: Record, bytes: &[u8; 56], file: &mut [u8]) -> 
     Turn::Next(bench.with_file(at + more))
 }
 
-pub fn set_state(bench: Bench, r: Record) -> Turn {
+pub(crate) fn set_state(bench: Bench, r: Record) -> Turn {
     if r.a > MOST_32 {
         return Turn::Bad;
     }

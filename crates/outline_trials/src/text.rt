@@ -67,7 +67,7 @@ fn put_naturals(text: &mut [u8], start: usize, numbers: &[usize]) -> usize {
 }
 
 // The line of a word and naturals.
-pub fn say(name: &[u8], numbers: &[usize]) {
+pub(crate) fn say(name: &[u8], numbers: &[usize]) {
     let mut text = [0u8; SHORT];
     let start = word(&mut text, 0, name);
     let end = put_naturals(&mut text, start, numbers);
@@ -75,7 +75,7 @@ pub fn say(name: &[u8], numbers: &[usize]) {
 }
 
 // The line of a refusal.
-pub fn say_refusal(refusal: Refusal) {
+pub(crate) fn say_refusal(refusal: Refusal) {
     let mut text = [0u8; SHORT];
     let put = list_refusal(&mut text, refusal.number, refusal.place);
     send(&text, past(put, 0));
@@ -94,14 +94,14 @@ fn put_numbers(text: &mut [u8], start: usize, numbers: &[i32]) -> usize {
 }
 
 // The line of a list.
-pub fn say_numbers(numbers: &[i32]) {
+pub(crate) fn say_numbers(numbers: &[i32]) {
     let mut text = [0u8; LONG];
     let end = put_numbers(&mut text, 0, numbers);
     send(&text, end);
 }
 
 // The line of a drawing state: its count, start and current, and 1 where it is closed.
-pub fn say_state(count: usize, numbers: &[i32]) {
+pub(crate) fn say_state(count: usize, numbers: &[i32]) {
     let mut text = [0u8; SHORT];
     let past_name = word(&mut text, 0, b"state ");
     let past_count = natural(&mut text, past_name, count as u64);
@@ -132,7 +132,7 @@ fn put_patterns(text: &mut [u8], doubles: &[f64]) -> usize {
 }
 
 // The line of a list of doubles.
-pub fn say_patterns(doubles: &[f64]) {
+pub(crate) fn say_patterns(doubles: &[f64]) {
     let mut text = [0u8; LONG];
     let end = put_patterns(&mut text, doubles);
     send(&text, end);
