@@ -1,3 +1,4 @@
+pub mod Examples
 pub mod Tables
 pub mod Same
 pub mod Records
