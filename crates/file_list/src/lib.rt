@@ -1,5 +1,10 @@
 // The listing of a record file: what outline-list writes for it. The one public call, `list_file`, has no `requires`: it is total on any bytes.
+ghost use mathlib.Core.Path.{_≡_};
 ghost use Rattle.io.specs.Counts.{Counts};
+ghost use Rattle.shape.specs.Refusals.{planOf};
+ghost use Rattle.listing.specs.Written as listing;
+ghost use Rattle.listing.specs.Written.{written};
+ghost use Rattle.file_list.specs.Files.{fileText, lists, outcome, refusedText, shapeText};
 use listing::Put;
 use listing::list_outline;
 use listing::list_refusal;
@@ -20,13 +25,18 @@ const MOST_NUMBERS: usize = 7810;
 // Writes the listing of a file, or the line of its refusal, from the start of `text`, and answers how many characters it has: 0 where they do not fit.
 pub fn list_file(file: &[u8], text: &mut [u8]) -> usize
     ensures { λ r. ⌜ Counts r (now (text .exit)) ⌝ }
+    ensures { λ r. ⌜ outcome r (now (text .exit)) ≡ lists (now (file .entry)) (now (text .entry)) ⌝ }
 {
-    let put = put_file(file, text);
-    end_of(put, text)
+    match put_file(file, text) {
+        Put::End(end) => end,
+        Put::Full => 0,
+    }
 }
 
 // The file's records as controls, and the listing of their shape.
-fn put_file(file: &[u8], text: &mut [u8]) -> Put {
+fn put_file(file: &[u8], text: &mut [u8]) -> Put
+    ensures { λ r. ⌜ listing.outcome r (now (text .exit)) ≡ written (now (text .entry)) 0 (fileText (now (file .entry))) ⌝ }
+{
     let mut controls = [0i32; MOST_CONTROLS];
     match read(file, &mut controls) {
         Reading::Refused(refusal) => put_refusal(refusal, text),
@@ -35,7 +45,9 @@ fn put_file(file: &[u8], text: &mut [u8]) -> Put {
 }
 
 // The spans of a shape, which the heading names, and the listing of its outline.
-fn put_shape(shape: Shape, controls: &[i32], text: &mut [u8]) -> Put {
+fn put_shape(shape: Shape, controls: &[i32], text: &mut [u8]) -> Put
+    ensures { λ r. ⌜ listing.outcome r (now (text .exit)) ≡ written (now (text .entry)) 0 (shapeText shape (now (controls .entry))) ⌝ }
+{
     match check_shape(shape) {
         Judged::Unsound(refusal) => put_refusal(refusal, text),
         Judged::Sound(plan) => put_outline(shape, plan.spans, controls, text),
@@ -43,7 +55,10 @@ fn put_shape(shape: Shape, controls: &[i32], text: &mut [u8]) -> Put {
 }
 
 // The outline of a shape of so many spans, listed.
-fn put_outline(shape: Shape, spans: usize, controls: &[i32], text: &mut [u8]) -> Put {
+fn put_outline(shape: Shape, spans: usize, controls: &[i32], text: &mut [u8]) -> Put
+    requires { ⌜ spans ≡ planOf shape .spans ⌝ }
+    ensures { λ r. ⌜ listing.outcome r (now (text .exit)) ≡ written (now (text .entry)) 0 (shapeText shape (now (controls .entry))) ⌝ }
+{
     let mut points = [0i32; MOST_NUMBERS];
     match by_weights(shape, controls, &mut points) {
         Drawn::Refused(refusal) => put_refusal(refusal, text),
@@ -54,16 +69,8 @@ fn put_outline(shape: Shape, spans: usize, controls: &[i32], text: &mut [u8]) ->
 }
 
 // The line of a refusal.
-fn put_refusal(refusal: Refusal, text: &mut [u8]) -> Put {
-    list_refusal(text, refusal.number, refusal.place)
-}
-
-// How many characters stand in the text.
-fn end_of(put: Put, text: &[u8]) -> usize
-    ensures { λ r. ⌜ Counts r (now (text .entry)) ⌝ }
+fn put_refusal(refusal: Refusal, text: &mut [u8]) -> Put
+    ensures { λ r. ⌜ listing.outcome r (now (text .exit)) ≡ written (now (text .entry)) 0 (refusedText refusal) ⌝ }
 {
-    match put {
-        Put::Full => 0,
-        Put::End(end) => { if end <= text.len() { end } else { 0 } }
-    }
+    list_refusal(text, refusal.number, refusal.place)
 }
