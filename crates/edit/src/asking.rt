@@ -76,7 +76,7 @@ fn control_at(edit: Edit, place: usize, controls: &[i32], q: usize) -> i32
 }
 
 // The numbers of the new controls, from the start of `next` on.
-pub fn ask(edit: Edit, place: usize, controls: &[i32], count: usize, next: &mut [i32])
+pub(crate) fn ask(edit: Edit, place: usize, controls: &[i32], count: usize, next: &mut [i32])
     requires { ⌜ count ≤ 64 ⌝ }
     requires { ⌜ 2 * count ≤ length (now next) ⌝ }
     ensures { λ _. ⌜ now (next .exit) ≡ sets (now (next .entry)) 0 (asked edit place (now (controls .entry)) count) ⌝ }
@@ -89,7 +89,7 @@ pub fn ask(edit: Edit, place: usize, controls: &[i32], count: usize, next: &mut 
 }
 
 // A list's numbers, from the start of another on.
-pub fn copy_front(from: &[i32], to: &mut [i32])
+pub(crate) fn copy_front(from: &[i32], to: &mut [i32])
     requires { ⌜ length (now from) ≤ length (now to) ⌝ }
     ensures { λ _. ⌜ now (to .exit) ≡ sets (now (to .entry)) 0 (now (from .entry)) ⌝ }
 {

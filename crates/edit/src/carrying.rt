@@ -9,7 +9,7 @@ ghost use Rattle.edit.specs.Edits.{carriedFrom};
 use crate::Edit;
 
 // Each number from `from` up to `to` becomes the one `by` places before it; the highest first, so that none is overwritten before it is read.
-pub fn carry_on(points: &mut [i32], from: usize, to: usize, by: usize)
+fn carry_on(points: &mut [i32], from: usize, to: usize, by: usize)
     requires { ⌜ (by ≤ from) × (from ≤ to) ⌝ }
     requires { ⌜ to ≤ length (now points) ⌝ }
     ensures { λ _. ⌜ now (points .exit) ≡ filled (λ q. getD (now (points .entry)) (q - by) (pos 0)) from (to - from) (now (points .entry)) ⌝ }
@@ -22,7 +22,7 @@ pub fn carry_on(points: &mut [i32], from: usize, to: usize, by: usize)
 }
 
 // Each number from `from` up to `to` becomes the one `by` places after it; the lowest first.
-pub fn carry_back(points: &mut [i32], from: usize, to: usize, by: usize)
+fn carry_back(points: &mut [i32], from: usize, to: usize, by: usize)
     requires { ⌜ from ≤ to ⌝ }
     requires { ⌜ to + by ≤ length (now points) ⌝ }
     ensures { λ _. ⌜ now (points .exit) ≡ filled (λ q. getD (now (points .entry)) (q + by) (pos 0)) from (to - from) (now (points .entry)) ⌝ }
@@ -35,7 +35,7 @@ pub fn carry_back(points: &mut [i32], from: usize, to: usize, by: usize)
 }
 
 // The numbers of the spans from `past` on become those of the span before (insert) or after (remove); a move carries nothing.
-pub fn carry(edit: Edit, points: &mut [i32], past: usize, spans: usize, stride: usize)
+pub(crate) fn carry(edit: Edit, points: &mut [i32], past: usize, spans: usize, stride: usize)
     requires { ⌜ (spans ≤ 64) × (stride ≤ 128) ⌝ }
     requires { ⌜ Carriable edit past spans stride (length (now points)) ⌝ }
     ensures { λ _. ⌜ now (points .exit) ≡ filled (λ q. getD (now (points .entry)) (carriedFrom edit stride q) (pos 0)) (past * stride) (runLength past spans stride) (now (points .entry)) ⌝ }

@@ -8,7 +8,7 @@ use curve::LIMIT;
 use curve::bounds::is_beyond;
 
 // The control count after an edit.
-pub fn count_after(edit: Edit, count: usize) -> usize
+pub(crate) fn count_after(edit: Edit, count: usize) -> usize
     requires { ⌜ (0 < count) × (count ≤ 64) ⌝ }
     ensures { λ r. ⌜ r ≡ countAfter edit count ⌝ }
 {
@@ -20,7 +20,7 @@ pub fn count_after(edit: Edit, count: usize) -> usize
 }
 
 // The spans after an edit.
-pub fn spans_after(edit: Edit, spans: usize) -> usize
+pub(crate) fn spans_after(edit: Edit, spans: usize) -> usize
     requires { ⌜ (0 < spans) × (spans ≤ 64) ⌝ }
     ensures { λ r. ⌜ r ≡ spansAfter edit spans ⌝ }
 {
@@ -43,7 +43,7 @@ fn is_spline(basis: Basis) -> bool
     }
 }
 
-pub fn is_offered(edit: Edit, basis: Basis) -> bool
+pub(crate) fn is_offered(edit: Edit, basis: Basis) -> bool
     ensures { λ r. ⌜ r ≡ offered edit basis ⌝ }
 {
     match edit {
@@ -53,7 +53,7 @@ pub fn is_offered(edit: Edit, basis: Basis) -> bool
     }
 }
 
-pub fn is_in_range(edit: Edit, place: usize, count: usize) -> bool
+pub(crate) fn is_in_range(edit: Edit, place: usize, count: usize) -> bool
     ensures { λ r. ⌜ r ≡ inRange edit place count ⌝ }
 {
     match edit {
@@ -63,7 +63,7 @@ pub fn is_in_range(edit: Edit, place: usize, count: usize) -> bool
     }
 }
 
-pub fn is_at_the_end(edit: Edit, count: usize) -> bool
+pub(crate) fn is_at_the_end(edit: Edit, count: usize) -> bool
     ensures { λ r. ⌜ r ≡ atTheEnd edit count ⌝ }
 {
     match edit {
@@ -83,7 +83,7 @@ fn is_outside(x: i32, y: i32) -> bool
 }
 
 // Whether the new record, where there is one, is outside the limits.
-pub fn is_new_outside(edit: Edit) -> bool
+pub(crate) fn is_new_outside(edit: Edit) -> bool
     ensures { λ r. ⌜ r ≡ newOutside edit ⌝ }
 {
     match edit {
@@ -94,7 +94,7 @@ pub fn is_new_outside(edit: Edit) -> bool
 }
 
 // Less, but not below zero.
-pub fn less(n: usize, by: usize) -> usize
+pub(crate) fn less(n: usize, by: usize) -> usize
     ensures { λ r. ⌜ r ≡ n - by ⌝ }
 {
     if n < by {
@@ -104,7 +104,7 @@ pub fn less(n: usize, by: usize) -> usize
 }
 
 // The greater of two.
-pub fn greatest(a: usize, b: usize) -> usize
+pub(crate) fn greatest(a: usize, b: usize) -> usize
     ensures { λ r. ⌜ r ≡ max a b ⌝ }
 {
     if a < b {
@@ -146,7 +146,7 @@ fn last_using(basis: Basis, place: usize) -> usize
 }
 
 // The first span worked afresh.
-pub fn first_fresh(edit: Edit, basis: Basis, place: usize) -> usize
+pub(crate) fn first_fresh(edit: Edit, basis: Basis, place: usize) -> usize
     ensures { λ r. ⌜ r ≡ firstFresh edit basis place ⌝ }
 {
     match edit {
@@ -157,7 +157,7 @@ pub fn first_fresh(edit: Edit, basis: Basis, place: usize) -> usize
 }
 
 // One past the last span worked afresh, of `spans` in the new shape.
-pub fn past_fresh(edit: Edit, basis: Basis, place: usize, spans: usize) -> usize
+pub(crate) fn past_fresh(edit: Edit, basis: Basis, place: usize, spans: usize) -> usize
     requires { ⌜ place ≤ 64 ⌝ }
     ensures { λ r. ⌜ r ≡ pastFresh edit basis place spans ⌝ }
 {

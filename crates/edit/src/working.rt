@@ -36,7 +36,7 @@ fn rework(
 }
 
 // All points of the outline that an edit asks for, from the points it was given: `plan` and `controls` are the new ones.
-pub fn work(edit: Edit, plan: Plan, place: usize, controls: &[i32], points: &mut [i32])
+pub(crate) fn work(edit: Edit, plan: Plan, place: usize, controls: &[i32], points: &mut [i32])
     requires { ⌜ (plan .depth ≤ deepest) × (place ≤ 64) × (1 ≤ plan .spans) ⌝ }
     requires { ⌜ Drawable (plan .basis) (plan .spans) (now controls) ⌝ }
     requires { ⌜ plan .spans * perSpan (plan .depth) + 2 ≤ length (now points) ⌝ }

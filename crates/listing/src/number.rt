@@ -33,7 +33,7 @@ pub fn put_decimal(text: &mut [u8], at: usize, z: i64) -> Put
 }
 
 // How many digits n has.
-pub fn width(n: u64) -> usize
+pub(crate) fn width(n: u64) -> usize
     ensures { λ r. ⌜ Width (natural n) r ⌝ }
 {
     let mut digits = 1;
@@ -46,7 +46,7 @@ pub fn width(n: u64) -> usize
 }
 
 // How many characters z has.
-pub fn decimal_width(z: i64) -> usize
+pub(crate) fn decimal_width(z: i64) -> usize
     ensures { λ r. ⌜ Width (decimal z) r ⌝ }
 {
     let digits = width(magnitude(z));
@@ -54,7 +54,7 @@ pub fn decimal_width(z: i64) -> usize
 }
 
 // Writes n's digits, the last one first, and answers the place past them.
-pub fn write_natural(text: &mut [u8], at: usize, n: u64) -> usize
+pub(crate) fn write_natural(text: &mut [u8], at: usize, n: u64) -> usize
     requires { ⌜ at + length (natural n) ≤ length (now text) ⌝ }
     ensures { λ r. ⌜ Laid (now (text .entry)) at (natural n) r (now (text .exit)) ⌝ }
 {
@@ -71,7 +71,7 @@ pub fn write_natural(text: &mut [u8], at: usize, n: u64) -> usize
 }
 
 // Writes z, and answers the place past it.
-pub fn write_decimal(text: &mut [u8], at: usize, z: i64) -> usize
+pub(crate) fn write_decimal(text: &mut [u8], at: usize, z: i64) -> usize
     requires { ⌜ at + length (decimal z) ≤ length (now text) ⌝ }
     ensures { λ r. ⌜ Laid (now (text .entry)) at (decimal z) r (now (text .exit)) ⌝ }
 {
@@ -86,7 +86,7 @@ pub fn write_decimal(text: &mut [u8], at: usize, z: i64) -> usize
 }
 
 // Writes n and a character after it, and answers the place past both.
-pub fn write_natural_and(text: &mut [u8], at: usize, n: u64, mark: u8) -> usize
+pub(crate) fn write_natural_and(text: &mut [u8], at: usize, n: u64, mark: u8) -> usize
     requires { ⌜ at + length (natural n) < length (now text) ⌝ }
     ensures { λ r. ⌜ Laid (now (text .entry)) at (natural n ++ (mark ∷ [])) r (now (text .exit)) ⌝ }
 {
@@ -96,7 +96,7 @@ pub fn write_natural_and(text: &mut [u8], at: usize, n: u64, mark: u8) -> usize
 }
 
 // Writes z and a character after it, and answers the place past both.
-pub fn write_decimal_and(text: &mut [u8], at: usize, z: i64, mark: u8) -> usize
+pub(crate) fn write_decimal_and(text: &mut [u8], at: usize, z: i64, mark: u8) -> usize
     requires { ⌜ at + length (decimal z) < length (now text) ⌝ }
     ensures { λ r. ⌜ Laid (now (text .entry)) at (decimal z ++ (mark ∷ [])) r (now (text .exit)) ⌝ }
 {

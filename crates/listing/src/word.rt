@@ -19,7 +19,7 @@ pub fn put_word(text: &mut [u8], at: usize, word: &[u8]) -> Put
 }
 
 // Writes the word's bytes, and answers the place past them.
-pub fn write_word(text: &mut [u8], at: usize, word: &[u8]) -> usize
+pub(crate) fn write_word(text: &mut [u8], at: usize, word: &[u8]) -> usize
     requires { ⌜ at + length (now word) ≤ length (now text) ⌝ }
     ensures { λ r. ⌜ Laid (now (text .entry)) at (now (word .entry)) r (now (text .exit)) ⌝ }
 {

@@ -10,7 +10,7 @@ ghost use Rattle.curve.specs.Ways.{deepest};
 use curve::rounding::rounded;
 
 // The two numbers of a point, from the sixfold sums of its axes at a depth: each rounded once.
-pub fn put_point(points: &mut [i32], at: usize, depth: usize, x: i64, y: i64)
+pub(crate) fn put_point(points: &mut [i32], at: usize, depth: usize, x: i64, y: i64)
     requires { ⌜ depth ≤ deepest ⌝ }
     requires { ⌜ (natAbs x ≤ divisor depth * reach) × (natAbs y ≤ divisor depth * reach) ⌝ }
     requires { ⌜ at + 2 ≤ length (now points) ⌝ }

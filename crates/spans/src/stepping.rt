@@ -33,7 +33,7 @@ fn fill_steps(points: &mut [i32], at: usize, depth: usize, x: Differences, y: Di
 }
 
 // The 2^depth points of a span but its end, from number `at` on.
-pub fn fill_span(points: &mut [i32], at: usize, depth: usize, x: Four, y: Four)
+pub(crate) fn fill_span(points: &mut [i32], at: usize, depth: usize, x: Four, y: Four)
     requires { ⌜ depth ≤ deepest ⌝ }
     requires { ⌜ Ready depth x × Ready depth y ⌝ }
     requires { ⌜ at + perSpan depth ≤ length (now points) ⌝ }

@@ -16,7 +16,7 @@ use curve::rounding::rounded;
 use curve::weights::weighted_sum;
 
 // The coordinate at a step of a span, by row step · 2^(6 - depth) of the table.
-pub fn table_point(q: Four, depth: usize, step: usize) -> i32
+pub(crate) fn table_point(q: Four, depth: usize, step: usize) -> i32
     requires { ⌜ depth ≤ deepest ⌝ }
     requires { ⌜ step ≤ 2 ^ depth ⌝ }
     requires { ⌜ Ready depth q ⌝ }
@@ -27,7 +27,7 @@ pub fn table_point(q: Four, depth: usize, step: usize) -> i32
 }
 
 // The 2^depth points of a span but its end, from number `at` on.
-pub fn fill_span(points: &mut [i32], at: usize, depth: usize, x: Four, y: Four)
+pub(crate) fn fill_span(points: &mut [i32], at: usize, depth: usize, x: Four, y: Four)
     requires { ⌜ depth ≤ deepest ⌝ }
     requires { ⌜ Ready depth x × Ready depth y ⌝ }
     requires { ⌜ at + perSpan depth ≤ length (now points) ⌝ }
