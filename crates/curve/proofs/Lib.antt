@@ -1,4 +1,5 @@
 pub mod Tab
+pub mod Fills
 pub mod Reflect
 pub mod Published
 pub mod BSpline

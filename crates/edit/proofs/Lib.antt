@@ -1,4 +1,3 @@
-pub mod Fills
 pub mod Worked
 pub mod Rows
 pub mod Unique

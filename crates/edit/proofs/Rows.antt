@@ -32,9 +32,9 @@ use Rattle.spans.specs.Numbers.{perSpan}
 use Rattle.spans.specs.Ready.{Drawable}
 use Rattle.outline.specs.Outline.{points, firstFar, reachRow}
 use Rattle.outline.proofs.Draws.{all-numbers, drawable}
-use Rattle.edit.specs.declared.Edit.{Edit}
-use Rattle.edit.specs.declared.Edit.the-variants.{Move, Insert, Remove}
-use Rattle.edit.specs.Edits.{countAfter, spansAfter, offered, inRange, atTheEnd, newOutside, choose, controlAt, asked, pastFresh}
+use Rattle.asked.specs.declared.Edit.{Edit}
+use Rattle.asked.specs.declared.Edit.the-variants.{Move, Insert, Remove}
+use Rattle.asked.specs.Edits.{countAfter, spansAfter, offered, inRange, atTheEnd, newOutside, choose, controlAt, asked, pastFresh}
 use Rattle.edit.specs.Carried.{Carriable}
 use Rattle.edit.specs.Reading.{shapeAfter, planAfter, askRows, judgeAsk, roomRows, judgeRoom, editRows, Outcome, refuses, accepts, editsPlan, editsRoom, editsLists, edits}
 use Rattle.edit.specs.Ready.{Editable, Workable}

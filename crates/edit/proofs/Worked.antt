@@ -22,11 +22,11 @@ use Rattle.curve.proofs.Tab.{length-tab, getD-tab}
 use Rattle.shape.proofs.Tests.{passes, true-is-not-false, and-true}
 use Rattle.spans.specs.Numbers.{number, perSpan, filled}
 use Rattle.spans.proofs.Numbers.{per-span, located, end-number}
-use Rattle.edit.specs.declared.Edit.{Edit}
-use Rattle.edit.specs.declared.Edit.the-variants.{Move, Insert, Remove}
-use Rattle.edit.specs.Edits.{firstUsing, lastUsing, firstFresh, pastFresh, carriedFrom, isFresh, pointAt}
+use Rattle.asked.specs.declared.Edit.{Edit}
+use Rattle.asked.specs.declared.Edit.the-variants.{Move, Insert, Remove}
+use Rattle.asked.specs.Edits.{firstUsing, lastUsing, firstFresh, pastFresh, carriedFrom, isFresh, pointAt}
 use Rattle.edit.specs.Carried.{runLength}
-use Rattle.edit.proofs.Fills.{before-sets, past-sets, in-sets}
+use Rattle.curve.proofs.Fills.{before-sets, past-sets, in-sets}
 
 -- ---- what stands at a place of a list that was filled
 

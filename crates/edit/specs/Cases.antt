@@ -5,8 +5,8 @@ use Prim.Native.Nat.{ℕ}
 use lib.IntN.{ℤ, pos}
 use Rattle.curve.specs.Numbers.{neg}
 use Rattle.shape.specs.declared.Shape.{Shape}
-use Rattle.edit.specs.declared.Edit.{Edit}
-use Rattle.edit.specs.declared.Edit.the-variants.{Move, Insert, Remove}
+use Rattle.asked.specs.declared.Edit.{Edit}
+use Rattle.asked.specs.declared.Edit.the-variants.{Move, Insert, Remove}
 
 -- An edit and its place; the count, the first fresh span and their number that it answers; and what the lent lists hold afterwards.
 pub record Case : Type 0 where

@@ -1,4 +1,3 @@
-pub mod Edits
 pub mod Carried
 pub mod Reading
 pub mod Ready

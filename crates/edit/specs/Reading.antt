@@ -15,11 +15,11 @@ use Rattle.curve.specs.declared.Basis.{Basis}
 use Rattle.shape.specs.Refusals.{Row, row, judge, shapeRows, controlsRow, limitsRow, pointsRow, planOf}
 use Rattle.spans.specs.Numbers.{filled}
 use Rattle.outline.specs.Outline.{points, reachRow}
-use Rattle.edit.specs.declared.Edit.{Edit}
+use Rattle.asked.specs.declared.Edit.{Edit}
 use Rattle.edit.specs.declared.Change.{Change}
 use Rattle.edit.specs.declared.Edited.{Edited}
 use Rattle.edit.specs.declared.Edited.the-variants.{Done, Refused}
-use Rattle.edit.specs.Edits.{countAfter, spansAfter, offered, inRange, atTheEnd, newOutside, asked, freshFirst, freshCount, pointAt}
+use Rattle.asked.specs.Edits.{countAfter, spansAfter, offered, inRange, atTheEnd, newOutside, asked, freshFirst, freshCount, pointAt}
 
 -- The shape after an edit.
 abbrev pub shapeAfter : Edit → Shape → Shape

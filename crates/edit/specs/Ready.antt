@@ -11,8 +11,8 @@ use Rattle.shape.specs.Good.{Good}
 use Rattle.shape.specs.Shape.{mostRecords}
 use Rattle.spans.specs.Numbers.{perSpan}
 use Rattle.spans.specs.Ready.{Drawable}
-use Rattle.edit.specs.declared.Edit.{Edit}
-use Rattle.edit.specs.Edits.{countAfter, offered, inRange, atTheEnd, pastFresh, asked}
+use Rattle.asked.specs.declared.Edit.{Edit}
+use Rattle.asked.specs.Edits.{countAfter, offered, inRange, atTheEnd, pastFresh, asked}
 use Rattle.edit.specs.Carried.{Carriable}
 use Rattle.edit.specs.Reading.{shapeAfter}
 

@@ -5,8 +5,8 @@ ghost use lib.IntN.{pos};
 ghost use lib.ListN.{getD, length};
 ghost use Rattle.spans.specs.Numbers.{filled};
 ghost use Rattle.edit.specs.Carried.{Carriable, runLength};
-ghost use Rattle.edit.specs.Edits.{carriedFrom};
-use crate::Edit;
+ghost use Rattle.asked.specs.Edits.{carriedFrom};
+use asked::Edit;
 
 // Each number from `from` up to `to` becomes the one `by` places before it; the highest first, so that none is overwritten before it is read.
 fn carry_on(points: &mut [i32], from: usize, to: usize, by: usize)

@@ -1,10 +1,10 @@
 // Editing an outline: move, insert and remove of one record, and what they leave in the lent controls and points. Every public call takes any input to an end: none
 // has a `requires`.
-mod asking;
 mod carrying;
-mod counts;
+mod checks;
 mod working;
 
+pub use asked::Edit;
 ghost use mathlib.Core.Bool.{cond};
 ghost use mathlib.Core.Path.{_≡_};
 ghost use Prim.Native.Nat.{_≤_, max};
@@ -12,22 +12,20 @@ ghost use lib.Dec.{ltb};
 ghost use lib.ListN.{length};
 ghost use Rattle.shape.specs.Good.{Good};
 ghost use Rattle.shape.specs.Refusals.{planOf};
-ghost use Rattle.shape.specs.Shape.{mostRecords, mostPoints};
-ghost use Rattle.edit.specs.Edits.{asked, countAfter};
-ghost use Rattle.edit.specs.Reading.{change, edits, editsLists, editsPlan, editsRoom, judgeAsk, judgeRoom, outcome, planAfter, shapeAfter};
+ghost use Rattle.shape.specs.Shape.{mostRecords};
+ghost use Rattle.asked.specs.Edits.{asked, countAfter};
+ghost use Rattle.edit.specs.Reading.{change, edits, editsLists, editsPlan, editsRoom, outcome, planAfter, shapeAfter};
 ghost use Rattle.edit.specs.Ready.{Editable, Workable};
-use asking::ask;
-use asking::copy_front;
-use counts::count_after;
-use counts::first_fresh;
-use counts::greatest;
-use counts::is_at_the_end;
-use counts::is_in_range;
-use counts::is_new_outside;
-use counts::is_offered;
-use counts::less;
-use counts::past_fresh;
-use counts::spans_after;
+use asked::asking::ask;
+use asked::asking::copy_front;
+use asked::counts::count_after;
+use asked::counts::first_fresh;
+use asked::counts::greatest;
+use asked::counts::less;
+use asked::counts::past_fresh;
+use asked::counts::spans_after;
+use checks::check_ask;
+use checks::check_room;
 use curve::Basis;
 use shape::Judged;
 use shape::Listed;
@@ -35,16 +33,8 @@ use shape::Plan;
 use shape::Refusal;
 use shape::Shape;
 use shape::check_shape;
-use shape::first_outside;
 use spans::reach::first_far;
 use working::work;
-
-// What an edit does at its place: a new record there, a new one before it, or the record taken out.
-pub enum Edit {
-    Move(i32, i32),
-    Insert(i32, i32),
-    Remove,
-}
 
 // What an accepted edit answers: the new shape, the first span worked afresh and how many.
 pub struct Change {
@@ -234,48 +224,4 @@ fn named_first(first: usize, past: usize) -> usize
         return first;
     }
     0
-}
-
-// A refusal, as the checks find it.
-fn refused(number: usize, place: usize) -> Listed
-    ensures { λ r. ⌜ r ≡ Listed.Bad (record { number = number; place = place }) ⌝ }
-{
-    Listed::Bad(Refusal { number, place })
-}
-
-// The checks of what is asked in the paper's order, 4, 5, 6.
-fn check_ask(edit: Edit, basis: Basis, place: usize, count: usize) -> Listed
-    ensures { λ r. ⌜ r ≡ judgeAsk edit basis place count ⌝ }
-{
-    if !is_offered(edit, basis) {
-        return refused(4, 0);
-    }
-    if !is_in_range(edit, place, count) {
-        return refused(5, place);
-    }
-    if is_at_the_end(edit, count) {
-        return refused(6, 0);
-    }
-    Listed::Fine
-}
-
-// The checks of the lent lists in the paper's order, 7, 8, 8 for the new record, 9.
-fn check_room(edit: Edit, count: usize, controls: &[i32], most: usize, len: usize) -> Listed
-    requires { ⌜ (1 ≤ count) × (count ≤ mostRecords) × (most ≤ mostPoints) ⌝ }
-    ensures { λ r. ⌜ r ≡ judgeRoom edit count (now (controls .entry)) most len ⌝ }
-{
-    if controls.len() < 2 * greatest(count, count_after(edit, count)) {
-        return refused(7, 0);
-    }
-    let outside = first_outside(controls, count);
-    if outside < count {
-        return refused(8, outside);
-    }
-    if is_new_outside(edit) {
-        return refused(8, count);
-    }
-    if len < 2 * most {
-        return refused(9, 0);
-    }
-    Listed::Fine
 }

@@ -12,7 +12,7 @@ use Rattle.spans.specs.Numbers.{number, farOff}
 use Rattle.doubles.specs.Exact.{dyadic}
 use Rattle.doubles.specs.Number.{within, measure}
 use Rattle.edit.specs.Cases.{flat}
-use Rattle.edit.specs.Edits.{asked, freshCount, freshFirst, isFresh, pointAt}
+use Rattle.asked.specs.Edits.{asked, freshCount, freshFirst, isFresh, pointAt}
 use Rattle.edit.specs.Reading.{edits}
 use Rattle.promises.specs.Cases.{cases, allHold}
 

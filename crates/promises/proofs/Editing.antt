@@ -9,8 +9,8 @@ use lib.ListN.{getD}
 use Rattle.curve.specs.declared.Basis.{Basis}
 use Rattle.shape.specs.Refusals.{planOf}
 use Rattle.outline.specs.Outline.{points}
-use Rattle.edit.specs.declared.Edit.{Edit}
-use Rattle.edit.specs.Edits.{offered}
+use Rattle.asked.specs.declared.Edit.{Edit}
+use Rattle.asked.specs.Edits.{offered}
 use Rattle.sequences.specs.Named.{Touched, Named}
 use Rattle.sequences.specs.Played.{State, Call, Outlined, played}
 use Rattle.sequences.proofs.Named.{touched-named, named-touched}

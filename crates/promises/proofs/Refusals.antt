@@ -11,7 +11,7 @@ use Rattle.shape.specs.declared.Refusal.{Refusal}
 use Rattle.shape.specs.Refusals.{Row, First}
 use Rattle.outline.specs.Outline as outline
 use Rattle.outline.proofs.Exactly as outline-exactly
-use Rattle.edit.specs.declared.Edit.{Edit}
+use Rattle.asked.specs.declared.Edit.{Edit}
 use Rattle.edit.specs.Reading as edit
 use Rattle.edit.proofs.Exactly as edit-exactly
 use Rattle.preview.specs.Preview as preview

@@ -30,8 +30,8 @@ use Rattle.outline.specs.declared.Drawn.the-variants.{Points}
 use Rattle.outline.specs.Outline as outline
 use Rattle.outline.specs.Outline.{numbers, points, firstFar, reachRow, drawn, drawRows, draws}
 use Rattle.outline.proofs.Exactly.{points-none, none-drawn}
-use Rattle.edit.specs.declared.Edit.{Edit}
-use Rattle.edit.specs.Edits.{countAfter, asked, pointAt}
+use Rattle.asked.specs.declared.Edit.{Edit}
+use Rattle.asked.specs.Edits.{countAfter, asked, pointAt}
 use Rattle.edit.specs.Reading.{shapeAfter, accepts, edits}
 use Rattle.edit.proofs.Worked.{same-filled}
 use Rattle.edit.proofs.Rows.{length-asked}

@@ -23,9 +23,9 @@ use Rattle.shape.proofs.Tests.{passes, true-is-not-false}
 use Rattle.shape.proofs.Spans.{last-record}
 use Rattle.spans.specs.Numbers.{number, perSpan}
 use Rattle.spans.proofs.Numbers.{located}
-use Rattle.edit.specs.declared.Edit.{Edit}
-use Rattle.edit.specs.declared.Edit.the-variants.{Move, Insert, Remove}
-use Rattle.edit.specs.Edits.{countAfter, spansAfter, offered, inRange, choose, controlAt, asked, firstFresh, pastFresh, carriedFrom, isFresh, pointAt}
+use Rattle.asked.specs.declared.Edit.{Edit}
+use Rattle.asked.specs.declared.Edit.the-variants.{Move, Insert, Remove}
+use Rattle.asked.specs.Edits.{countAfter, spansAfter, offered, inRange, choose, controlAt, asked, firstFresh, pastFresh, carriedFrom, isFresh, pointAt}
 use Rattle.edit.proofs.Worked.{either, fewer-numbers, fresh-facts, fresh-at, stays-at, carried-at}
 use Rattle.edit.proofs.Rows.{records-then}
 

@@ -7,9 +7,9 @@ use Rattle.curve.specs.declared.Basis.{Basis}
 use Rattle.curve.specs.declared.Basis.the-variants.{Bezier, BSpline, Cardinal, Hermite}
 use Rattle.curve.specs.Span.{firstRecord}
 use Rattle.shape.proofs.Tests.{true-is-not-false}
-use Rattle.edit.specs.declared.Edit.{Edit}
-use Rattle.edit.specs.declared.Edit.the-variants.{Move, Insert, Remove}
-use Rattle.edit.specs.Edits.{offered}
+use Rattle.asked.specs.declared.Edit.{Edit}
+use Rattle.asked.specs.declared.Edit.the-variants.{Move, Insert, Remove}
+use Rattle.asked.specs.Edits.{offered}
 use Rattle.sequences.specs.Named.{Touched, Named}
 
 pub touched-named : (e : Edit) (b : Basis) (j m s : ℕ) → offered e b ≡ true → s < m → Touched e b j s → Named e b j m s

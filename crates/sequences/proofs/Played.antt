@@ -22,10 +22,10 @@ use Rattle.outline.specs.declared.Drawn.the-variants.{Points}
 use Rattle.outline.specs.Outline as outline
 use Rattle.outline.specs.Outline.{numbers, points, drawn, draws}
 use Rattle.outline.proofs.Exactly.{points-none, none-drawn}
-use Rattle.edit.specs.declared.Edit.{Edit}
-use Rattle.edit.specs.Edits.{countAfter, asked, pointAt}
+use Rattle.asked.specs.declared.Edit.{Edit}
+use Rattle.asked.specs.Edits.{countAfter, asked, pointAt}
 use Rattle.edit.specs.Reading.{shapeAfter, accepts, edits}
-use Rattle.edit.proofs.Fills.{in-sets}
+use Rattle.curve.proofs.Fills.{in-sets}
 use Rattle.edit.proofs.Worked.{in-filled}
 use Rattle.edit.proofs.Rows.{length-asked}
 use Rattle.edit.proofs.Exactly.{callRows, first-refused, none-done}

@@ -19,8 +19,8 @@ use Rattle.shape.proofs.Refusals.{judge-none, none-sound, sound-facts}
 use Rattle.spans.specs.Numbers.{perSpan}
 use Rattle.outline.specs.Outline.{numbers, points, firstFar, drawn}
 use Rattle.outline.proofs.Draws.{all-numbers}
-use Rattle.edit.specs.declared.Edit.{Edit}
-use Rattle.edit.specs.Edits.{countAfter, inRange, asked, pointAt}
+use Rattle.asked.specs.declared.Edit.{Edit}
+use Rattle.asked.specs.Edits.{countAfter, inRange, asked, pointAt}
 use Rattle.edit.specs.Reading.{shapeAfter, planAfter, askRows, judgeAsk, roomRows, judgeRoom, pointsAfter}
 use Rattle.edit.specs.Ready.{Editable, Workable}
 use Rattle.edit.proofs.Rows.{editable, good-after, plan-after, workable, new-lent}

@@ -2,9 +2,9 @@
 use Prim.Native.Nat.{ℕ, _+_, _≤_, _<_}
 use Rattle.curve.specs.declared.Basis.{Basis}
 use Rattle.curve.specs.Span.{firstRecord}
-use Rattle.edit.specs.declared.Edit.{Edit}
-use Rattle.edit.specs.declared.Edit.the-variants.{Move, Insert, Remove}
-use Rattle.edit.specs.Edits.{firstFresh, pastFresh}
+use Rattle.asked.specs.declared.Edit.{Edit}
+use Rattle.asked.specs.declared.Edit.the-variants.{Move, Insert, Remove}
+use Rattle.asked.specs.Edits.{firstFresh, pastFresh}
 
 -- Span s of the new shape uses record j, which a move or an insert made; or it uses the records on both sides of the place from which one was taken out.
 abbrev pub Touched : Edit → Basis → ℕ → ℕ → Type 0

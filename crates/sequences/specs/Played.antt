@@ -9,7 +9,7 @@ use Rattle.shape.specs.Refusals.{planOf}
 use Rattle.outline.specs.declared.Drawn.the-variants.{Points}
 use Rattle.outline.specs.Outline as outline
 use Rattle.outline.specs.Outline.{numbers, points, draws}
-use Rattle.edit.specs.declared.Edit.{Edit}
+use Rattle.asked.specs.declared.Edit.{Edit}
 use Rattle.edit.specs.declared.Edited.{Edited}
 use Rattle.edit.specs.declared.Edited.the-variants.{Done, Refused}
 use Rattle.edit.specs.Reading.{Outcome, edits}

@@ -4,7 +4,7 @@ use Prim.Native.Nat.{ℕ, _-_}
 use mathlib.Core.Bool.{cond}
 use lib.Dec.{ltb}
 use Rattle.edit.specs.declared.Change.{Change}
-use Rattle.edit.specs.Edits.{freshFirst, freshCount, firstFresh, pastFresh}
+use Rattle.asked.specs.Edits.{freshFirst, freshCount, firstFresh, pastFresh}
 use Rattle.edit.specs.Reading.{change}
 use borrow.Author.Needs.{needs}
 use Rattle.edit.proofs.change_of.Statement.{statement}

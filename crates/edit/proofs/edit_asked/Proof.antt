@@ -12,7 +12,7 @@ use Rattle.outline.specs.Outline.{points, firstFar}
 use Rattle.outline.proofs.Draws.{all-numbers}
 use Rattle.edit.specs.declared.Edited.{Edited}
 use Rattle.edit.specs.declared.Edited.the-variants.{Done, Refused}
-use Rattle.edit.specs.Edits.{asked, countAfter, pointAt}
+use Rattle.asked.specs.Edits.{asked, countAfter, pointAt}
 use Rattle.edit.specs.Reading.{outcome, change}
 use Rattle.edit.proofs.Rows.{length-asked, lists-far, lists-near}
 use borrow.Author.Needs.{needs}

@@ -3,7 +3,7 @@ use mathlib.Core.Path.{_≡_, refl, sym, ap, _∙_, subst}
 use Prim.Native.Nat.{ℕ, _*_, _-_, _≤_}
 use native.Mathlib.Omega.{arith}
 use lib.ListN.{length, take}
-use Rattle.edit.specs.Edits.{asked}
+use Rattle.asked.specs.Edits.{asked}
 use Rattle.edit.proofs.Rows.{front-asked}
 use borrow.Author.Needs.{needs}
 use Rattle.edit.proofs.edit_lists.Statement.{statement}

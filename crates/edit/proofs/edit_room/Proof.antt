@@ -11,7 +11,7 @@ use Rattle.shape.specs.declared.Listed.the-variants.{Fine, Bad}
 use Rattle.shape.specs.Shape.{mostPoints, mostRecords, pointsOf}
 use Rattle.shape.proofs.Spans.{points-at-most}
 use Rattle.outline.specs.Outline.{points}
-use Rattle.edit.specs.Edits.{spansAfter}
+use Rattle.asked.specs.Edits.{spansAfter}
 use Rattle.edit.specs.Reading.{editsLists, judgeRoom, planAfter}
 use Rattle.edit.specs.Ready.{Workable}
 use Rattle.edit.proofs.Rows.{good-after, room-bad, room-fine, workable}

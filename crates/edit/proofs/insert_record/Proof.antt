@@ -2,7 +2,7 @@
 use mathlib.Core.Path.{_≡_, refl, sym, ap, _∙_}
 use mir.Syntax.{w32}
 use Rattle.whole.proofs.Fit.{kept-is}
-use Rattle.edit.specs.declared.Edit.the-variants.{Insert}
+use Rattle.asked.specs.declared.Edit.the-variants.{Insert}
 use Rattle.edit.specs.Reading.{edits}
 use borrow.Author.Needs.{needs}
 use Rattle.edit.proofs.insert_record.Statement.{statement}

@@ -8,9 +8,9 @@ use borrow.Author.Needs.{needs}
 use lib.IntN.{ℤ, pos}
 use lib.ListN.{getD, length}
 use Rattle.spans.specs.Numbers.{filled}
-use Rattle.edit.specs.declared.Edit.{Edit}
-use Rattle.edit.specs.declared.Edit.the-variants.{Move, Insert, Remove}
-use Rattle.edit.specs.Edits.{carriedFrom}
+use Rattle.asked.specs.declared.Edit.{Edit}
+use Rattle.asked.specs.declared.Edit.the-variants.{Move, Insert, Remove}
+use Rattle.asked.specs.Edits.{carriedFrom}
 use Rattle.edit.specs.Carried.{Carriable, runLength}
 use Rattle.edit.proofs.Worked.{none-filled, same-filled, run-none, run-end}
 use Rattle.edit.proofs.carrying.carry.Statement.{statement}

@@ -8,7 +8,7 @@ use lib.ListN.{getD, length, set, length-set}
 use lib.Seq.{sets, getD-set-other}
 use Rattle.curve.specs.Numbers.{tab}
 use Rattle.spans.specs.Numbers.{filled}
-use Rattle.edit.proofs.Fills.{as-read, fill-next, fill-done}
+use Rattle.curve.proofs.Fills.{as-read, fill-next, fill-done}
 use Rattle.edit.proofs.carrying.carry_back.Statement.{statement}
 use Rattle.edit.proofs.carrying.carry_back.Tie as tie
 

@@ -8,7 +8,7 @@ use lib.ListN.{getD, length, set, length-set}
 use lib.Seq.{sets, getD-set-other}
 use Rattle.curve.specs.Numbers.{tab}
 use Rattle.spans.specs.Numbers.{filled}
-use Rattle.edit.proofs.Fills.{as-read, fill-last}
+use Rattle.curve.proofs.Fills.{as-read, fill-last}
 use Rattle.edit.proofs.carrying.carry_on.Statement.{statement}
 use Rattle.edit.proofs.carrying.carry_on.Tie as tie
 

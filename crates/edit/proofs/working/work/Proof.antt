@@ -12,7 +12,7 @@ use Rattle.curve.specs.Ways.{deepest}
 use Rattle.spans.specs.Numbers.{filled, number, perSpan}
 use Rattle.spans.specs.Ready.{Drawable}
 use Rattle.spans.proofs.Drawables.{fewer}
-use Rattle.edit.specs.Edits.{firstFresh, pastFresh, carriedFrom}
+use Rattle.asked.specs.Edits.{firstFresh, pastFresh, carriedFrom}
 use Rattle.edit.specs.Carried.{Carriable, runLength}
 use Rattle.edit.proofs.Worked.{past-most, worked}
 use Rattle.edit.proofs.working.work.Statement.{statement}

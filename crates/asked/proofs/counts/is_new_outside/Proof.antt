@@ -1,0 +1,48 @@
+-- In each arm the edit is that arm's.
+use mathlib.Core.Path.{_≡_, refl, sym, ap, _∙_}
+use mir.Syntax.{w32}
+use borrow.Author.Needs.{needs}
+use Rattle.whole.proofs.Fit.{kept, kept-is}
+use Rattle.asked.specs.declared.Edit.the-variants.{Move, Insert, Remove}
+use Rattle.asked.specs.Edits.{newOutside}
+use Rattle.asked.proofs.counts.is_new_outside.Statement.{statement}
+use Rattle.asked.proofs.counts.is_new_outside.Tie as tie
+
+-- In each arm the edit is that arm's.
+
+enum-known-edit : tie.Need-enum-known-edit
+enum-known-edit c = search needs
+
+is-outside-requires : tie.Need-is-outside-requires
+is-outside-requires c κs = search needs
+
+enum-known-edit-2 : tie.Need-enum-known-edit-2
+enum-known-edit-2 c = search needs
+
+is-outside-requires-2 : tie.Need-is-outside-requires-2
+is-outside-requires-2 c κs = search needs
+
+enum-told : tie.Need-enum-told
+enum-told c = search needs
+
+returns : tie.Need-returns
+returns c = c .is-outside .ensures ∙ ap (λ z. newOutside (Move z (kept w32 (c .before .before .edit .given .0 .1 .0)))) (kept-is w32 (c .before .before .edit .given .0 .0) (record { sfits = c .before .known-told .given .0 .1 })) ∙ ap (λ z. newOutside (Move (c .before .before .edit .given .0 .0) z)) (kept-is w32 (c .before .before .edit .given .0 .1 .0) (record { sfits = c .before .known-told .given .1 .0 .1 })) ∙ sym (ap newOutside (c .before .before .edit .given .1))
+
+returns-2 : tie.Need-returns-2
+returns-2 c = c .is-outside2 .ensures ∙ ap (λ z. newOutside (Insert z (kept w32 (c .before .before .edit2 .given .0 .1 .0)))) (kept-is w32 (c .before .before .edit2 .given .0 .0) (record { sfits = c .before .known-told2 .given .0 .1 })) ∙ ap (λ z. newOutside (Insert (c .before .before .edit2 .given .0 .0) z)) (kept-is w32 (c .before .before .edit2 .given .0 .1 .0) (record { sfits = c .before .known-told2 .given .1 .0 .1 })) ∙ sym (ap newOutside (c .before .before .edit2 .given .1))
+
+returns-3 : tie.Need-returns-3
+returns-3 c = search needs
+
+pub is-new-outside-spec : {M : Type 1} → statement M
+is-new-outside-spec =
+    tie.close
+    (tie.spec
+    enum-known-edit
+    is-outside-requires
+    enum-known-edit-2
+    is-outside-requires-2
+    enum-told
+    returns
+    returns-2
+    returns-3)

@@ -1,0 +1,71 @@
+-- In each arm the case is that arm's, and the definition has the arm's answer there.
+use mathlib.Core.Path.{_≡_, refl, sym, ap, _∙_, subst}
+use Prim.Native.Nat.{ℕ, _+_, _≤_, min}
+use native.Mathlib.Nat.{div-le-self, le-trans, le-refl}
+use native.Mathlib.Omega.{arith}
+use borrow.Author.Needs.{needs}
+use Rattle.curve.specs.declared.Basis.{Basis}
+use Rattle.curve.specs.declared.Basis.the-variants.{Bezier, BSpline, Cardinal, Hermite}
+use Rattle.asked.specs.Edits.{lastUsing, pastFresh}
+use Rattle.asked.proofs.counts.past_fresh.Statement.{statement}
+use Rattle.asked.proofs.counts.past_fresh.Tie as tie
+
+enum-told : tie.Need-enum-told
+enum-told c = search needs
+
+-- no span past the record's own number uses it
+last-small : (b : Basis) (j : ℕ) → lastUsing b j ≤ j
+last-small Bezier j = div-le-self j 3
+last-small BSpline j = le-refl j
+last-small Cardinal j = le-refl j
+last-small Hermite j = div-le-self j 2
+
+last-using-requires : tie.Need-last-using-requires
+last-using-requires c κs = search needs
+
+add-least : tie.Need-add-least
+add-least c = omega (arith, c .last-using .ensures, last-small (c .before .before .before .args .basis) (c .before .before .before .args .place))
+
+least-requires : tie.Need-least-requires
+least-requires c κs = search needs
+
+enum-told-2 : tie.Need-enum-told-2
+enum-told-2 c = search needs
+
+add-least-2 : tie.Need-add-least-2
+add-least-2 c = search needs
+
+least-requires-2 : tie.Need-least-requires-2
+least-requires-2 c κs = search needs
+
+enum-told-3 : tie.Need-enum-told-3
+enum-told-3 c = search needs
+
+least-requires-3 : tie.Need-least-requires-3
+least-requires-3 c κs = search needs
+
+returns : tie.Need-returns
+returns c = c .least .ensures ∙ ap (λ (n : ℕ). min (n + 1) (c .before .before .before .before .args .spans)) (c .before .last-using .ensures) ∙ sym (ap (λ e. pastFresh e (c .before .before .before .before .args .basis) (c .before .before .before .before .args .place) (c .before .before .before .before .args .spans)) (c .before .before .enum-told .given .1))
+
+returns-2 : tie.Need-returns-2
+returns-2 c = c .least2 .ensures ∙ sym (ap (λ e. pastFresh e (c .before .before .before .args .basis) (c .before .before .before .args .place) (c .before .before .before .args .spans)) (c .before .enum-told2 .given .1))
+
+returns-3 : tie.Need-returns-3
+returns-3 c = c .least3 .ensures ∙ sym (ap (λ e. pastFresh e (c .before .before .before .args .basis) (c .before .before .before .args .place) (c .before .before .before .args .spans)) (c .before .enum-told3 .given .1))
+
+pub past-fresh-spec : {M : Type 1} → statement M
+past-fresh-spec =
+    tie.close
+    (tie.spec
+    enum-told
+    last-using-requires
+    add-least
+    least-requires
+    enum-told-2
+    add-least-2
+    least-requires-2
+    enum-told-3
+    least-requires-3
+    returns
+    returns-2
+    returns-3)

@@ -1,0 +1,132 @@
+-- What an edit asks for and which spans it works afresh (document 01, "Editing an outline"). Spans are those of the new shape, clipped to those that exist.
+use mathlib.Core.Bool.{Bool, true, false, cond, _&&_, _||_, not}
+use mathlib.Core.List.{List}
+use Prim.Native.Nat.{ℕ, zero, suc, _+_, _*_, _-_, _/_, _%_, _^_, min, max}
+use lib.Dec.{leb, ltb, eqb}
+use lib.IntN.{ℤ, pos}
+use lib.ListN.{getD}
+use Rattle.curve.specs.declared.Basis.{Basis}
+use Rattle.curve.specs.declared.Basis.the-variants.{Bezier, BSpline, Cardinal, Hermite}
+use Rattle.curve.specs.Numbers.{tab}
+use Rattle.curve.specs.Limits.{beyond, limit}
+use Rattle.shape.specs.Shape.{mostRecords}
+use Rattle.spans.specs.Numbers.{number, perSpan}
+use Rattle.asked.specs.declared.Edit.{Edit}
+use Rattle.asked.specs.declared.Edit.the-variants.{Move, Insert, Remove}
+
+-- ---- counts and places
+
+-- The control count after an edit of n controls.
+abbrev pub countAfter : Edit → ℕ → ℕ
+countAfter (Move x y) n = n
+countAfter (Insert x y) n = n + 1
+countAfter Remove n = n - 1
+
+-- The spans after an edit of m spans.
+abbrev pub spansAfter : Edit → ℕ → ℕ
+spansAfter (Move x y) m = m
+spansAfter (Insert x y) m = m + 1
+spansAfter Remove m = m - 1
+
+-- Insert and remove exist for bases 2 and 3.
+abbrev pub offered : Edit → Basis → Bool
+offered (Move x y) b = true
+offered (Insert x y) Bezier = false
+offered (Insert x y) BSpline = true
+offered (Insert x y) Cardinal = true
+offered (Insert x y) Hermite = false
+offered Remove Bezier = false
+offered Remove BSpline = true
+offered Remove Cardinal = true
+offered Remove Hermite = false
+
+-- Move replaces record j and remove takes it out, j < n; insert puts a new one before it, j at most n.
+abbrev pub inRange : Edit → ℕ → ℕ → Bool
+inRange (Move x y) j n = ltb j n
+inRange (Insert x y) j n = leb j n
+inRange Remove j n = ltb j n
+
+-- Insert at n = 64 and remove at n = 4 go past what a count may be.
+abbrev pub leastRecords : ℕ
+leastRecords = 4
+
+abbrev pub atTheEnd : Edit → ℕ → Bool
+atTheEnd (Move x y) n = false
+atTheEnd (Insert x y) n = leb mostRecords n
+atTheEnd Remove n = leb n leastRecords
+
+-- The new record, where there is one, is outside the limits.
+abbrev pub newOutside : Edit → Bool
+newOutside (Move x y) = beyond limit x || beyond limit y
+newOutside (Insert x y) = beyond limit x || beyond limit y
+newOutside Remove = false
+
+-- ---- the controls asked for
+
+-- Number q of the new controls: record q / 2 is the new one at j, and every other is an old one, in its place or one place on or back.
+abbrev pub choose : ℕ → ℤ → ℤ → ℤ
+choose axis x y = cond (eqb axis 0) x y
+
+abbrev pub controlAt : Edit → ℕ → List ℤ → ℕ → ℤ
+controlAt (Move x y) j old q = cond (eqb (q / 2) j) (choose (q % 2) x y) (getD old q (pos 0))
+controlAt (Insert x y) j old q = cond (ltb (q / 2) j) (getD old q (pos 0)) (cond (eqb (q / 2) j) (choose (q % 2) x y) (getD old (q - 2) (pos 0)))
+controlAt Remove j old q = cond (ltb (q / 2) j) (getD old q (pos 0)) (getD old (q + 2) (pos 0))
+
+-- The numbers of the new controls, and no more: n is the new count.
+unfoldable pub asked : Edit → ℕ → List ℤ → ℕ → List ℤ
+asked e j old n = tab (controlAt e j old) 0 (2 * n)
+
+-- ---- the spans worked afresh: from `first` up to, and not with, `past`
+
+-- The first and the last span that uses record j: span s uses records 3s, s, s, 2s and the three after it.
+abbrev pub firstUsing : Basis → ℕ → ℕ
+firstUsing Bezier j = (j - 1) / 3
+firstUsing BSpline j = j - 3
+firstUsing Cardinal j = j - 3
+firstUsing Hermite j = (j - 2) / 2
+
+abbrev pub lastUsing : Basis → ℕ → ℕ
+lastUsing Bezier j = j / 3
+lastUsing BSpline j = j
+lastUsing Cardinal j = j
+lastUsing Hermite j = j / 2
+
+-- Move: every span that uses record j. Insert: spans j-3 to j. Remove: spans j-3 to j-1. With m spans in the new shape.
+abbrev pub firstFresh : Edit → Basis → ℕ → ℕ
+firstFresh (Move x y) b j = firstUsing b j
+firstFresh (Insert x y) b j = j - 3
+firstFresh Remove b j = j - 3
+
+abbrev pub pastFresh : Edit → Basis → ℕ → ℕ → ℕ
+pastFresh (Move x y) b j m = min (lastUsing b j + 1) m
+pastFresh (Insert x y) b j m = min (j + 1) m
+pastFresh Remove b j m = min j m
+
+-- The answer's two numbers: the first span worked afresh and how many; both 0 where there are none.
+unfoldable pub freshCount : Edit → Basis → ℕ → ℕ → ℕ
+freshCount e b j m = pastFresh e b j m - firstFresh e b j
+
+unfoldable pub freshFirst : Edit → Basis → ℕ → ℕ → ℕ
+freshFirst e b j m = cond (ltb (firstFresh e b j) (pastFresh e b j m)) (firstFresh e b j) 0
+
+-- ---- the points
+
+-- Where a carried number comes from: span s holds what old span s-1 (insert) or s+1 (remove) held, w numbers back or on; a move carries nothing.
+abbrev pub carriedFrom : Edit → ℕ → ℕ → ℕ
+carriedFrom (Move x y) w q = q
+carriedFrom (Insert x y) w q = q - w
+carriedFrom Remove w q = q + w
+
+-- Number q is fresh from the first fresh span's start to the last one's end, both included.
+unfoldable pub isFresh : Edit → Basis → ℕ → ℕ → ℕ → ℕ → Bool
+isFresh e b k j m q =
+    let a = firstFresh e b j in
+    let z = pastFresh e b j m in
+    ltb a z && (leb (a * perSpan k) q && ltb q (z * perSpan k + 2))
+
+-- Number q of the new points, for any contents of the lent ones: fresh; or of an earlier span, which stays; or carried. The last point is its last span's.
+unfoldable pub pointAt : Edit → Basis → ℕ → ℕ → ℕ → List ℤ → List ℤ → ℕ → ℤ
+pointAt e b k j m controls lent q =
+    cond (isFresh e b k j m q)
+    (number b k m controls q)
+    (cond (ltb (min (q / perSpan k) (m - 1)) (firstFresh e b j)) (getD lent q (pos 0)) (getD lent (carriedFrom e (perSpan k) q) (pos 0)))

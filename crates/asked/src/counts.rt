@@ -1,0 +1,169 @@
+// What an edit may do, and which spans it works afresh.
+ghost use mathlib.Core.Path.{_≡_};
+ghost use Prim.Native.Nat.{_-_, _≤_, _<_, max, min};
+ghost use Rattle.asked.specs.Edits.{atTheEnd, countAfter, firstFresh, firstUsing, inRange, lastUsing, newOutside, offered, pastFresh, spansAfter};
+use crate::Edit;
+use curve::Basis;
+use curve::LIMIT;
+use curve::bounds::is_beyond;
+
+// The control count after an edit.
+pub fn count_after(edit: Edit, count: usize) -> usize
+    requires { ⌜ (0 < count) × (count ≤ 64) ⌝ }
+    ensures { λ r. ⌜ r ≡ countAfter edit count ⌝ }
+{
+    match edit {
+        Edit::Move(_, _) => count,
+        Edit::Insert(_, _) => count + 1,
+        Edit::Remove => count - 1,
+    }
+}
+
+// The spans after an edit.
+pub fn spans_after(edit: Edit, spans: usize) -> usize
+    requires { ⌜ (0 < spans) × (spans ≤ 64) ⌝ }
+    ensures { λ r. ⌜ r ≡ spansAfter edit spans ⌝ }
+{
+    match edit {
+        Edit::Move(_, _) => spans,
+        Edit::Insert(_, _) => spans + 1,
+        Edit::Remove => spans - 1,
+    }
+}
+
+// Insert and remove exist for bases 2 and 3: the splines.
+fn is_spline(basis: Basis) -> bool
+    ensures { λ r. ⌜ r ≡ offered Edit.Remove basis ⌝ }
+{
+    match basis {
+        Basis::Bezier => false,
+        Basis::BSpline => true,
+        Basis::Cardinal => true,
+        Basis::Hermite => false,
+    }
+}
+
+pub fn is_offered(edit: Edit, basis: Basis) -> bool
+    ensures { λ r. ⌜ r ≡ offered edit basis ⌝ }
+{
+    match edit {
+        Edit::Move(_, _) => true,
+        Edit::Insert(_, _) => is_spline(basis),
+        Edit::Remove => is_spline(basis),
+    }
+}
+
+pub fn is_in_range(edit: Edit, place: usize, count: usize) -> bool
+    ensures { λ r. ⌜ r ≡ inRange edit place count ⌝ }
+{
+    match edit {
+        Edit::Move(_, _) => place < count,
+        Edit::Insert(_, _) => place <= count,
+        Edit::Remove => place < count,
+    }
+}
+
+pub fn is_at_the_end(edit: Edit, count: usize) -> bool
+    ensures { λ r. ⌜ r ≡ atTheEnd edit count ⌝ }
+{
+    match edit {
+        Edit::Move(_, _) => false,
+        Edit::Insert(_, _) => 64 <= count,
+        Edit::Remove => count <= 4,
+    }
+}
+
+fn is_outside(x: i32, y: i32) -> bool
+    ensures { λ r. ⌜ r ≡ newOutside (Edit.Insert x y) ⌝ }
+{
+    if is_beyond(x, LIMIT) {
+        return true;
+    }
+    is_beyond(y, LIMIT)
+}
+
+// Whether the new record, where there is one, is outside the limits.
+pub fn is_new_outside(edit: Edit) -> bool
+    ensures { λ r. ⌜ r ≡ newOutside edit ⌝ }
+{
+    match edit {
+        Edit::Move(x, y) => is_outside(x, y),
+        Edit::Insert(x, y) => is_outside(x, y),
+        Edit::Remove => false,
+    }
+}
+
+// Less, but not below zero.
+pub fn less(n: usize, by: usize) -> usize
+    ensures { λ r. ⌜ r ≡ n - by ⌝ }
+{
+    if n < by {
+        return 0;
+    }
+    n - by
+}
+
+// The greater of two.
+pub fn greatest(a: usize, b: usize) -> usize
+    ensures { λ r. ⌜ r ≡ max a b ⌝ }
+{
+    if a < b {
+        return b;
+    }
+    a
+}
+
+// The smaller of two.
+fn least(a: usize, b: usize) -> usize
+    ensures { λ r. ⌜ r ≡ min a b ⌝ }
+{
+    if a < b {
+        return a;
+    }
+    b
+}
+
+fn first_using(basis: Basis, place: usize) -> usize
+    ensures { λ r. ⌜ r ≡ firstUsing basis place ⌝ }
+{
+    match basis {
+        Basis::Bezier => less(place, 1) / 3,
+        Basis::BSpline => less(place, 3),
+        Basis::Cardinal => less(place, 3),
+        Basis::Hermite => less(place, 2) / 2,
+    }
+}
+
+fn last_using(basis: Basis, place: usize) -> usize
+    ensures { λ r. ⌜ r ≡ lastUsing basis place ⌝ }
+{
+    match basis {
+        Basis::Bezier => place / 3,
+        Basis::BSpline => place,
+        Basis::Cardinal => place,
+        Basis::Hermite => place / 2,
+    }
+}
+
+// The first span worked afresh.
+pub fn first_fresh(edit: Edit, basis: Basis, place: usize) -> usize
+    ensures { λ r. ⌜ r ≡ firstFresh edit basis place ⌝ }
+{
+    match edit {
+        Edit::Move(_, _) => first_using(basis, place),
+        Edit::Insert(_, _) => less(place, 3),
+        Edit::Remove => less(place, 3),
+    }
+}
+
+// One past the last span worked afresh, of `spans` in the new shape.
+pub fn past_fresh(edit: Edit, basis: Basis, place: usize, spans: usize) -> usize
+    requires { ⌜ place ≤ 64 ⌝ }
+    ensures { λ r. ⌜ r ≡ pastFresh edit basis place spans ⌝ }
+{
+    match edit {
+        Edit::Move(_, _) => least(last_using(basis, place) + 1, spans),
+        Edit::Insert(_, _) => least(place + 1, spans),
+        Edit::Remove => least(place, spans),
+    }
+}

@@ -1,0 +1,10 @@
+// What an edit asks for: its controls, its counts and the spans that it works afresh. The calls are for crates of this project: some require what those have checked.
+pub mod asking;
+pub mod counts;
+
+// What an edit does at its place: a new record there, a new one before it, or the record taken out.
+pub enum Edit {
+    Move(i32, i32),
+    Insert(i32, i32),
+    Remove,
+}

@@ -1,0 +1,66 @@
+// The checks of an edit: what is asked, and the lent lists.
+ghost use mathlib.Core.Path.{_≡_};
+ghost use Prim.Native.Nat.{_≤_};
+ghost use Rattle.shape.specs.Shape.{mostRecords, mostPoints};
+ghost use Rattle.edit.specs.Reading.{judgeAsk, judgeRoom};
+use asked::Edit;
+use asked::counts::count_after;
+use asked::counts::greatest;
+use asked::counts::is_at_the_end;
+use asked::counts::is_in_range;
+use asked::counts::is_new_outside;
+use asked::counts::is_offered;
+use curve::Basis;
+use shape::Listed;
+use shape::Refusal;
+use shape::first_outside;
+
+// A refusal, as the checks find it.
+fn refused(number: usize, place: usize) -> Listed
+    ensures { λ r. ⌜ r ≡ Listed.Bad (record { number = number; place = place }) ⌝ }
+{
+    Listed::Bad(Refusal { number, place })
+}
+
+// The checks of what is asked in the paper's order, 4, 5, 6.
+pub(crate) fn check_ask(edit: Edit, basis: Basis, place: usize, count: usize) -> Listed
+    ensures { λ r. ⌜ r ≡ judgeAsk edit basis place count ⌝ }
+{
+    if !is_offered(edit, basis) {
+        return refused(4, 0);
+    }
+    if !is_in_range(edit, place, count) {
+        return refused(5, place);
+    }
+    if is_at_the_end(edit, count) {
+        return refused(6, 0);
+    }
+    Listed::Fine
+}
+
+// The checks of the lent lists in the paper's order, 7, 8, 8 for the new record, 9.
+pub(crate) fn check_room(
+    edit: Edit,
+    count: usize,
+    controls: &[i32],
+    most: usize,
+    len: usize,
+) -> Listed
+    requires { ⌜ (1 ≤ count) × (count ≤ mostRecords) × (most ≤ mostPoints) ⌝ }
+    ensures { λ r. ⌜ r ≡ judgeRoom edit count (now (controls .entry)) most len ⌝ }
+{
+    if controls.len() < 2 * greatest(count, count_after(edit, count)) {
+        return refused(7, 0);
+    }
+    let outside = first_outside(controls, count);
+    if outside < count {
+        return refused(8, outside);
+    }
+    if is_new_outside(edit) {
+        return refused(8, count);
+    }
+    if len < 2 * most {
+        return refused(9, 0);
+    }
+    Listed::Fine
+}
