@@ -5,18 +5,17 @@ use lib.Dec.{T, eqb, eqb→eq}
 use lib.IntN.{ℤ, pos, negsuc}
 use Rattle.whole.specs.Nearest.{floor, nearest}
 use Rattle.whole.proofs.Ring.{and-left, and-right}
-use Rattle.curve.specs.Numbers.{dot, tab}
+use Rattle.curve.specs.Numbers.{equal, dot, tab}
 use Rattle.curve.specs.Published.{weights}
 use Rattle.curve.specs.Span.{sixfoldControls, weighted, point}
-use Rattle.curve.specs.Cases.{cases, equal, alike, allHold}
+use Rattle.curve.specs.Cases.{cases, alike, allHold}
 
 pub cases-hold : T (allHold cases)
-unfolding allHold alike equal tab point sixfoldControls weighted weights dot nearest floor
+unfolding allHold alike tab point sixfoldControls weighted weights dot nearest floor
 cases-hold = tt
 
 -- numbers and lists that pass the test are the same
 pub equal-same : (x y : ℤ) → T (equal x y) → x ≡ y
-unfolding equal
 equal-same (pos m) (pos n) t = ap pos (eqb→eq m n t)
 equal-same (negsuc m) (negsuc n) t = ap negsuc (eqb→eq m n t)
 equal-same (pos m) (negsuc n) t = absurd t

@@ -3,12 +3,11 @@
 use mathlib.Core.Bool.{Bool, true, false, _&&_}
 use mathlib.Core.List.{List, [], _∷_}
 use Prim.Native.Nat.{ℕ, suc, _^_}
-use lib.Dec.{eqb}
-use lib.IntN.{ℤ, pos, negsuc}
+use lib.IntN.{ℤ, pos}
 use Rattle.curve.specs.declared.Four.{Four}
 use Rattle.curve.specs.declared.Basis.{Basis}
 use Rattle.curve.specs.declared.Basis.the-variants.{Bezier, BSpline, Cardinal, Hermite}
-use Rattle.curve.specs.Numbers.{neg, four, tab}
+use Rattle.curve.specs.Numbers.{neg, equal, four, tab}
 use Rattle.curve.specs.Span.{point}
 
 pub record Case : Type 0 where
@@ -52,13 +51,7 @@ cases = p1 ∷ p2 ∷ p3 ∷ p4 ∷ p5 ∷ p6 ∷ p7 ∷ p8 ∷ []
 abbrev pub given : Case → List ℤ
 given c = tab (point (c .basis) (c .depth) (c .records)) 0 (suc (2 ^ c .depth))
 
--- Two whole numbers are the same; two lists are, number by number.
-unfoldable pub equal : ℤ → ℤ → Bool
-equal (pos m) (pos n) = eqb m n
-equal (negsuc m) (negsuc n) = eqb m n
-equal (pos m) (negsuc n) = false
-equal (negsuc m) (pos n) = false
-
+-- Two lists are the same, number by number.
 unfoldable pub alike : List ℤ → List ℤ → Bool
 alike [] [] = true
 alike (x ∷ l) (y ∷ m) = equal x y && alike l m

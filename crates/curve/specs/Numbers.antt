@@ -1,11 +1,20 @@
--- Words for the other definitions: four whole numbers of one axis, minus signs as they are printed, and a list made by a rule.
+-- Words for the other definitions: minus signs as they are printed, a test for equality, four whole numbers of one axis, and a list made by a rule.
+use mathlib.Core.Bool.{Bool, false}
 use mathlib.Core.List.{List, [], _∷_}
 use Prim.Native.Nat.{ℕ, zero, suc}
-use lib.IntN.{ℤ, pos, negℤ, _+ℤ_, _*ℤ_}
+use lib.Dec.{eqb}
+use lib.IntN.{ℤ, pos, negsuc, negℤ, _+ℤ_, _*ℤ_}
 use Rattle.curve.specs.declared.Four.{Four}
 
 abbrev pub neg : ℕ → ℤ
 neg n = negℤ (pos n)
+
+-- Two whole numbers are the same.
+abbrev pub equal : ℤ → ℤ → Bool
+equal (pos m) (pos n) = eqb m n
+equal (negsuc m) (negsuc n) = eqb m n
+equal (pos m) (negsuc n) = false
+equal (negsuc m) (pos n) = false
 
 abbrev pub four : ℤ → ℤ → ℤ → ℤ → Four
 four a b c d = record { a = a; b = b; c = c; d = d }

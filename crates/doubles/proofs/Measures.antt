@@ -12,8 +12,9 @@ use lib.Ieee.{Float, nan, inf, fin, up, down}
 use lib.Ieee.Fits.{down-pos}
 use lib.Ieee.Scale.{finite}
 use Rattle.whole.specs.Nearest.{nearest}
+use Rattle.curve.specs.Limits.{limit}
 use Rattle.doubles.specs.Exact.{signed, Value}
-use Rattle.doubles.specs.Number.{limit, thousand, within, measure}
+use Rattle.doubles.specs.Number.{thousand, within, measure}
 use Rattle.doubles.specs.declared.Measure.the-variants.{NotFinite, Outside, Micrometres}
 use Rattle.whole.proofs.Ring.{var, lit, _⊗_, solve}
 use Rattle.doubles.proofs.Rounding.{nearest-same}

@@ -12,8 +12,9 @@ use lib.IntN.{pos}
 use lib.Ieee.{nan, inf, binary64, prec, low, hid, ones, odd, ofFields}
 use lib.Ieee.Exact.{odd-sign}
 use Rattle.whole.specs.Nearest.{nearest}
+use Rattle.curve.specs.Limits.{limit}
 use Rattle.doubles.specs.Exact.{signed}
-use Rattle.doubles.specs.Number.{limit, thousand, within, measure}
+use Rattle.doubles.specs.Number.{thousand, within, measure}
 use Rattle.doubles.specs.declared.Measure.the-variants.{NotFinite, Outside, Micrometres}
 use Rattle.doubles.proofs.Rounding.{nearest-same, nearest-tiny, nearest-far}
 use Rattle.doubles.proofs.Values.{signed-times, value-of}

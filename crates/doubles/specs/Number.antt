@@ -6,13 +6,10 @@ use lib.Dec.{leb}
 use lib.IntN.{ℤ, pos, natAbs}
 use lib.Ieee.{Float, nan, inf, fin, up, down}
 use Rattle.whole.specs.Nearest.{nearest}
+use Rattle.curve.specs.Limits.{limit}
 use Rattle.doubles.specs.Exact.{signed}
 use Rattle.doubles.specs.declared.Measure.{Measure}
 use Rattle.doubles.specs.declared.Measure.the-variants.{NotFinite, Outside, Micrometres}
-
--- A control coordinate is from -4,000,000 to 4,000,000 micrometres.
-abbrev pub limit : ℕ
-limit = 4000000
 
 -- Micrometres in a millimetre.
 abbrev pub thousand : ℕ

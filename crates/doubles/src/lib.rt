@@ -7,6 +7,7 @@ ghost use Rattle.whole.specs.Nearest.{nearest};
 ghost use Rattle.doubles.specs.Exact.{signed, dyadic};
 ghost use Rattle.doubles.specs.Midpoint.{mid, midPair};
 ghost use Rattle.doubles.specs.Number.{thousand, within, measure};
+use curve::LIMIT;
 
 // A point of the preview: a pair of doubles, in micrometres.
 pub struct Pair {
@@ -21,8 +22,8 @@ pub enum Measure {
     Micrometres(i32),
 }
 
-// The limit of a coordinate either way, in micrometres.
-pub const LIMIT: i64 = 4000000;
+// The limit of a coordinate either way, among the values that are rounded.
+const FARTHEST: i64 = LIMIT as i64;
 
 // Micrometres in a millimetre.
 const THOUSAND: u64 = 1000;
@@ -81,10 +82,10 @@ fn round_quarters(z: i64, bits: u32) -> i64
 fn coordinate(n: i64) -> Measure
     ensures { λ r. ⌜ r ≡ within n ⌝ }
 {
-    if n < -LIMIT {
+    if n < -FARTHEST {
         return Measure::Outside;
     }
-    if LIMIT < n {
+    if FARTHEST < n {
         return Measure::Outside;
     }
     Measure::Micrometres(n as i32)

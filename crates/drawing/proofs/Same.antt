@@ -3,14 +3,16 @@ use mathlib.Core.Path.{_≡_, refl, sym, ap, _∙_, subst}
 use mathlib.Core.Bool.{true, false}
 use mathlib.Core.Logic.{⊎-elim}
 use borrow.Author.Tests.{eq-eqb, eqb-true, eqb-false}
-use lib.Dec.{eqb}
+use lib.Dec.{T, eqb}
 use lib.IntN.{ℤ, pos, negsuc}
 use mir.Syntax.{Width}
 use mir.Val.{SFits, toZ, ofZ}
 use Rattle.whole.proofs.Fit.{kept-is}
-use Rattle.shape.proofs.Tests.{passes, and-true, true-is-not-false}
+use Rattle.curve.specs.Numbers.{equal}
+use Rattle.curve.proofs.Cases.{equal-same}
+use Rattle.shape.proofs.Tests.{passes, and-true}
 use Rattle.drawing.specs.declared.Control.{Control}
-use Rattle.drawing.specs.Drawing.{equal, same}
+use Rattle.drawing.specs.Drawing.{same}
 
 itself : (a : ℤ) → equal a a ≡ true
 itself (pos n) = eq-eqb n n refl
@@ -20,10 +22,7 @@ pub is-equal : (a b : ℤ) → a ≡ b → equal a b ≡ true
 is-equal a b e = subst (λ z. equal a z ≡ true) e (itself a)
 
 pub equal-is : (a b : ℤ) → equal a b ≡ true → a ≡ b
-equal-is (pos m) (pos n) e = ap pos (eqb-true m n e)
-equal-is (pos m) (negsuc n) e = absurd (true-is-not-false refl (sym e))
-equal-is (negsuc m) (pos n) e = absurd (true-is-not-false refl (sym e))
-equal-is (negsuc m) (negsuc n) e = ap negsuc (eqb-true m n e)
+equal-is a b e = equal-same a b (subst T (sym e) tt)
 
 pub is-unequal : (a b : ℤ) → (a ≡ b → ⊥) → equal a b ≡ false
 is-unequal a b h = ⊎-elim (λ t. absurd (h (equal-is a b t))) (λ f. f) (passes (equal a b))

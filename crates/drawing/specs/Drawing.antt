@@ -3,10 +3,10 @@
 use mathlib.Core.Bool.{Bool, true, false, cond, _&&_}
 use mathlib.Core.List.{List, [], _∷_}
 use Prim.Native.Nat.{_+_}
-use lib.Dec.{eqb}
 use lib.Ieee.{Float}
-use lib.IntN.{ℤ, pos, negsuc}
+use lib.IntN.{ℤ, pos}
 use lib.ListN.{length}
+use Rattle.curve.specs.Numbers.{equal}
 use Rattle.doubles.specs.Number.{measure, paper}
 use Rattle.drawing.specs.declared.Control.{Control}
 use Rattle.drawing.specs.declared.State.{State}
@@ -36,12 +36,6 @@ opens (Cubic a b c d e f) = false
 opens Close = false
 
 -- Two controls are the same.
-abbrev pub equal : ℤ → ℤ → Bool
-equal (pos m) (pos n) = eqb m n
-equal (pos m) (negsuc n) = false
-equal (negsuc m) (pos n) = false
-equal (negsuc m) (negsuc n) = eqb m n
-
 abbrev pub same : Control → Control → Bool
 same a b = equal (a .x) (b .x) && equal (a .y) (b .y)
 

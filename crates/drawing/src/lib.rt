@@ -13,6 +13,7 @@ ghost use Rattle.drawing.specs.Reading.{miscounted, astray, outOfTurn, b
 ghost use Rattle.drawing.specs.Parts.{judgeState, judgeNumber, judgeControl, extends, goesOn};
 use doubles::Measure;
 use doubles::micrometres;
+use shape::MOST_RECORDS;
 use shape::Refusal;
 use shape::first_outside;
 
@@ -61,9 +62,6 @@ enum Placed {
     At(Control),
     Amiss(Refusal),
 }
-
-// A drawing has at most this many records, as a shape has.
-const MOST_RECORDS: usize = 64;
 
 // One number of a step, at its index: micrometres, or refused with the index.
 fn number(mm: f64, place: usize) -> Numbered

@@ -4,7 +4,7 @@ use Rattle.whole.specs.Nearest.{floor, nearest}
 use Rattle.curve.specs.Numbers.{dot, tab}
 use Rattle.curve.specs.Published.{weights}
 use Rattle.curve.specs.Span.{firstRecord, coordinate, recordsFrom, sixfoldControls, weighted, point}
-use Rattle.curve.specs.Cases.{equal, alike}
+use Rattle.curve.specs.Cases.{alike}
 use Rattle.shape.specs.Shape.{basisOf, spansOf, pointsOf}
 use Rattle.shape.specs.Refusals.{planOf}
 use Rattle.spans.specs.Numbers.{number}
@@ -12,5 +12,5 @@ use Rattle.outline.specs.Outline.{drawn}
 use Rattle.edit.specs.Cases.{flat, cardinal, controlsBefore, heldBefore}
 
 pub starts-drawn : T (alike (drawn (planOf (cardinal 6)) controlsBefore heldBefore) heldBefore)
-unfolding flat alike equal planOf basisOf spansOf pointsOf coordinate tab number firstRecord recordsFrom point sixfoldControls weighted weights dot nearest floor
+unfolding flat alike planOf basisOf spansOf pointsOf coordinate tab number firstRecord recordsFrom point sixfoldControls weighted weights dot nearest floor
 starts-drawn = tt

@@ -22,6 +22,9 @@ const MOST_CONTROLS: usize = 128;
 
 const MOST_NUMBERS: usize = 7810;
 
+// Room for the longest listing: a heading of at most 12 characters, and for each of 3,905 points a line of at most 29.
+pub const MOST_TEXT: usize = 113257;
+
 // Writes the listing of a file, or the line of its refusal, from the start of `text`, and answers how many characters it has: 0 where they do not fit.
 pub fn list_file(file: &[u8], text: &mut [u8]) -> usize
     ensures { λ r. ⌜ Counts r (now (text .exit)) ⌝ }

@@ -1,13 +1,11 @@
 // Reads one record file on standard input, and writes its listing on standard output.
+use file_list::MOST_TEXT;
 use file_list::list_file;
 use libc::STDIN_FILENO;
 use libc::STDOUT_FILENO;
 
 // One byte more than the longest file has, so that a longer one is seen.
 const MOST_BYTES: usize = 769;
-
-// The longest listing: a heading of at most 12 characters, and for each of 3,905 points a line of at most 29.
-const MOST_TEXT: usize = 113257;
 
 fn main() {
     let mut file = [0u8; MOST_BYTES];

@@ -14,6 +14,7 @@ use drawing::State;
 use drawing::Step;
 use drawing::Stepped;
 use edit::Edited;
+use file_list::MOST_TEXT;
 use file_list::list_file;
 use libc::STDOUT_FILENO;
 use outline::Drawn;
@@ -23,9 +24,6 @@ use shape::Shape;
 
 // A place is below 2^63.
 const HALF: u64 = 9223372036854775808;
-
-// The longest listing of a file.
-const MOST_TEXT: usize = 113257;
 
 // The outline, by the way that the operation names.
 fn draw_by(op: u8, shape: Shape, controls: &[i32], points: &mut [i32]) -> Drawn {

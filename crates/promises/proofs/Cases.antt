@@ -5,7 +5,7 @@ use Rattle.curve.specs.Numbers.{dot, tab}
 use Rattle.curve.specs.Published.{weights}
 use Rattle.curve.specs.Span.{firstRecord, coordinate, recordsFrom, sixfoldControls, weighted, point}
 use Rattle.curve.specs.Limits.{beyond}
-use Rattle.curve.specs.Cases.{equal, alike}
+use Rattle.curve.specs.Cases.{alike}
 use Rattle.shape.specs.Shape.{basisOf, recordsOf, spansOf, allowed, pointsOf}
 use Rattle.shape.specs.Refusals.{judge, seek, planOf, outside}
 use Rattle.spans.specs.Numbers.{number, farOff}
@@ -17,5 +17,5 @@ use Rattle.edit.specs.Reading.{edits}
 use Rattle.promises.specs.Cases.{cases, allHold}
 
 pub cases-hold : T (allHold cases)
-unfolding allHold alike equal tab point sixfoldControls weighted weights dot nearest floor firstRecord coordinate recordsFrom basisOf recordsOf spansOf allowed pointsOf judge seek planOf outside number farOff dyadic within measure asked freshCount freshFirst isFresh pointAt edits flat
+unfolding allHold alike tab point sixfoldControls weighted weights dot nearest floor firstRecord coordinate recordsFrom basisOf recordsOf spansOf allowed pointsOf judge seek planOf outside number farOff dyadic within measure asked freshCount freshFirst isFresh pointAt edits flat
 cases-hold = tt

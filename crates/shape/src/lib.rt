@@ -69,7 +69,7 @@ const LAST_BASIS: usize = 4;
 // One span takes four records, whatever the basis; n is at most 64.
 const FEWEST_RECORDS: usize = 4;
 
-const MOST_RECORDS: usize = 64;
+pub const MOST_RECORDS: usize = 64;
 
 // The basis of a number from 1 to 4.
 fn basis_of(number: usize) -> Basis

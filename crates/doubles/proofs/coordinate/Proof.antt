@@ -10,7 +10,7 @@ use lib.Signed.{ltZ}
 use mir.Syntax.{w32, w64}
 use mir.Val.{SFits}
 use Rattle.whole.proofs.Fit.{kept, kept-is}
-use Rattle.doubles.specs.Number.{limit}
+use Rattle.curve.specs.Limits.{limit}
 use Rattle.doubles.specs.declared.Measure.the-variants.{Micrometres}
 use Rattle.doubles.proofs.Measures.{inside, outside}
 use Rattle.doubles.proofs.coordinate.Statement.{statement}

@@ -4,7 +4,8 @@ use mathlib.Core.Bool.{false, _&&_}
 use mir.Syntax.{w32}
 use mir.Val.{ofZ}
 use Rattle.drawing.specs.declared.Control.{Control}
-use Rattle.drawing.specs.Drawing.{equal, same}
+use Rattle.curve.specs.Numbers.{equal}
+use Rattle.drawing.specs.Drawing.{same}
 use Rattle.drawing.proofs.Same.{is-equal, is-unequal, same-bits, bits-test}
 use Rattle.drawing.proofs.is_same.Statement.{statement}
 use Rattle.drawing.proofs.is_same.Tie as tie
