@@ -4,5 +4,6 @@ pub mod Same
 pub mod Records
 pub mod Sequences
 pub mod Shapes
+pub mod Exactly
 pub mod Lines
 pub mod Unique

@@ -6,35 +6,21 @@ use native.Mathlib.Omega.{arith}
 use lib.Ieee.{Float}
 use lib.IntN.{ℤ}
 use lib.Seq.{sets}
-use Rattle.shape.specs.Refusals.{NoRow}
-use Rattle.shape.specs.declared.Refusal.{Refusal}
-use Rattle.shape.proofs.Refusals.{judge-none, only-none}
 use Rattle.drawing.specs.declared.State.{State}
 use Rattle.drawing.specs.declared.Step.{Step}
 use Rattle.drawing.specs.declared.Step.the-variants.{Line}
-use Rattle.drawing.specs.declared.Stepped.the-variants.{Next, Refused}
+use Rattle.drawing.specs.declared.Stepped.the-variants.{Next}
 use Rattle.drawing.specs.Drawing.{at, line, added, flat}
-use Rattle.drawing.specs.Reading.{rows, Outcome, both, refused, accepted, stepped}
+use Rattle.drawing.specs.Reading.{Outcome, both, stepped}
 use Rattle.drawing.specs.Sequences.{Held, Sound, recordAt}
+use Rattle.drawing.proofs.Exactly.{next-none, none-next}
 use Rattle.drawing.proofs.Tables.{fine-begun}
 use Rattle.drawing.proofs.Records.{sets-below, sets-at}
 use Rattle.drawing.proofs.Sequences.{fine, spacious}
 
-next-or-refused : (t : State) (m l : List ℤ) (q : Refusal) → refused l q ≡ both (Next t) m → ⊥
-next-or-refused t m l q e =
-    let answers : Refused q ≡ Next t = ap (λ (o : Outcome). o .answer) e in
-    let z : _≡_ {A = ℕ} 0 1 = cc in
-    omega arith
-
--- a step that answers a next state is one that no row refuses
-pub next-none : (s : State) (step : Step) (l : List ℤ) (t : State) (m : List ℤ) → stepped s step l ≡ both (Next t) m → NoRow (rows s step l)
-unfolding stepped
-next-none s step l t m e = only-none (rows s step l) (refused l) (accepted s step l) (both (Next t) m) (next-or-refused t m l) e
-
+-- the list that a step leaves with a next state
 pub next-list : (s : State) (step : Step) (l : List ℤ) (t : State) (m : List ℤ) → stepped s step l ≡ both (Next t) m → sets l (2 * s .count) (flat (added s step)) ≡ m
-unfolding stepped
-next-list s step l t m e =
-    ap (λ (o : Outcome). o .controls) (sym (judge-none (rows s step l) (refused l) (accepted s step l) (next-none s step l t m e)) ∙ e)
+next-list s step l t m e = ap (λ (o : Outcome). o .controls) (sym (none-next s step l (next-none s step l t m e)) ∙ e)
 
 module _ (h : Held) (k : Sound h) (x y : Float) (t : State) (m : List ℤ) (e : stepped (h .state) (Line x y) (h .controls) ≡ both (Next t) m) where
   pub straight :
