@@ -1,8 +1,12 @@
 -- Boxes and limits, the view, the preview and the drawing, in document 01's words.
 use mathlib.Core.Path.{_≡_}
 use mathlib.Core.List.{List}
-use Prim.Native.Nat.{ℕ, _^_, _≤_}
+use mathlib.Core.Bool.{not}
+use Prim.Native.Nat.{ℕ, _+_, _*_, _^_, _≤_, _<_}
+use lib.Dec.{T}
+use lib.Ieee.{Float, nan}
 use lib.IntN.{ℤ, natAbs}
+use lib.ListN.{getD, length}
 use lib.Signed.{_≤ℤ_}
 use Rattle.curve.specs.declared.Four.{Four}
 use Rattle.curve.specs.declared.Basis.{Basis}
@@ -10,7 +14,19 @@ use Rattle.curve.specs.declared.Basis.the-variants.{Bezier, BSpline}
 use Rattle.curve.specs.Limits.{Box, Inside, limit, reach}
 use Rattle.curve.specs.Span.{point}
 use Rattle.curve.proofs.Limits as curve
-use Rattle.drawing.specs.Sequences.{begin, drawn, Sound}
+use Rattle.shape.specs.declared.Shape.{Shape}
+use Rattle.shape.specs.declared.Plan.{Plan}
+use Rattle.shape.specs.declared.Judged.the-variants.{Sound}
+use Rattle.shape.specs.Shape.{pointsOf}
+use Rattle.shape.specs.Refusals.{judgeShape, planOf}
+use Rattle.outline.specs.View.{partOf, viewed}
+use Rattle.outline.proofs.Views as outline
+use Rattle.doubles.specs.Exact.{Value, minusZero}
+use Rattle.preview.specs.declared.Previewed.the-variants.{Drawn}
+use Rattle.preview.specs.Preview.{sum, both, previewing}
+use Rattle.preview.proofs.Curve as preview
+use Rattle.drawing.specs.Sequences as drawings
+use Rattle.drawing.specs.Sequences.{begin, drawn}
 use Rattle.drawing.specs.declared.Step.{Step}
 use Rattle.drawing.proofs.Sequences as drawing
 
@@ -25,6 +41,16 @@ b-spline-in-box = curve.bSpline-box
 pub within-reach : (b : Basis) (k i : ℕ) (q : Four) → i ≤ 2 ^ k → Inside limit q → natAbs (point b k q i) ≤ reach
 within-reach = curve.point-size
 
+-- no good view is empty: it is its span's 2^k + 1 points, two numbers each
+pub good-view : (s : Shape) (p : Plan) (t : ℕ) (l : List ℤ) → judgeShape s ≡ Sound p → t < p .spans → 2 * pointsOf (p .depth) (p .spans) ≤ length l
+    → length (viewed (partOf s t l) l) ≡ 2 * (2 ^ p .depth + 1)
+good-view = outline.good-view
+
+-- each number of an accepted preview is, exactly, the weighted sum of the plain controls over 2^(3k), and none is minus zero
+pub preview-exact : (s : Shape) (controls : List ℤ) (lent : List Float) (n : ℕ) (l : List Float) → previewing s controls lent ≡ both (Drawn n) l → (q : ℕ) → q < 2 * n
+    → Value (getD l q nan) (sum (s .depth) (planOf s .spans) controls q) (2 ^ (3 * s .depth)) × T (not (minusZero (getD l q nan)))
+preview-exact = preview.drawn-exact
+
 -- any sequence of drawing steps, refused ones among them, leaves a sound drawing
-pub sound-drawing : (l : List ℤ) (steps : List Step) → Sound (drawn (begin l) steps)
+pub sound-drawing : (l : List ℤ) (steps : List Step) → drawings.Sound (drawn (begin l) steps)
 sound-drawing = drawing.sound
