@@ -25,7 +25,7 @@ use Rattle.shape.specs.declared.Listed.the-variants.{Fine, Bad}
 use Rattle.shape.specs.Good.{Good, Lent}
 use Rattle.shape.specs.Shape.{spansOf, recordsOf, mostRecords}
 use Rattle.shape.specs.Refusals.{Row, NoRow, judge, judgeShape, judgeLists, listRows, planOf, outside}
-use Rattle.shape.proofs.Tests.{passes, true-is-not-false, or-false}
+use Rattle.shape.proofs.Tests.{passes, true-is-not-false, or-false, either}
 use Rattle.shape.proofs.Refusals.{sound, unsound, sound-plan, rows-none, rows-bad, rows-fine, none-fine, fine-facts}
 use Rattle.shape.proofs.Spans.{spans-records, spans-below}
 use Rattle.spans.specs.Numbers.{perSpan}
@@ -38,7 +38,6 @@ use Rattle.asked.specs.Edits.{countAfter, spansAfter, offered, inRange, atTheEn
 use Rattle.edit.specs.Carried.{Carriable}
 use Rattle.edit.specs.Reading.{shapeAfter, planAfter, askRows, judgeAsk, roomRows, judgeRoom, editRows, Outcome, refuses, accepts, editsPlan, editsRoom, editsLists, edits}
 use Rattle.edit.specs.Ready.{Editable, Workable}
-use Rattle.edit.proofs.Worked.{either}
 
 -- ---- the new shape
 

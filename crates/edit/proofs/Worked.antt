@@ -19,7 +19,7 @@ use Rattle.curve.specs.Numbers.{tab}
 use Rattle.curve.specs.Span.{coordinate, records, point}
 use Rattle.curve.proofs.Span.{joint}
 use Rattle.curve.proofs.Tab.{length-tab, getD-tab}
-use Rattle.shape.proofs.Tests.{passes, true-is-not-false, and-true}
+use Rattle.shape.proofs.Tests.{passes, either, true-is-not-false, and-true}
 use Rattle.spans.specs.Numbers.{number, perSpan, filled}
 use Rattle.spans.proofs.Numbers.{per-span, located, end-number}
 use Rattle.asked.specs.declared.Edit.{Edit}
@@ -29,9 +29,6 @@ use Rattle.edit.specs.Carried.{runLength}
 use Rattle.curve.proofs.Fills.{before-sets, past-sets, in-sets}
 
 -- ---- what stands at a place of a list that was filled
-
-pub either : (a b : ℕ) → (a < b) ⊎ (b ≤ a)
-either a b = ⊎-elim (λ e. inl (ltb-true a b e)) (λ e. inr (ltb-false a b e)) (passes (ltb a b))
 
 module _ (f : ℕ → ℤ) (q n : ℕ) (l : List ℤ) (i : ℕ) where
   pub in-filled : q ≤ i → i < q + n → q + n ≤ length l → getD (filled f q n l) i (pos 0) ≡ f i

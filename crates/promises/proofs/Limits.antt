@@ -1,6 +1,6 @@
 -- Boxes and limits, the view, the preview and the drawing, in document 01's words.
 use mathlib.Core.Path.{_≡_}
-use mathlib.Core.List.{List}
+use mathlib.Core.List.{List, _++_}
 use mathlib.Core.Bool.{not}
 use Prim.Native.Nat.{ℕ, _+_, _*_, _^_, _≤_, _<_}
 use lib.Dec.{T}
@@ -18,7 +18,12 @@ use Rattle.shape.specs.declared.Shape.{Shape}
 use Rattle.shape.specs.declared.Plan.{Plan}
 use Rattle.shape.specs.declared.Judged.the-variants.{Sound}
 use Rattle.shape.specs.Shape.{pointsOf}
-use Rattle.shape.specs.Refusals.{judgeShape, planOf}
+use Rattle.shape.specs.Refusals.{NoRow, shapeRows, listRows, judgeShape, planOf}
+use Rattle.outline.specs.Outline.{points, accepts, draws}
+use Rattle.outline.proofs.Near as drawing-near
+use Rattle.asked.specs.declared.Edit.{Edit}
+use Rattle.edit.specs.Reading as edit
+use Rattle.edit.proofs.Near as editing-near
 use Rattle.outline.specs.View.{partOf, viewed}
 use Rattle.outline.proofs.Views as outline
 use Rattle.doubles.specs.Exact.{Value, minusZero}
@@ -37,9 +42,17 @@ bezier-in-box = curve.bezier-box
 pub b-spline-in-box : (k i : ℕ) (q : Four) (lo hi : ℤ) → i ≤ 2 ^ k → Box lo hi q → (lo ≤ℤ point BSpline k q i) × (point BSpline k q i ≤ℤ hi)
 b-spline-in-box = curve.bSpline-box
 
--- every point lies within 5,000,000 either way, so row 16 is never given
+-- every point of records inside the limits lies within 5,000,000 either way
 pub within-reach : (b : Basis) (k i : ℕ) (q : Four) → i ≤ 2 ^ k → Inside limit q → natAbs (point b k q i) ≤ reach
 within-reach = curve.point-size
+
+-- so row 16 is never given: where no earlier row holds, the outline is drawn, and the edit is done
+pub always-drawn : (s : Shape) (controls lent : List ℤ) → NoRow (shapeRows s ++ listRows (s .count) controls (points (planOf s)) (length lent)) → draws s controls lent ≡ accepts (planOf s) controls lent
+always-drawn = drawing-near.never-far
+
+pub always-done : (e : Edit) (s : Shape) (j : ℕ) (controls lent : List ℤ) → NoRow (editing-near.earlyRows e s j controls lent)
+    → edit.edits e s j controls lent ≡ edit.accepts e s (planOf (edit.shapeAfter e s)) j controls lent
+always-done = editing-near.never-far
 
 -- no good view is empty: it is its span's 2^k + 1 points, two numbers each
 pub good-view : (s : Shape) (p : Plan) (t : ℕ) (l : List ℤ) → judgeShape s ≡ Sound p → t < p .spans → 2 * pointsOf (p .depth) (p .spans) ≤ length l

@@ -19,14 +19,14 @@ use Rattle.curve.specs.Numbers.{four}
 use Rattle.curve.specs.Span.{firstRecord, coordinate, recordsFrom, records, point}
 use Rattle.curve.proofs.Tab.{getD-tab}
 use Rattle.shape.specs.Shape.{recordsOf}
-use Rattle.shape.proofs.Tests.{passes, true-is-not-false}
+use Rattle.shape.proofs.Tests.{passes, either, true-is-not-false}
 use Rattle.shape.proofs.Spans.{last-record}
 use Rattle.spans.specs.Numbers.{number, perSpan}
 use Rattle.spans.proofs.Numbers.{located}
 use Rattle.asked.specs.declared.Edit.{Edit}
 use Rattle.asked.specs.declared.Edit.the-variants.{Move, Insert, Remove}
 use Rattle.asked.specs.Edits.{countAfter, spansAfter, offered, inRange, choose, controlAt, asked, firstFresh, pastFresh, carriedFrom, isFresh, pointAt}
-use Rattle.edit.proofs.Worked.{either, fewer-numbers, fresh-facts, fresh-at, stays-at, carried-at}
+use Rattle.edit.proofs.Worked.{fewer-numbers, fresh-facts, fresh-at, stays-at, carried-at}
 use Rattle.edit.proofs.Rows.{records-then}
 
 -- ---- the records of the new controls that were there before

@@ -2,7 +2,7 @@
 use mathlib.Core.Path.{_≡_, sym, ap, subst}
 use mathlib.Core.Bool.{true, false}
 use mathlib.Core.List.{List}
-use Prim.Native.Nat.{ℕ, _+_, _*_, max, _≤_, _<_}
+use Prim.Native.Nat.{ℕ, _+_, _*_, _≤_, _<_}
 use native.Mathlib.Omega.{arith}
 use lib.Dec.{ltb}
 use lib.IntN.{ℤ, pos}
@@ -11,19 +11,18 @@ use lib.Seq.{sets}
 use Rattle.curve.proofs.Tab.{tab-same}
 use Rattle.shape.specs.declared.Shape.{Shape}
 use Rattle.shape.specs.declared.Plan.{Plan}
-use Rattle.shape.specs.declared.Listed.the-variants.{Fine, Bad}
 use Rattle.shape.specs.Good.{Good, Lent}
 use Rattle.shape.specs.Shape.{recordsOf}
 use Rattle.shape.specs.Refusals.{NoRow, planOf}
-use Rattle.shape.proofs.Refusals.{judge-none, none-sound, sound-facts}
 use Rattle.spans.specs.Numbers.{perSpan}
 use Rattle.outline.specs.Outline.{numbers, points, firstFar, drawn}
 use Rattle.outline.proofs.Draws.{all-numbers}
 use Rattle.asked.specs.declared.Edit.{Edit}
 use Rattle.asked.specs.Edits.{countAfter, inRange, asked, pointAt}
-use Rattle.edit.specs.Reading.{shapeAfter, planAfter, askRows, judgeAsk, roomRows, judgeRoom, pointsAfter}
+use Rattle.edit.specs.Reading.{shapeAfter, planAfter, pointsAfter}
 use Rattle.edit.specs.Ready.{Editable, Workable}
-use Rattle.edit.proofs.Rows.{editable, good-after, plan-after, workable, new-lent}
+use Rattle.edit.proofs.Rows.{good-after, workable, new-lent}
+use Rattle.edit.proofs.Near.{earlyRows, may-edit, same-plan, room-fine}
 use Rattle.edit.proofs.Exactly.{callRows}
 use Rattle.sequences.proofs.Kept.{point-drawn}
 
@@ -60,37 +59,33 @@ module _ (e : Edit) (s : Shape) (j : ℕ) (controls lent : List ℤ) (none : NoR
   abbrev q : Plan
   q = planOf (shapeAfter e s)
 
-  pub may-edit : Editable e s p j
-  unfolding judgeAsk
-  may-edit =
-      editable e s p j controls lent (sound-facts s p (none-sound s (none .0, (none .1 .0, (none .1 .1 .0, tt)))))
-      (judge-none (askRows e (p .basis) j (s .count)) Bad Fine (none .1 .1 .1 .0, (none .1 .1 .1 .1 .0, (none .1 .1 .1 .1 .1 .0, tt))))
+  -- rows 1 to 9 among them
+  early : NoRow (earlyRows e s j controls lent)
+  early =
+      let room = none .1 .1 .1 .1 .1 .1 in
+      (none .0, (none .1 .0, (none .1 .1 .0, (none .1 .1 .1 .0, (none .1 .1 .1 .1 .0, (none .1 .1 .1 .1 .1 .0, (room .0, (room .1 .0, (room .1 .1 .0, (room .1 .1 .1 .0, tt))))))))))
 
-  pub same-plan : q ≡ planAfter e p
-  same-plan = plan-after e s p j may-edit
+  allowed : Editable e s p j
+  allowed = may-edit e s j controls lent early
 
-  fine : judgeRoom e (s .count) controls (max (points p) (points (planAfter e p))) (length lent) ≡ Fine
-  unfolding judgeRoom
-  fine =
-      let rows = none .1 .1 .1 .1 .1 .1 in
-      let room : NoRow (roomRows e (s .count) controls (max (points p) (points q)) (length lent)) = (rows .0, (rows .1 .0, (rows .1 .1 .0, (rows .1 .1 .1 .0, tt)))) in
-      judge-none (roomRows e (s .count) controls (max (points p) (points (planAfter e p))) (length lent)) Bad Fine (subst (λ r. NoRow (roomRows e (s .count) controls (max (points p) (points r)) (length lent))) same-plan room)
+  same : q ≡ planAfter e p
+  same = same-plan e s j controls lent early
 
   ready : Workable e s (planAfter e p) j controls (length lent)
-  ready = workable e s p j may-edit controls (length lent) fine
+  ready = workable e s p j allowed controls (length lent) (room-fine e s j controls lent early)
 
   pub lent-then : Lent (countAfter e (s .count)) (asked e j controls (countAfter e (s .count))) 0 (length lent)
-  lent-then = new-lent e s p j may-edit controls (length lent) fine
+  lent-then = new-lent e s p j allowed controls (length lent) (room-fine e s j controls lent early)
 
   pub reach-then : ltb (firstFar q (asked e j controls (countAfter e (s .count)))) (points q) ≡ false
   reach-then = none .1 .1 .1 .1 .1 .1 .1 .1 .1 .1 .0
 
   pub good-then : Good (shapeAfter e s) q
-  good-then = subst (λ r. Good (shapeAfter e s) r) (sym same-plan) (ready .good)
+  good-then = subst (λ r. Good (shapeAfter e s) r) (sym same) (ready .good)
 
   pub room-then : 2 * points q ≤ length lent
   room-then =
-      subst (λ r. 2 * points r ≤ length lent) (sym same-plan) (omega (arith, all-numbers (p .depth) (planAfter e p .spans), ready .points-room))
+      subst (λ r. 2 * points r ≤ length lent) (sym same) (omega (arith, all-numbers (p .depth) (planAfter e p .spans), ready .points-room))
 
   pub controls-room : 2 * countAfter e (s .count) ≤ length controls
   controls-room = ready .room
@@ -98,5 +93,5 @@ module _ (e : Edit) (s : Shape) (j : ℕ) (controls lent : List ℤ) (none : NoR
   -- The points are those of the outline of the controls asked for, drawn whole.
   pub edit-draws : ((i : ℕ) → i < 2 * points p → getD lent i (pos 0) ≡ numbers p controls i) → pointsAfter e s q j controls lent ≡ drawn q (asked e j controls (countAfter e (s .count))) lent
   edit-draws held =
-      subst (λ r. pointsAfter e s r j controls lent ≡ drawn r (asked e j controls (countAfter e (s .count))) lent) (sym same-plan)
-      (plan-draws e s p j may-edit controls lent (subst (λ r. 2 * points r ≤ length lent) same-plan room-then) held)
+      subst (λ r. pointsAfter e s r j controls lent ≡ drawn r (asked e j controls (countAfter e (s .count))) lent) (sym same)
+      (plan-draws e s p j allowed controls lent (subst (λ r. 2 * points r ≤ length lent) same room-then) held)
