@@ -18,7 +18,7 @@ use Rattle.listing.specs.Listing.{outlineText}
 use Rattle.file_list.specs.Files.{shapeText, fileText}
 
 -- basis 1, depth 1 and records (0,0), (0,8), (8,8), (8,0)
-abbrev file : List ℕ
+abbrev pub file : List ℕ
 file =
     1 ∷ 1 ∷ 0 ∷ 0 ∷ 0 ∷ 0 ∷ 0 ∷ 0 ∷ 0 ∷ 0 ∷ 0 ∷ 0
     ∷ 1 ∷ 1 ∷ 0 ∷ 0 ∷ 0 ∷ 0 ∷ 0 ∷ 0 ∷ 8 ∷ 0 ∷ 0 ∷ 0
@@ -27,7 +27,7 @@ file =
     ∷ []
 
 -- "1 1 1 3", "0 0 0", "1 4 6", "2 8 0", a line each
-abbrev listing : List ℕ
+abbrev pub listing : List ℕ
 listing =
     49 ∷ 32 ∷ 49 ∷ 32 ∷ 49 ∷ 32 ∷ 51 ∷ 10
     ∷ 48 ∷ 32 ∷ 48 ∷ 32 ∷ 48 ∷ 10

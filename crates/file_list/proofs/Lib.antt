@@ -1,3 +1,6 @@
 pub mod Examples
 pub mod Texts
+pub mod Read
+pub mod Lengths
+pub mod Fits
 pub mod Unique

@@ -38,7 +38,7 @@ pointsIn (drawn.Refused r) = 0
 
 module _ (s : Shape) (c : List ℤ) where
   -- what drawing answered, and left in the points
-  text-then : (o : outline.Outcome) → draws s c points ≡ o → shapeText s c ≡ answeredText s (o .held) (o .answer)
+  pub text-then : (o : outline.Outcome) → draws s c points ≡ o → shapeText s c ≡ answeredText s (o .held) (o .answer)
   unfolding shapeText
   text-then o e = ap (λ (o : outline.Outcome). answeredText s (o .held) (o .answer)) e
 

@@ -49,6 +49,10 @@ readText held (read.Refused r) = refusedText r
 unfoldable pub fileText : List ℕ → List ℕ
 fileText file = let o = reading file controls in readText (o .held) (o .answer)
 
+-- Room for the longest: a heading of at most 12 characters, and for each of 3,905 points a line of at most 29, with 32-bit coordinates.
+abbrev pub mostText : ℕ
+mostText = 113257
+
 -- An answer, how many characters were written, and what the lent text holds then.
 pub record Outcome : Type 0 where
   pub count : ℕ

@@ -63,7 +63,7 @@ pub width-more : (n : ℕ) → 10 ≤ n → length (natural n) ≡ length (natur
 width-more n h = ap length (natural-more n h) ∙ length-append (natural (n / 10)) (digit (n % 10) ∷ [])
 
 -- a number below 10 ^ k, k at least one, has at most k digits
-at-most : (k n : ℕ) → n < 10 ^ suc k → length (natural n) ≤ suc k
+pub at-most : (k n : ℕ) → n < 10 ^ suc k → length (natural n) ≤ suc k
 at-most zero n h = omega (arith, width-few n h)
 at-most (suc k) n h =
     cases n

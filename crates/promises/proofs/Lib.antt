@@ -1,6 +1,7 @@
 pub mod Refusals
 pub mod Points
 pub mod Limits
+pub mod Listings
 pub mod Editing
 pub mod Unique
 pub mod Cases

@@ -52,6 +52,11 @@ unfolding judge
 judge-append [] rest f a = refl
 judge-append (x ∷ rows) rest f a = ap (cond (x .holds) (f (x .refusal))) (judge-append rows rest f a)
 
+-- no row of a table holds, so none of its later part
+pub none-later : (rows rest : List Row) → NoRow (rows ++ rest) → NoRow rest
+none-later [] rest h = h
+none-later (x ∷ rows) rest h = none-later rows rest (h .1)
+
 pub verdict : (rows : List Row) → ((r : Refusal) × First rows r) ⊎ NoRow rows
 verdict [] = inr tt
 verdict (x ∷ rows) =

@@ -1,0 +1,100 @@
+-- The listing of every file fits the room for the longest: a file is refused by a row whose number and place are small, or its outline is drawn and its points are near.
+use mathlib.Core.Path.{_≡_, sym, ap, _∙_, subst}
+use mathlib.Core.Bool.{false, _||_}
+use mathlib.Core.List.{List, _++_}
+use mathlib.Core.Logic.{_⊎_, inl, inr, ⊎-elim}
+use Prim.Native.Nat.{ℕ, zero, suc, _+_, _*_, _/_, _^_, _≤_, _<_}
+use native.Mathlib.Omega.{arith}
+use borrow.Author.Tests.{ltb-false}
+use lib.Dec.{ltb, eqb}
+use lib.IntN.{ℤ}
+use lib.ListN.{length, take, drop}
+use lib.Seq.{sets, sets-eq, take-at}
+use Rattle.curve.specs.Numbers.{tab}
+use Rattle.curve.proofs.Tab.{length-tab}
+use Rattle.shape.specs.declared.Refusal.{Refusal}
+use Rattle.shape.specs.Refusals.{Row, First, NoRow, outside}
+use Rattle.shape.proofs.Refusals.{verdict}
+use Rattle.shape.proofs.Seek.{seek-to}
+use Rattle.shape.proofs.Tests.{or-false}
+use Rattle.outline.specs.Outline as outline
+use Rattle.outline.proofs.Near.{number-near}
+use Rattle.record_file.specs.Format.{numbers}
+use Rattle.record_file.specs.Rows.{mostBytes, recordCount, recordRows, laterRows, fileRows}
+use Rattle.record_file.proofs.Readings.{refused-when, read-when}
+use Rattle.listing.specs.Listing.{outlineText}
+use Rattle.file_list.specs.Files.{controls, points, mostText, fileText}
+use Rattle.file_list.proofs.Texts.{text-then, read-text, unread-text}
+use Rattle.file_list.proofs.Read.{s, p, held, good, lent, few-points, read-drawn}
+use Rattle.file_list.proofs.Lengths.{refusal-length, outline-length}
+
+-- ---- a refusal's number and place have at most two digits
+
+record Short (r : Refusal) : Type 0 where
+  number : r .number < 10 ^ 2
+  place : r .place < 10 ^ 2
+
+short : {q r : Refusal} → q ≡ r → q .number < 10 ^ 2 → q .place < 10 ^ 2 → Short r
+short e few low = subst Short e (record { number = few; place = low })
+
+module _ (file : List ℕ) where
+  in-records : (i m : ℕ) (rest : List Row) (r : Refusal) → i + m ≤ 64 → First (recordRows file i m ++ rest) r → Short r ⊎ First rest r
+  unfolding recordRows
+  in-records i zero rest r few f = inr f
+  in-records i (suc m) rest r few (inl (holds, e)) = inl (short e (omega arith) (omega arith))
+  in-records i (suc m) rest r few (inr (h, inl (holds, e))) = inl (short e (omega arith) (omega arith))
+  in-records i (suc m) rest r few (inr (h, inr (k, f))) = in-records (suc i) m rest r (omega arith) f
+
+  in-later : (m : ℕ) (r : Refusal) → m ≤ 64 → First (laterRows file m controls) r → Short r
+  in-later m r few (inl (holds, e)) = short e (omega arith) (omega arith)
+  in-later m r few (inr (a, inl (holds, e))) = short e (omega arith) (omega arith)
+  in-later m r few (inr (a, inr (b, inl (holds, e)))) = short e (omega arith) (omega arith)
+  in-later m r few (inr (a, inr (b, inr (c, inl (holds, e))))) = short e (omega arith) (omega arith)
+  in-later m r few (inr (a, inr (b, inr (c, inr (d, inl (holds, e)))))) =
+      short e (omega arith) (omega (arith, seek-to (outside (numbers file m)) 0 m))
+  in-later m r few (inr (a, inr (b, inr (c, inr (d, inr (f, none)))))) = absurd none
+
+  refused-short : (r : Refusal) → First (fileRows file controls) r → Short r
+  refused-short r (inl (holds, e)) = short e (omega arith) (omega arith)
+  refused-short r (inr (a, inl (holds, e))) = short e (omega arith) (omega arith)
+  refused-short r (inr (a, inr (b, f))) =
+      let long = or-false (eqb (length file) 0) (ltb mostBytes (length file)) a in
+      let few : recordCount file ≤ 64 = omega (arith, ltb-false mostBytes (length file) (long .1)) in
+      ⊎-elim (λ h. h) (λ g. in-later (recordCount file) r few g) (in-records 0 (recordCount file) (laterRows file (recordCount file) controls) r (omega (arith, few)) f)
+
+  refused-fits : (r : Refusal) → First (fileRows file controls) r → length (fileText file) ≤ mostText
+  refused-fits r f =
+      let few = refused-short r f in
+      subst (λ t. length t ≤ mostText) (sym (unread-text file r controls (refused-when file controls r f))) (omega (arith, refusal-length (r .number) (r .place) (few .number) (few .place)))
+
+-- ---- what is drawn
+
+-- the numbers that were written at the start of a list
+front : (l : List ℤ) (f : ℕ → ℤ) (m : ℕ) → m ≤ length l → take m (sets l 0 (tab f 0 m)) ≡ tab f 0 m
+front l f m room =
+    let vs = tab f 0 m in
+    let fits : 0 + length vs ≤ length l = omega (arith, length-tab f 0 m) in
+    ap (take m) (sets-eq vs l 0 fits) ∙ take-at vs (drop (0 + length vs) l) m (length-tab f 0 m)
+
+drawn-fits : (file : List ℕ) → NoRow (fileRows file controls) → length (fileText file) ≤ mostText
+drawn-fits file none =
+    let sh = s file none in
+    let q = p file none in
+    let c = held file none in
+    let m = outline.points q in
+    let f = outline.numbers q c in
+    let ok = good file none in
+    let few = few-points file none in
+    let text : fileText file ≡ outlineText (sh .basis) (sh .depth) (q .spans) (tab f 0 (2 * m)) =
+    read-text file sh c (read-when file controls none)
+    ∙ text-then sh c (outline.accepts q c points) (read-drawn file none)
+    ∙ ap (outlineText (sh .basis) (sh .depth) (q .spans)) (front points f (2 * m) (omega (arith, few))) in
+    let long =
+    outline-length (sh .basis) (sh .depth) (q .spans) f m (omega (arith, ok .basis-most)) (omega (arith, ok .depth, ok .depth-most)) (omega (arith, ok .spans-most, ok .records-most)) few
+    (λ i h. omega (arith, number-near sh q ok c m (length points) (lent file none) i h))
+    (length-tab f 0 (2 * m)) in
+    subst (λ t. length t ≤ mostText) (sym text) (omega (arith, long, few))
+
+-- So what `list_file` writes into a text of that length is the whole listing, for every file.
+pub fits : (file : List ℕ) → length (fileText file) ≤ mostText
+fits file = ⊎-elim (λ (v : (r : Refusal) × First (fileRows file controls) r). refused-fits file (v .0) (v .1)) (drawn-fits file) (verdict (fileRows file controls))

@@ -1,0 +1,74 @@
+-- A file that is read is drawn: its shape is sound, its records are inside the limits, and the lists have room for the most records and points.
+use mathlib.Core.Path.{_≡_, sym, ap, _∙_}
+use mathlib.Core.Bool.{false}
+use mathlib.Core.List.{List, _++_}
+use Prim.Native.Nat.{ℕ, _+_, _*_, _^_, _≤_}
+use native.Mathlib.Nat.{mul-le-mul, pow-le-pow-right}
+use native.Mathlib.Omega.{arith}
+use borrow.Author.Tests.{le-ltb}
+use lib.Dec.{ltb, lit<}
+use lib.IntN.{ℤ, pos}
+use lib.ListN.{length}
+use lib.Seq.{sets, length-sets}
+use Rattle.curve.proofs.Tab.{length-tab}
+use Rattle.shape.specs.declared.Shape.{Shape}
+use Rattle.shape.specs.declared.Plan.{Plan}
+use Rattle.shape.specs.Good.{Good, Lent}
+use Rattle.shape.specs.Shape.{pointsOf}
+use Rattle.shape.specs.Refusals.{NoRow, listRows, planOf}
+use Rattle.shape.proofs.Refusals.{none-later, none-sound, sound-facts, none-fine, fine-facts}
+use Rattle.outline.specs.Outline as outline
+use Rattle.outline.specs.Outline.{accepts, draws}
+use Rattle.outline.proofs.Near.{never-far}
+use Rattle.record_file.specs.Format as format
+use Rattle.record_file.specs.Format.{numbers}
+use Rattle.record_file.specs.Rows.{recordCount, recordRows, laterRows, shapeOf, fileRows}
+use Rattle.record_file.proofs.Outside.{outside-written}
+use Rattle.file_list.specs.Files.{controls, points}
+
+module _ (file : List ℕ) (none : NoRow (fileRows file controls)) where
+  abbrev pub n : ℕ
+  n = recordCount file
+
+  abbrev pub s : Shape
+  s = shapeOf file n
+
+  abbrev pub p : Plan
+  p = planOf s
+
+  abbrev pub held : List ℤ
+  held = sets controls 0 (numbers file n)
+
+  later : NoRow (laterRows file n controls)
+  later = none-later (recordRows file 0 n) (laterRows file n controls) (none .1 .1)
+
+  pub good : Good s p
+  good = sound-facts s p (none-sound s (later .0, (later .1 .0, (later .1 .1 .0, tt))))
+
+  room : 2 * n ≤ length controls
+  room = omega (arith, good .records-most)
+
+  -- 61 spans at depth 6
+  pub few-points : outline.points p ≤ 3905
+  unfolding pointsOf
+  few-points =
+      let steps : 2 ^ p .depth ≤ 2 ^ 6 = pow-le-pow-right {n = 2} (omega arith) (good .depth-most) in
+      let spans : p .spans ≤ 61 = omega (arith, good .spans-most, good .records-most) in
+      let all : p .spans * 2 ^ p .depth ≤ 61 * 2 ^ 6 = mul-le-mul spans steps in
+      omega (arith, all)
+
+  -- rows 7, 8 and 9 for the controls that were read
+  lists : NoRow (listRows n held (outline.points p) (length points))
+  lists = (
+    le-ltb (length held) (2 * n) (omega (arith, room, length-sets controls 0 (numbers file n))),
+    (
+      ap (λ (m : ℕ). ltb m n) (outside-written controls (numbers file n) n (length-tab (format.number file) 0 (2 * n)) room) ∙ later .1 .1 .1 .1 .0,
+      (le-ltb (length points) (2 * outline.points p) (omega (arith, few-points)), tt),
+    ),
+  )
+
+  pub lent : Lent n held (outline.points p) (length points)
+  lent = fine-facts n held (outline.points p) (length points) (none-fine n held (outline.points p) (length points) lists)
+
+  pub read-drawn : draws s held points ≡ accepts p held points
+  read-drawn = never-far s held points (later .0, (later .1 .0, (later .1 .1 .0, lists)))
