@@ -1,14 +1,14 @@
 // The records that call the library, on the lent parts of the lists, and write what it answers.
-use crate::bench::Bench;
-use crate::bench::Turn;
-use crate::record::Placed;
-use crate::record::Record;
-use crate::record::control;
-use crate::record::double;
 use crate::text::say;
 use crate::text::say_numbers;
 use crate::text::say_refusal;
 use crate::text::say_state;
+use bench::Bench;
+use bench::Placed;
+use bench::Record;
+use bench::Turn;
+use bench::control;
+use bench::double;
 use drawing::Control;
 use drawing::State;
 use drawing::Step;

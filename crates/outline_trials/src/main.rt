@@ -1,17 +1,20 @@
 // Plays a trials file from standard input: records of 56 bytes, one after the other, each a call of the library, and writes what the calls answer.
 ghost use Prim.Native.Nat.{_≤_};
 
-mod bench;
 mod calls;
-mod record;
-mod setting;
 mod text;
 
 use bench::Bench;
+use bench::Record;
 use bench::Turn;
+use bench::decoded;
+use bench::empty_file;
+use bench::lend;
+use bench::more_file;
+use bench::set_number;
+use bench::set_shape;
+use bench::set_state;
 use libc::STDIN_FILENO;
-use record::Record;
-use record::decoded;
 use text::say;
 use text::say_numbers;
 use text::say_patterns;
@@ -64,8 +67,8 @@ fn play_lent(
 ) -> Turn {
     let op = r.op;
     match op {
-        3 => setting::set_number(bench, r, controls),
-        4 => setting::set_number(bench, r, points),
+        3 => set_number(bench, r, controls),
+        4 => set_number(bench, r, points),
         10 | 11 | 12 => calls::draw(bench, op, controls, points),
         20 | 21 => calls::place_record(bench, r, controls, points),
         22 => calls::remove_record(bench, r, controls, points),
@@ -112,11 +115,11 @@ fn play(
     let r = decoded(bytes);
     let op = r.op;
     match op {
-        1 => setting::lend(bench, r, controls, points, preview),
-        2 => setting::set_shape(bench, r),
-        5 => Turn::Next(bench.with_file(0)),
-        6 => setting::more_file(bench, r, bytes, file),
-        50 => setting::set_state(bench, r),
+        1 => lend(bench, r, controls, points, preview),
+        2 => set_shape(bench, r),
+        5 => empty_file(bench),
+        6 => more_file(bench, r, bytes, file),
+        50 => set_state(bench, r),
         _ => lent(bench, r, controls, points, preview, file),
     }
 }

@@ -3,8 +3,8 @@ use mathlib.Core.Path.{_≡_}
 use Prim.Native.Nat.{_-_}
 use borrow.Author.Needs.{needs}
 use lib.ListN.{length}
-use Rattle.outline_trials.proofs.setting.append.Statement.{statement}
-use Rattle.outline_trials.proofs.setting.append.Tie as tie
+use Rattle.bench.proofs.setting.append.Statement.{statement}
+use Rattle.bench.proofs.setting.append.Tie as tie
 
 abbrev Inv-loop : tie.InvT-loop
 Inv-loop bytes more file₀ at i₀ file i = length file ≡ length file₀

@@ -3,8 +3,8 @@ use mathlib.Core.Path.{sym, _∙_, subst}
 use mathlib.Core.Bool.{not}
 use lib.Dec.{T}
 use borrow.Author.Needs.{needs}
-use Rattle.outline_trials.proofs.record.double.Statement.{statement}
-use Rattle.outline_trials.proofs.record.double.Tie as tie
+use Rattle.bench.proofs.record.double.Statement.{statement}
+use Rattle.bench.proofs.record.double.Tie as tie
 
 is-nan-requires : tie.Need-is-nan-requires
 is-nan-requires c κs = search needs

@@ -1,8 +1,25 @@
-// What a trials file works on, beside the lists: the shape, the drawing state, and how much of each list and of the file is lent.
+// What a trials file works on: its records, and the records that set the bench up. No public call has a `requires`.
+mod record;
+mod setting;
+
 use drawing::State;
+pub use record::Number;
+pub use record::Placed;
+pub use record::Record;
+pub use record::control;
+pub use record::coordinate;
+pub use record::decoded;
+pub use record::double;
+pub use setting::empty_file;
+pub use setting::lend;
+pub use setting::more_file;
+pub use setting::set_number;
+pub use setting::set_shape;
+pub use setting::set_state;
 use shape::Shape;
 
-pub(crate) struct Bench {
+// What a trials file works on, beside the lists: the shape, the drawing state, and how much of each list and of the file is lent.
+pub struct Bench {
     pub shape: Shape,
     pub state: State,
     pub controls: usize,
@@ -12,7 +29,7 @@ pub(crate) struct Bench {
 }
 
 // What playing a record comes to: the bench afterwards, that the record is bad, or that the input has ended.
-pub(crate) enum Turn {
+pub enum Turn {
     Next(Bench),
     Bad,
     End,
@@ -20,7 +37,7 @@ pub(crate) enum Turn {
 
 impl Bench {
     // The bench before the first record.
-    pub(crate) fn new() -> Bench {
+    pub fn new() -> Bench {
         let state = State::new();
         Bench {
             shape: Shape {
@@ -36,7 +53,7 @@ impl Bench {
         }
     }
 
-    pub(crate) fn with_shape(self, shape: Shape) -> Bench {
+    pub fn with_shape(self, shape: Shape) -> Bench {
         let state = self.state;
         Bench {
             shape,
@@ -48,7 +65,7 @@ impl Bench {
         }
     }
 
-    pub(crate) fn with_state(self, state: State) -> Bench {
+    pub fn with_state(self, state: State) -> Bench {
         let shape = self.shape;
         Bench {
             shape,
@@ -60,7 +77,7 @@ impl Bench {
         }
     }
 
-    pub(crate) fn with_lists(self, controls: usize, points: usize, preview: usize) -> Bench {
+    fn with_lists(self, controls: usize, points: usize, preview: usize) -> Bench {
         let shape = self.shape;
         let state = self.state;
         Bench {
@@ -73,7 +90,7 @@ impl Bench {
         }
     }
 
-    pub(crate) fn with_file(self, file: usize) -> Bench {
+    fn with_file(self, file: usize) -> Bench {
         let shape = self.shape;
         let state = self.state;
         Bench {

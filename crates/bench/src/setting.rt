@@ -1,8 +1,8 @@
 // The records that set the bench up, and write nothing.
 ghost use Prim.Native.Nat.{_+_, _≤_};
 ghost use lib.ListN.{length};
-use crate::bench::Bench;
-use crate::bench::Turn;
+use crate::Bench;
+use crate::Turn;
 use crate::record::Number;
 use crate::record::Placed;
 use crate::record::Record;
@@ -37,7 +37,7 @@ fn fill_doubles(list: &mut [f64], x: f64) {
 }
 
 // Lends so much of each list, every number in them the same.
-pub(crate) fn lend(
+pub fn lend(
     bench: Bench,
     r: Record,
     controls: &mut [i32],
@@ -62,7 +62,7 @@ pub(crate) fn lend(
     Turn::Next(bench.with_lists(r.a as usize, r.b as usize, r.c as usize))
 }
 
-pub(crate) fn set_shape(bench: Bench, r: Record) -> Turn {
+pub fn set_shape(bench: Bench, r: Record) -> Turn {
     if r.a > MOST_32 {
         return Turn::Bad;
     }
@@ -80,7 +80,7 @@ pub(crate) fn set_shape(bench: Bench, r: Record) -> Turn {
 }
 
 // One number of a list.
-pub(crate) fn set_number(bench: Bench, r: Record, list: &mut [i32]) -> Turn {
+pub fn set_number(bench: Bench, r: Record, list: &mut [i32]) -> Turn {
     let at = r.a as usize;
     let Number::Fits(z) = coordinate(r.b) else {
         return Turn::Bad;
@@ -90,6 +90,11 @@ pub(crate) fn set_number(bench: Bench, r: Record, list: &mut [i32]) -> Turn {
     }
     list[at] = z;
     Turn::Next(bench)
+}
+
+// The file becomes empty.
+pub fn empty_file(bench: Bench) -> Turn {
+    Turn::Next(bench.with_file(0))
 }
 
 // The record's first `more` bytes of the file, from place `at` on.
@@ -104,7 +109,7 @@ fn append(bytes: &[u8; 56], more: usize, file: &mut [u8], at: usize)
 }
 
 // More bytes at the end of the file, if there is room for them.
-pub(crate) fn more_file(bench: Bench, r: Record, bytes: &[u8; 56], file: &mut [u8]) -> Turn {
+pub fn more_file(bench: Bench, r: Record, bytes: &[u8; 56], file: &mut [u8]) -> Turn {
     if r.a == 0 {
         return Turn::Bad;
     }
@@ -123,7 +128,7 @@ pub(crate) fn more_file(bench: Bench, r: Record, bytes: &[u8; 56], file: &mut [u
     Turn::Next(bench.with_file(at + more))
 }
 
-pub(crate) fn set_state(bench: Bench, r: Record) -> Turn {
+pub fn set_state(bench: Bench, r: Record) -> Turn {
     if r.a > MOST_32 {
         return Turn::Bad;
     }

@@ -4,7 +4,7 @@ ghost use Prim.Native.Nat.{_≤_};
 ghost use lib.Ieee.{binary64, nanBits};
 use drawing::Control;
 
-pub(crate) struct Record {
+pub struct Record {
     pub op: u8,
     pub a: u64,
     pub b: u64,
@@ -15,13 +15,13 @@ pub(crate) struct Record {
 }
 
 // A number where a coordinate goes.
-pub(crate) enum Number {
+pub enum Number {
     Fits(i32),
     Outside,
 }
 
 // Two numbers where a record's coordinates go.
-pub(crate) enum Placed {
+pub enum Placed {
     At(Control),
     Outside,
 }
@@ -56,7 +56,7 @@ fn word(bytes: &[u8; 56], at: usize) -> u64
 }
 
 // The record that 56 bytes hold.
-pub(crate) fn decoded(bytes: &[u8; 56]) -> Record {
+pub fn decoded(bytes: &[u8; 56]) -> Record {
     Record {
         op: bytes[0],
         a: word(bytes, 8),
@@ -69,7 +69,7 @@ pub(crate) fn decoded(bytes: &[u8; 56]) -> Record {
 }
 
 // A word in two's complement, if it is a number of 32 bits. A number z below zero stands there as 2^64 + z, and is the complement of -1 - z.
-pub(crate) fn coordinate(word: u64) -> Number {
+pub fn coordinate(word: u64) -> Number {
     if word < HALF {
         return Number::Fits(word as i32);
     }
@@ -81,7 +81,7 @@ pub(crate) fn coordinate(word: u64) -> Number {
 }
 
 // Two words as a record's coordinates.
-pub(crate) fn control(x: u64, y: u64) -> Placed {
+pub fn control(x: u64, y: u64) -> Placed {
     let Number::Fits(x) = coordinate(x) else {
         return Placed::Outside;
     };
@@ -102,7 +102,7 @@ fn is_nan(bits: u64) -> bool
 }
 
 // The double of a pattern.
-pub(crate) fn double(bits: u64) -> f64 {
+pub fn double(bits: u64) -> f64 {
     if is_nan(bits) {
         0.0 / 0.0
     } else {
