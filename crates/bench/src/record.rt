@@ -1,7 +1,8 @@
 // A record of a trials file: an operation and six numbers, each kept as the 64 bits that stand in the file.
 ghost use mathlib.Core.Path.{_≡_};
 ghost use Prim.Native.Nat.{_≤_};
-ghost use lib.Ieee.{binary64, nanBits};
+ghost use lib.Ieee.{binary64, nanBits, ofBits};
+ghost use Rattle.bench.specs.Records.{halfAt, wordAt, recordOf, coordinateOf, controlOf};
 use drawing::Control;
 
 pub struct Record {
@@ -26,7 +27,9 @@ pub enum Placed {
     Outside,
 }
 
-// Half of the words of 32 bits.
+// The words of 32 bits, and half of them.
+const WHOLE: u64 = 4294967296;
+
 const HALF: u64 = 2147483648;
 
 // The fields of a double: its sign's place, its digits' and the field of all ones.
@@ -36,27 +39,39 @@ const LEADING: u64 = 4503599627370496;
 
 const ONES: u64 = 2047;
 
-fn wide(byte: u8) -> u64 {
-    byte as u64
+// A byte as a number of 32 bits.
+fn wide(byte: u8) -> u32
+    ensures { λ r. ⌜ (r ≡ byte) × (r ≤ 255) ⌝ }
+{
+    byte as u32
+}
+
+// The four bytes from byte `at` on, low byte first.
+fn half(bytes: &[u8; 56], at: usize) -> u32
+    requires { ⌜ at ≤ 52 ⌝ }
+    ensures { λ r. ⌜ r ≡ halfAt (now (bytes .entry)) at ⌝ }
+{
+    let a = wide(bytes[at]);
+    let b = wide(bytes[at + 1]);
+    let c = wide(bytes[at + 2]);
+    let d = wide(bytes[at + 3]);
+    a + 256 * b + 65536 * c + 16777216 * d
 }
 
 // The eight bytes from byte `at` on, low byte first.
 fn word(bytes: &[u8; 56], at: usize) -> u64
     requires { ⌜ at ≤ 48 ⌝ }
+    ensures { λ r. ⌜ r ≡ wordAt (now (bytes .entry)) at ⌝ }
 {
-    let low = wide(bytes[at])
-        | (wide(bytes[at + 1]) << 8)
-        | (wide(bytes[at + 2]) << 16)
-        | (wide(bytes[at + 3]) << 24);
-    let high = wide(bytes[at + 4])
-        | (wide(bytes[at + 5]) << 8)
-        | (wide(bytes[at + 6]) << 16)
-        | (wide(bytes[at + 7]) << 24);
-    low | (high << 32)
+    let low = half(bytes, at) as u64;
+    let high = half(bytes, at + 4) as u64;
+    low + WHOLE * high
 }
 
 // The record that 56 bytes hold.
-pub fn decoded(bytes: &[u8; 56]) -> Record {
+pub fn decoded(bytes: &[u8; 56]) -> Record
+    ensures { λ r. ⌜ r ≡ recordOf (now (bytes .entry)) ⌝ }
+{
     Record {
         op: bytes[0],
         a: word(bytes, 8),
@@ -69,7 +84,9 @@ pub fn decoded(bytes: &[u8; 56]) -> Record {
 }
 
 // A word in two's complement, if it is a number of 32 bits. A number z below zero stands there as 2^64 + z, and is the complement of -1 - z.
-pub fn coordinate(word: u64) -> Number {
+pub fn coordinate(word: u64) -> Number
+    ensures { λ r. ⌜ r ≡ coordinateOf word ⌝ }
+{
     if word < HALF {
         return Number::Fits(word as i32);
     }
@@ -81,7 +98,9 @@ pub fn coordinate(word: u64) -> Number {
 }
 
 // Two words as a record's coordinates.
-pub fn control(x: u64, y: u64) -> Placed {
+pub fn control(x: u64, y: u64) -> Placed
+    ensures { λ r. ⌜ r ≡ controlOf x y ⌝ }
+{
     let Number::Fits(x) = coordinate(x) else {
         return Placed::Outside;
     };
@@ -101,8 +120,10 @@ fn is_nan(bits: u64) -> bool
     bits % LEADING != 0
 }
 
-// The double of a pattern.
-pub fn double(bits: u64) -> f64 {
+// The double of a pattern: of every pattern of a NaN the NaN.
+pub fn double(bits: u64) -> f64
+    ensures { λ r. ⌜ r ≡ ofBits binary64 bits ⌝ }
+{
     if is_nan(bits) {
         0.0 / 0.0
     } else {

@@ -1,0 +1,57 @@
+-- The records of a trials file (docs/TRIALS.md, "Records"): 56 bytes, byte 0 the operation, and from byte 8 on six numbers of 8 bytes, low byte first. Bytes 1 to 7 are not
+-- looked at. A whole number is in two's complement; a double is its bit pattern, which the library's `ofBits binary64` reads: every pattern of a NaN is the NaN.
+-- Definitions only.
+use mathlib.Core.Bool.{cond}
+use mathlib.Core.List.{List}
+use Prim.Native.Nat.{ℕ, _+_, _*_, _^_}
+use lib.Dec.{ltb}
+use lib.IntN.{ℤ, pos, _-ℤ_}
+use lib.ListN.{getD}
+use lib.Signed.{mag}
+use Rattle.bench.specs.declared.record.Number.{Number}
+use Rattle.bench.specs.declared.record.Number.the-variants as number
+use Rattle.bench.specs.declared.record.Placed.{Placed}
+use Rattle.bench.specs.declared.record.Placed.the-variants as placed
+use Rattle.bench.specs.declared.record.Record.{Record}
+
+-- ---- the bytes
+
+-- The four bytes from byte b on, low byte first.
+abbrev pub halfAt : List ℕ → ℕ → ℕ
+halfAt bytes b = getD bytes b 0 + 256 * getD bytes (b + 1) 0 + 65536 * getD bytes (b + 2) 0 + 16777216 * getD bytes (b + 3) 0
+
+-- The eight bytes from byte b on, low byte first.
+abbrev pub wordAt : List ℕ → ℕ → ℕ
+wordAt bytes b = halfAt bytes b + 2 ^ 32 * halfAt bytes (b + 4)
+
+-- The record that 56 bytes hold.
+unfoldable pub recordOf : List ℕ → Record
+recordOf bytes =
+    record {
+      op = getD bytes 0 0;
+      a = wordAt bytes 8;
+      b = wordAt bytes 16;
+      c = wordAt bytes 24;
+      d = wordAt bytes 32;
+      e = wordAt bytes 40;
+      f = wordAt bytes 48;
+    }
+
+-- ---- the numbers
+
+-- Two's complement of 64 bits: a word from 2^63 on stands for a number below zero.
+unfoldable pub signed : ℕ → ℤ
+signed w = cond (ltb w (2 ^ 63)) (pos w) (pos w -ℤ pos (2 ^ 64))
+
+-- A coordinate is a number of 32 bits: n or -1 - n, with n (its `mag`) below 2^31.
+unfoldable pub coordinateOf : ℕ → Number
+coordinateOf w = cond (ltb (mag (signed w)) (2 ^ 31)) (number.Fits (signed w)) number.Outside
+
+-- Two coordinates, if both are.
+abbrev pub paired : Number → Number → Placed
+paired (number.Fits x) (number.Fits y) = placed.At (record { x = x; y = y })
+paired (number.Fits x) number.Outside = placed.Outside
+paired number.Outside y = placed.Outside
+
+unfoldable pub controlOf : ℕ → ℕ → Placed
+controlOf x y = paired (coordinateOf x) (coordinateOf y)
