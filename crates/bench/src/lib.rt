@@ -1,4 +1,7 @@
 // What a trials file works on: its records, and the records that set the bench up. No public call has a `requires`.
+ghost use mathlib.Core.Path.{_≡_};
+ghost use Rattle.bench.specs.Settings.{bare, withShape, withState, withLists, withFile};
+
 mod record;
 mod setting;
 
@@ -37,7 +40,9 @@ pub enum Turn {
 
 impl Bench {
     // The bench before the first record.
-    pub fn new() -> Bench {
+    pub fn new() -> Bench
+        ensures { λ r. ⌜ r ≡ bare ⌝ }
+    {
         let state = State::new();
         Bench {
             shape: Shape {
@@ -53,7 +58,9 @@ impl Bench {
         }
     }
 
-    pub fn with_shape(self, shape: Shape) -> Bench {
+    pub fn with_shape(self, shape: Shape) -> Bench
+        ensures { λ r. ⌜ r ≡ withShape self shape ⌝ }
+    {
         let state = self.state;
         Bench {
             shape,
@@ -65,7 +72,9 @@ impl Bench {
         }
     }
 
-    pub fn with_state(self, state: State) -> Bench {
+    pub fn with_state(self, state: State) -> Bench
+        ensures { λ r. ⌜ r ≡ withState self state ⌝ }
+    {
         let shape = self.shape;
         Bench {
             shape,
@@ -77,7 +86,9 @@ impl Bench {
         }
     }
 
-    fn with_lists(self, controls: usize, points: usize, preview: usize) -> Bench {
+    fn with_lists(self, controls: usize, points: usize, preview: usize) -> Bench
+        ensures { λ r. ⌜ r ≡ withLists self controls points preview ⌝ }
+    {
         let shape = self.shape;
         let state = self.state;
         Bench {
@@ -90,7 +101,9 @@ impl Bench {
         }
     }
 
-    fn with_file(self, file: usize) -> Bench {
+    fn with_file(self, file: usize) -> Bench
+        ensures { λ r. ⌜ r ≡ withFile self file ⌝ }
+    {
         let shape = self.shape;
         let state = self.state;
         Bench {

@@ -1,6 +1,10 @@
 // The records that set the bench up, and write nothing.
+ghost use mathlib.Core.Path.{_≡_};
 ghost use Prim.Native.Nat.{_+_, _≤_};
-ghost use lib.ListN.{length};
+ghost use lib.ListN.{length, replicate};
+ghost use lib.Seq.{sets};
+ghost use Rattle.bench.specs.declared.Turn.the-variants.{Next};
+ghost use Rattle.bench.specs.Settings.{withFile, outcome, lists, lending, shaping, numbering, brought, filing, stating};
 use crate::Bench;
 use crate::Turn;
 use crate::record::Number;
@@ -20,7 +24,9 @@ const MOST_MORE: u64 = 40;
 
 const FILE_BYTES: usize = 16;
 
-fn fill(list: &mut [i32], z: i32) {
+fn fill(list: &mut [i32], z: i32)
+    ensures { λ _. ⌜ now (list .exit) ≡ replicate (length (now (list .entry))) z ⌝ }
+{
     let mut i = 0;
     while i < list.len() {
         list[i] = z;
@@ -28,7 +34,9 @@ fn fill(list: &mut [i32], z: i32) {
     }
 }
 
-fn fill_doubles(list: &mut [f64], x: f64) {
+fn fill_doubles(list: &mut [f64], x: f64)
+    ensures { λ _. ⌜ now (list .exit) ≡ replicate (length (now (list .entry))) x ⌝ }
+{
     let mut i = 0;
     while i < list.len() {
         list[i] = x;
@@ -43,7 +51,9 @@ pub fn lend(
     controls: &mut [i32],
     points: &mut [i32],
     preview: &mut [f64],
-) -> Turn {
+) -> Turn
+    ensures { λ t. ⌜ outcome t (lists (now (controls .exit)) (now (points .exit)) (now (preview .exit))) ≡ lending bench r (lists (now (controls .entry)) (now (points .entry)) (now (preview .entry))) ⌝ }
+{
     if r.a > controls.len() as u64 {
         return Turn::Bad;
     }
@@ -62,7 +72,9 @@ pub fn lend(
     Turn::Next(bench.with_lists(r.a as usize, r.b as usize, r.c as usize))
 }
 
-pub fn set_shape(bench: Bench, r: Record) -> Turn {
+pub fn set_shape(bench: Bench, r: Record) -> Turn
+    ensures { λ t. ⌜ t ≡ shaping bench r ⌝ }
+{
     if r.a > MOST_32 {
         return Turn::Bad;
     }
@@ -80,7 +92,9 @@ pub fn set_shape(bench: Bench, r: Record) -> Turn {
 }
 
 // One number of a list.
-pub fn set_number(bench: Bench, r: Record, list: &mut [i32]) -> Turn {
+pub fn set_number(bench: Bench, r: Record, list: &mut [i32]) -> Turn
+    ensures { λ t. ⌜ outcome t (now (list .exit)) ≡ numbering bench r (now (list .entry)) ⌝ }
+{
     let at = r.a as usize;
     let Number::Fits(z) = coordinate(r.b) else {
         return Turn::Bad;
@@ -93,13 +107,16 @@ pub fn set_number(bench: Bench, r: Record, list: &mut [i32]) -> Turn {
 }
 
 // The file becomes empty.
-pub fn empty_file(bench: Bench) -> Turn {
+pub fn empty_file(bench: Bench) -> Turn
+    ensures { λ t. ⌜ t ≡ Next (withFile bench 0) ⌝ }
+{
     Turn::Next(bench.with_file(0))
 }
 
 // The record's first `more` bytes of the file, from place `at` on.
 fn append(bytes: &[u8; 56], more: usize, file: &mut [u8], at: usize)
     requires { ⌜ (more ≤ 40) × (at + more ≤ length (now file)) ⌝ }
+    ensures { λ _. ⌜ now (file .exit) ≡ sets (now (file .entry)) at (brought (now (bytes .entry)) more) ⌝ }
 {
     let mut i = 0;
     while i < more {
@@ -109,7 +126,9 @@ fn append(bytes: &[u8; 56], more: usize, file: &mut [u8], at: usize)
 }
 
 // More bytes at the end of the file, if there is room for them.
-pub fn more_file(bench: Bench, r: Record, bytes: &[u8; 56], file: &mut [u8]) -> Turn {
+pub fn more_file(bench: Bench, r: Record, bytes: &[u8; 56], file: &mut [u8]) -> Turn
+    ensures { λ t. ⌜ outcome t (now (file .exit)) ≡ filing bench r (now (bytes .entry)) (now (file .entry)) ⌝ }
+{
     if r.a == 0 {
         return Turn::Bad;
     }
@@ -128,7 +147,9 @@ pub fn more_file(bench: Bench, r: Record, bytes: &[u8; 56], file: &mut [u8]) -> 
     Turn::Next(bench.with_file(at + more))
 }
 
-pub fn set_state(bench: Bench, r: Record) -> Turn {
+pub fn set_state(bench: Bench, r: Record) -> Turn
+    ensures { λ t. ⌜ t ≡ stating bench r ⌝ }
+{
     if r.a > MOST_32 {
         return Turn::Bad;
     }

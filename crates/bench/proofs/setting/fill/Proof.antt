@@ -1,19 +1,24 @@
 -- Each turn writes the next number.
-use mathlib.Core.Path.{_≡_}
-use Prim.Native.Nat.{_-_}
+use mathlib.Core.Path.{_≡_, refl, ap, _∙_}
+use Prim.Native.Nat.{ℕ, _-_, _≤_}
+use native.Mathlib.Omega.{arith}
 use borrow.Author.Needs.{needs}
-use lib.ListN.{length}
+use lib.ListN.{length, set, replicate, length-set}
+use mir.Syntax.{w32}
+use mir.Val.{toZ}
+use Rattle.whole.proofs.Fit.{kept, kept-is}
+use Rattle.bench.proofs.Filling.{front, fill-next, fill-done}
 use Rattle.bench.proofs.setting.fill.Statement.{statement}
 use Rattle.bench.proofs.setting.fill.Tie as tie
 
 abbrev Inv-loop : tie.InvT-loop
-Inv-loop list₀ z i₀ list i = length list ≡ length list₀
+Inv-loop list₀ z i₀ list i = (i ≤ length list₀) × (length list ≡ length list₀) × (list ≡ front (toZ w32 z) i list₀)
 
 abbrev μ-loop : tie.MeasureT-loop
 μ-loop list₀ z i₀ list i = length list₀ - i
 
 loop-holds : tie.Need-loop-holds Inv-loop μ-loop
-loop-holds c = search needs
+loop-holds c = (omega arith, refl, refl)
 
 mul-z : tie.Need-mul-z Inv-loop μ-loop
 mul-z c = search needs
@@ -28,13 +33,22 @@ loop-less : tie.Need-loop-less Inv-loop μ-loop
 loop-less c = search needs
 
 loop-again : tie.Need-loop-again Inv-loop μ-loop
-loop-again c = search needs
+loop-again c =
+    let a = c .before .before .args in
+    let l = c .before .loop in
+    let v = kept w32 (a .z) in
+    (omega arith, simp length-set (l .inv .1), ap (λ t. set t (l .i) v) (l .inv .2) ∙ fill-next v (l .i) (a .list .now) (omega arith))
 
 same-length : tie.Need-same-length Inv-loop μ-loop
 same-length c = search needs
 
 returns : tie.Need-returns Inv-loop μ-loop
-returns c = search needs
+returns c =
+    let a = c .before .before .args in
+    let l = c .before .loop in
+    let v = kept w32 (a .z) in
+    let all : l .i ≡ length (a .list .now) = omega arith in
+    l .inv .2 ∙ ap (λ (n : ℕ). front v n (a .list .now)) all ∙ fill-done v (a .list .now) ∙ ap (replicate (length (a .list .now))) (kept-is w32 (a .z) (c .before .before .fits .z))
 
 pub fill-spec : {M : Type 1} → statement M
 fill-spec =
