@@ -1,3 +1,3 @@
-pub mod Words
 pub mod Filling
 pub mod Writing
+pub mod Unique

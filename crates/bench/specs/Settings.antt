@@ -17,12 +17,12 @@ use Rattle.shape.specs.declared.Shape.{Shape}
 use Rattle.bench.specs.declared.Bench.{Bench}
 use Rattle.bench.specs.declared.Turn.{Turn}
 use Rattle.bench.specs.declared.Turn.the-variants.{Next, Bad}
-use Rattle.bench.specs.declared.record.Number.{Number}
-use Rattle.bench.specs.declared.record.Number.the-variants as number
-use Rattle.bench.specs.declared.record.Placed.{Placed}
-use Rattle.bench.specs.declared.record.Placed.the-variants as placed
-use Rattle.bench.specs.declared.record.Record.{Record}
-use Rattle.bench.specs.Records.{coordinateOf, controlOf}
+use Rattle.trial_record.specs.declared.Number.{Number}
+use Rattle.trial_record.specs.declared.Number.the-variants as number
+use Rattle.trial_record.specs.declared.Placed.{Placed}
+use Rattle.trial_record.specs.declared.Placed.the-variants as placed
+use Rattle.trial_record.specs.declared.Record.{Record}
+use Rattle.trial_record.specs.Records.{coordinateOf, controlOf}
 
 -- ---- the bench
 

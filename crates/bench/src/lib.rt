@@ -1,18 +1,10 @@
-// What a trials file works on: its records, and the records that set the bench up. No public call has a `requires`.
+// The bench that a trials file works on, and the records that set it up. No public call has a `requires`.
 ghost use mathlib.Core.Path.{_≡_};
 ghost use Rattle.bench.specs.Settings.{bare, withShape, withState, withLists, withFile};
 
-mod record;
 mod setting;
 
 use drawing::State;
-pub use record::Number;
-pub use record::Placed;
-pub use record::Record;
-pub use record::control;
-pub use record::coordinate;
-pub use record::decoded;
-pub use record::double;
 pub use setting::empty_file;
 pub use setting::lend;
 pub use setting::more_file;

@@ -7,14 +7,14 @@ ghost use Rattle.bench.specs.declared.Turn.the-variants.{Next};
 ghost use Rattle.bench.specs.Settings.{withFile, outcome, lists, lending, shaping, numbering, brought, filing, stating};
 use crate::Bench;
 use crate::Turn;
-use crate::record::Number;
-use crate::record::Placed;
-use crate::record::Record;
-use crate::record::control;
-use crate::record::coordinate;
 use doubles::double_of;
 use drawing::State;
 use shape::Shape;
+use trial_record::Number;
+use trial_record::Placed;
+use trial_record::Record;
+use trial_record::control;
+use trial_record::coordinate;
 
 // The greatest number of 32 bits.
 const MOST_32: u64 = 4294967295;

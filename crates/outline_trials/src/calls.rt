@@ -4,11 +4,7 @@ use crate::text::say_numbers;
 use crate::text::say_refusal;
 use crate::text::say_state;
 use bench::Bench;
-use bench::Placed;
-use bench::Record;
 use bench::Turn;
-use bench::control;
-use bench::double;
 use drawing::Control;
 use drawing::State;
 use drawing::Step;
@@ -20,6 +16,10 @@ use outline::Drawn;
 use preview::Previewed;
 use record_file::Reading;
 use shape::Shape;
+use trial_record::Placed;
+use trial_record::Record;
+use trial_record::control;
+use trial_record::double;
 
 // A place is below 2^63.
 const HALF: u64 = 9223372036854775808;

@@ -5,9 +5,7 @@ mod calls;
 mod text;
 
 use bench::Bench;
-use bench::Record;
 use bench::Turn;
-use bench::decoded;
 use bench::empty_file;
 use bench::lend;
 use bench::more_file;
@@ -18,6 +16,8 @@ use libc::STDIN_FILENO;
 use text::say;
 use text::say_numbers;
 use text::say_patterns;
+use trial_record::Record;
+use trial_record::decoded;
 
 // The bytes of a record.
 const RECORD: usize = 56;

@@ -4,11 +4,11 @@ use Prim.Native.Nat.{ℕ, suc, _-_, _^_, _≤_}
 use native.Mathlib.Omega.{arith}
 use borrow.Author.Tests.{lt-ltb, le-ltb}
 use lib.IntN.{negsuc}
-use Rattle.bench.specs.declared.record.Number.the-variants.{Fits}
-use Rattle.bench.proofs.Words.{low-fits, high-fits, middle-outside}
+use Rattle.trial_record.specs.declared.Number.the-variants.{Fits}
+use Rattle.trial_record.proofs.Words.{low-fits, high-fits, middle-outside}
 use borrow.Author.Needs.{needs}
-use Rattle.bench.proofs.record.coordinate.Statement.{statement}
-use Rattle.bench.proofs.record.coordinate.Tie as tie
+use Rattle.trial_record.proofs.coordinate.Statement.{statement}
+use Rattle.trial_record.proofs.coordinate.Tie as tie
 
 cast-t4 : tie.Need-cast-t4
 cast-t4 c = search needs

@@ -7,8 +7,8 @@ use lib.Dec.{T}
 use lib.Ieee.{Float, nan, inf, fin, binary64, div, ofBits, isNan}
 use lib.Ieee.Bits.{nanBits-is}
 use borrow.Author.Needs.{needs}
-use Rattle.bench.proofs.record.double.Statement.{statement}
-use Rattle.bench.proofs.record.double.Tie as tie
+use Rattle.trial_record.proofs.double.Statement.{statement}
+use Rattle.trial_record.proofs.double.Tie as tie
 
 zero-by-zero : div binary64 (ofBits binary64 0) (ofBits binary64 0) ≡ nan
 unfolding div ofBits

@@ -2,11 +2,11 @@
 use mathlib.Core.Path.{sym, _∙_}
 use mir.Syntax.{w32}
 use Rattle.whole.proofs.Fit.{kept-is}
-use Rattle.bench.specs.declared.record.Placed.the-variants.{At}
-use Rattle.bench.specs.Records.{controlOf}
+use Rattle.trial_record.specs.declared.Placed.the-variants.{At}
+use Rattle.trial_record.specs.Records.{controlOf}
 use borrow.Author.Needs.{needs}
-use Rattle.bench.proofs.record.control.Statement.{statement}
-use Rattle.bench.proofs.record.control.Tie as tie
+use Rattle.trial_record.proofs.control.Statement.{statement}
+use Rattle.trial_record.proofs.control.Tie as tie
 
 coordinate-requires : tie.Need-coordinate-requires
 coordinate-requires c κs = search needs

@@ -5,8 +5,8 @@ use Prim.Native.Nat.{ℕ, _/_, _%_}
 use borrow.Author.Tests.{eq-eqb, ne-eqb}
 use lib.Dec.{eqb}
 use lib.Ieee.{binary64, nanBits}
-use Rattle.bench.proofs.record.is_nan.Statement.{statement}
-use Rattle.bench.proofs.record.is_nan.Tie as tie
+use Rattle.trial_record.proofs.is_nan.Statement.{statement}
+use Rattle.trial_record.proofs.is_nan.Tie as tie
 
 test : (b : ℕ) → nanBits binary64 b ≡ (eqb (b % 9223372036854775808 / 4503599627370496) 2047 && not (eqb (b % 4503599627370496) 0))
 unfolding nanBits

@@ -1,10 +1,11 @@
-// A record of a trials file: an operation and six numbers, each kept as the 64 bits that stand in the file.
+// The records of a trials file (docs/TRIALS.md): what 56 bytes hold, and what their numbers mean. No public call has a `requires`.
 ghost use mathlib.Core.Path.{_≡_};
 ghost use Prim.Native.Nat.{_≤_};
 ghost use lib.Ieee.{binary64, nanBits, ofBits};
-ghost use Rattle.bench.specs.Records.{halfAt, wordAt, recordOf, coordinateOf, controlOf};
+ghost use Rattle.trial_record.specs.Records.{halfAt, wordAt, recordOf, coordinateOf, controlOf};
 use drawing::Control;
 
+// An operation and six numbers, each kept as the 64 bits that stand in the file.
 pub struct Record {
     pub op: u8,
     pub a: u64,

@@ -1,8 +1,8 @@
 -- Each field is a word of the record.
 use borrow.Author.Needs.{needs}
-use Rattle.bench.specs.Records.{recordOf}
-use Rattle.bench.proofs.record.decoded.Statement.{statement}
-use Rattle.bench.proofs.record.decoded.Tie as tie
+use Rattle.trial_record.specs.Records.{recordOf}
+use Rattle.trial_record.proofs.decoded.Statement.{statement}
+use Rattle.trial_record.proofs.decoded.Tie as tie
 
 element-copy-out-t4 : tie.Need-element-copy-out-t4
 element-copy-out-t4 c = search needs

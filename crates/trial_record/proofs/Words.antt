@@ -8,8 +8,8 @@ use lib.Dec.{ltb}
 use lib.IntN.{ℤ, pos, negsuc, _-ℤ_}
 use lib.Signed.{mag}
 use Rattle.whole.proofs.Order.{subℕ-negsuc}
-use Rattle.bench.specs.declared.record.Number.the-variants.{Fits, Outside}
-use Rattle.bench.specs.Records.{signed, coordinateOf}
+use Rattle.trial_record.specs.declared.Number.the-variants.{Fits, Outside}
+use Rattle.trial_record.specs.Records.{signed, coordinateOf}
 
 signed-low : (w : ℕ) → w < 2 ^ 63 → signed w ≡ pos w
 unfolding signed

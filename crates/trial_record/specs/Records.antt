@@ -8,11 +8,11 @@ use lib.Dec.{ltb}
 use lib.IntN.{ℤ, pos, _-ℤ_}
 use lib.ListN.{getD}
 use lib.Signed.{mag}
-use Rattle.bench.specs.declared.record.Number.{Number}
-use Rattle.bench.specs.declared.record.Number.the-variants as number
-use Rattle.bench.specs.declared.record.Placed.{Placed}
-use Rattle.bench.specs.declared.record.Placed.the-variants as placed
-use Rattle.bench.specs.declared.record.Record.{Record}
+use Rattle.trial_record.specs.declared.Number.{Number}
+use Rattle.trial_record.specs.declared.Number.the-variants as number
+use Rattle.trial_record.specs.declared.Placed.{Placed}
+use Rattle.trial_record.specs.declared.Placed.the-variants as placed
+use Rattle.trial_record.specs.declared.Record.{Record}
 
 -- ---- the bytes
 
