@@ -21,7 +21,7 @@ abbrev pub halfAt : List ℕ → ℕ → ℕ
 halfAt bytes b = getD bytes b 0 + 256 * getD bytes (b + 1) 0 + 65536 * getD bytes (b + 2) 0 + 16777216 * getD bytes (b + 3) 0
 
 -- The eight bytes from byte b on, low byte first.
-abbrev pub wordAt : List ℕ → ℕ → ℕ
+unfoldable pub wordAt : List ℕ → ℕ → ℕ
 wordAt bytes b = halfAt bytes b + 2 ^ 32 * halfAt bytes (b + 4)
 
 -- The record that 56 bytes hold.
