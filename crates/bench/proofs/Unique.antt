@@ -11,18 +11,14 @@ use Rattle.bench.proofs.Bench.with_shape.Kinds as with-shape
 use Rattle.bench.proofs.Bench.with_shape.Reads as with-shape-reads
 use Rattle.bench.proofs.Bench.with_state.Kinds as with-state
 use Rattle.bench.proofs.Bench.with_state.Reads as with-state-reads
-use Rattle.bench.proofs.setting.empty_file.Kinds as empty-file
-use Rattle.bench.proofs.setting.empty_file.Reads as empty-file-reads
 use Rattle.bench.proofs.setting.lend.Kinds as lend
 use Rattle.bench.proofs.setting.lend.Reads as lend-reads
 use Rattle.bench.proofs.setting.more_file.Kinds as more-file
 use Rattle.bench.proofs.setting.more_file.Reads as more-file-reads
+use Rattle.bench.proofs.setting.set_bench.Kinds as set-bench
+use Rattle.bench.proofs.setting.set_bench.Reads as set-bench-reads
 use Rattle.bench.proofs.setting.set_number.Kinds as set-number
 use Rattle.bench.proofs.setting.set_number.Reads as set-number-reads
-use Rattle.bench.proofs.setting.set_shape.Kinds as set-shape
-use Rattle.bench.proofs.setting.set_shape.Reads as set-shape-reads
-use Rattle.bench.proofs.setting.set_state.Kinds as set-state
-use Rattle.bench.proofs.setting.set_state.Reads as set-state-reads
 
 pub new-unique : Unique 0 new.ps new.r new-reads.Post
 new-unique κs a x y u v p q = (p ∙ sym q, refl)
@@ -33,14 +29,8 @@ with-shape-unique κs a x y u v p q = (p ∙ sym q, refl)
 pub with-state-unique : Unique 0 with-state.ps with-state.r with-state-reads.Post
 with-state-unique κs a x y u v p q = (p ∙ sym q, refl)
 
-pub set-shape-unique : Unique 0 set-shape.ps set-shape.r set-shape-reads.Post
-set-shape-unique κs a x y u v p q = (p ∙ sym q, refl)
-
-pub set-state-unique : Unique 0 set-state.ps set-state.r set-state-reads.Post
-set-state-unique κs a x y u v p q = (p ∙ sym q, refl)
-
-pub empty-file-unique : Unique 0 empty-file.ps empty-file.r empty-file-reads.Post
-empty-file-unique κs a x y u v p q = (p ∙ sym q, refl)
+pub set-bench-unique : Unique 0 set-bench.ps set-bench.r set-bench-reads.Post
+set-bench-unique κs a x y u v p q = (p ∙ sym q, refl)
 
 pub set-number-unique : Unique 1 set-number.ps set-number.r set-number-reads.Post
 set-number-unique κs a x y u v p q =

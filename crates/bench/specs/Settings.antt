@@ -101,7 +101,7 @@ numbering b r l =
     withNumber (coordinateOf (r .b)) (outcome Bad l)
     (λ z. cond (leb (length l) (r .a)) (outcome Bad l) (outcome (Next b) (set l (r .a) z)))
 
--- ---- operation 5 is `withFile b 0`; operation 6: the first a of the 40 bytes in b to f go to the end of the file
+-- ---- operation 6: the first a of the 40 bytes in b to f go to the end of the file
 
 -- The numbers b to f start at byte 16.
 abbrev pub brought : List ℕ → ℕ → List ℕ
@@ -123,3 +123,8 @@ stating b r =
     (withControl (controlOf (r .b) (r .c)) Bad
     (λ start. withControl (controlOf (r .d) (r .e)) Bad
     (λ current. Next (withState b (record { count = r .a; start = start; current = current; closed = eqb (r .f) 1 }))))))
+
+-- ---- operations 2, 5 and 50 set the bench alone, and no list; 5 empties the file
+
+unfoldable pub setting : Bench → Record → Turn
+setting b r = cond (eqb (r .op) 2) (shaping b r) (cond (eqb (r .op) 5) (Next (withFile b 0)) (cond (eqb (r .op) 50) (stating b r) Bad))

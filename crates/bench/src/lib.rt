@@ -5,12 +5,10 @@ ghost use Rattle.bench.specs.Settings.{bare, withShape, withState, withL
 mod setting;
 
 use drawing::State;
-pub use setting::empty_file;
 pub use setting::lend;
 pub use setting::more_file;
+pub use setting::set_bench;
 pub use setting::set_number;
-pub use setting::set_shape;
-pub use setting::set_state;
 use shape::Shape;
 
 // What a trials file works on, beside the lists: the shape, the drawing state, and how much of each list and of the file is lent.

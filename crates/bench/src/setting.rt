@@ -4,7 +4,7 @@ ghost use Prim.Native.Nat.{_+_, _≤_};
 ghost use lib.ListN.{length, replicate};
 ghost use lib.Seq.{sets};
 ghost use Rattle.bench.specs.declared.Turn.the-variants.{Next};
-ghost use Rattle.bench.specs.Settings.{withFile, outcome, lists, lending, shaping, numbering, brought, filing, stating};
+ghost use Rattle.bench.specs.Settings.{withFile, outcome, lists, lending, shaping, numbering, brought, filing, stating, setting};
 use crate::Bench;
 use crate::Turn;
 use doubles::double_of;
@@ -72,7 +72,7 @@ pub fn lend(
     Turn::Next(bench.with_lists(r.a as usize, r.b as usize, r.c as usize))
 }
 
-pub fn set_shape(bench: Bench, r: Record) -> Turn
+fn set_shape(bench: Bench, r: Record) -> Turn
     ensures { λ t. ⌜ t ≡ shaping bench r ⌝ }
 {
     if r.a > MOST_32 {
@@ -107,7 +107,7 @@ pub fn set_number(bench: Bench, r: Record, list: &mut [i32]) -> Turn
 }
 
 // The file becomes empty.
-pub fn empty_file(bench: Bench) -> Turn
+fn empty_file(bench: Bench) -> Turn
     ensures { λ t. ⌜ t ≡ Next (withFile bench 0) ⌝ }
 {
     Turn::Next(bench.with_file(0))
@@ -147,7 +147,7 @@ pub fn more_file(bench: Bench, r: Record, bytes: &[u8; 56], file: &mut [u8]) -> 
     Turn::Next(bench.with_file(at + more))
 }
 
-pub fn set_state(bench: Bench, r: Record) -> Turn
+fn set_state(bench: Bench, r: Record) -> Turn
     ensures { λ t. ⌜ t ≡ stating bench r ⌝ }
 {
     if r.a > MOST_32 {
@@ -168,4 +168,17 @@ pub fn set_state(bench: Bench, r: Record) -> Turn
         current,
         closed: r.f == 1,
     }))
+}
+
+// The records that set the bench alone, and no list: its shape, the end of its file, its state.
+pub fn set_bench(bench: Bench, r: Record) -> Turn
+    ensures { λ t. ⌜ t ≡ setting bench r ⌝ }
+{
+    let op = r.op;
+    match op {
+        2 => set_shape(bench, r),
+        5 => empty_file(bench),
+        50 => set_state(bench, r),
+        _ => Turn::Bad,
+    }
 }

@@ -6,12 +6,10 @@ mod text;
 
 use bench::Bench;
 use bench::Turn;
-use bench::empty_file;
 use bench::lend;
 use bench::more_file;
+use bench::set_bench;
 use bench::set_number;
-use bench::set_shape;
-use bench::set_state;
 use libc::STDIN_FILENO;
 use text::say;
 use text::say_numbers;
@@ -29,25 +27,41 @@ const MOST_POINTS: usize = 8000;
 
 const MOST_FILE: usize = 800;
 
+// The operations from here on show a list.
+const SHOWING: u8 = 60;
+
 fn least(a: usize, b: usize) -> usize
     ensures { λ r. ⌜ r ≤ b ⌝ }
 {
     if a < b { a } else { b }
 }
 
-// A record that shows a list or the file.
-fn show(
-    bench: Bench,
-    op: u8,
-    controls: &[i32],
-    points: &[i32],
-    preview: &[f64],
-    file: &[u8],
-) -> Turn {
+// A record on one list of numbers: one of them set, or all shown.
+fn play_numbers(bench: Bench, r: Record, list: &mut [i32]) -> Turn {
+    if r.op < SHOWING {
+        return set_number(bench, r, list);
+    }
+    say_numbers(list);
+    Turn::Next(bench)
+}
+
+// A record on the outline: the lent controls and points.
+fn play_outline(bench: Bench, r: Record, controls: &mut [i32], points: &mut [i32]) -> Turn {
+    let op = r.op;
+    match op {
+        3 | 60 => play_numbers(bench, r, controls),
+        4 | 61 => play_numbers(bench, r, points),
+        10 | 11 | 12 => calls::draw(bench, op, controls, points),
+        20 | 21 => calls::place_record(bench, r, controls, points),
+        22 => calls::remove_record(bench, r, controls, points),
+        _ => calls::view(bench, r, points),
+    }
+}
+
+// A record that shows the file or the preview.
+fn show(bench: Bench, op: u8, preview: &[f64], file: &[u8]) -> Turn {
     match op {
         56 => calls::show_file(file),
-        60 => say_numbers(controls),
-        61 => say_numbers(points),
         62 => say_patterns(preview),
         _ => {
             return Turn::Bad;
@@ -56,48 +70,45 @@ fn show(
     Turn::Next(bench)
 }
 
-// A record on the lent parts of the lists and on the file as long as it is.
-fn play_lent(
+// A record on the drawing: the lent controls and preview, and the file as long as it is.
+fn play_drawing(
     bench: Bench,
     r: Record,
     controls: &mut [i32],
-    points: &mut [i32],
     preview: &mut [f64],
     file: &[u8],
 ) -> Turn {
     let op = r.op;
     match op {
-        3 => set_number(bench, r, controls),
-        4 => set_number(bench, r, points),
-        10 | 11 | 12 => calls::draw(bench, op, controls, points),
-        20 | 21 => calls::place_record(bench, r, controls, points),
-        22 => calls::remove_record(bench, r, controls, points),
-        30 => calls::view(bench, r, points),
         40 => calls::draw_preview(bench, controls, preview),
         51 | 52 | 53 | 54 => calls::step(bench, r, controls),
         55 => calls::read_file(bench, file, controls),
-        _ => show(bench, op, controls, points, preview, file),
+        _ => show(bench, op, preview, file),
     }
 }
 
-// The lent parts of the lists, and a record on them.
-fn lent(
+// The lent parts of the outline's lists, and a record on them.
+fn lend_outline(bench: Bench, r: Record, controls: &mut [i32], points: &mut [i32]) -> Turn {
+    let a = least(bench.controls, controls.len());
+    let b = least(bench.points, points.len());
+    play_outline(bench, r, &mut controls[0..a], &mut points[0..b])
+}
+
+// The lent parts of the drawing's lists, and a record on them.
+fn lend_drawing(
     bench: Bench,
     r: Record,
     controls: &mut [i32],
-    points: &mut [i32],
     preview: &mut [f64],
     file: &[u8],
 ) -> Turn {
     let a = least(bench.controls, controls.len());
-    let b = least(bench.points, points.len());
     let c = least(bench.preview, preview.len());
     let d = least(bench.file, file.len());
-    play_lent(
+    play_drawing(
         bench,
         r,
         &mut controls[0..a],
-        &mut points[0..b],
         &mut preview[0..c],
         &file[0..d],
     )
@@ -116,12 +127,21 @@ fn play(
     let op = r.op;
     match op {
         1 => lend(bench, r, controls, points, preview),
-        2 => set_shape(bench, r),
-        5 => empty_file(bench),
+        2 | 5 | 50 => set_bench(bench, r),
         6 => more_file(bench, r, bytes, file),
-        50 => set_state(bench, r),
-        _ => lent(bench, r, controls, points, preview, file),
+        3 | 4 | 10 | 11 | 12 | 20 | 21 | 22 | 30 | 60 | 61 => lend_outline(
+            bench,
+            r,
+            controls,
+            points,
+        ),
+        _ => lend_drawing(bench, r, controls, preview, file),
     }
+}
+
+// The input has ended, or a record is cut short.
+fn cut_short(got: usize) -> Turn {
+    if got == 0 { Turn::End } else { Turn::Bad }
 }
 
 // The next record of the input.
@@ -134,13 +154,18 @@ fn play_next(
 ) -> Turn {
     let mut bytes = [0u8; RECORD];
     let got = io::read_full(STDIN_FILENO, &mut bytes);
-    if got == 0 {
-        return Turn::End;
-    }
     if got < RECORD {
-        return Turn::Bad;
+        return cut_short(got);
     }
     play(bench, &bytes, controls, points, preview, file)
+}
+
+// A bad record is named, and ends the run.
+fn told(turn: Turn, number: usize) -> Turn {
+    if let Turn::Bad = turn {
+        say(b"bad record", &[number]);
+    }
+    turn
 }
 
 // The records to the end of the input, or to the first that is bad.
@@ -148,18 +173,11 @@ fn play_all(controls: &mut [i32], points: &mut [i32], preview: &mut [f64], file:
     let mut bench = Bench::new();
     let mut number: usize = 0;
     while number < usize::MAX {
-        match play_next(bench, controls, points, preview, file) {
-            Turn::Next(next) => {
-                bench = next;
-            }
-            Turn::Bad => {
-                say(b"bad record", &[number]);
-                return;
-            }
-            Turn::End => {
-                return;
-            }
-        }
+        let turn = play_next(bench, controls, points, preview, file);
+        let Turn::Next(next) = told(turn, number) else {
+            return;
+        };
+        bench = next;
         number += 1;
     }
 }
