@@ -27,22 +27,21 @@ const HALF: u64 = 9223372036854775808;
 // The longest listing of a file.
 const MOST_TEXT: usize = 113257;
 
-// The outline, by the way that the operation names.
-fn draw_by(op: u8, shape: Shape, controls: &[i32], points: &mut [i32]) -> Drawn {
-    match op {
-        10 => outline::by_weights(shape, controls, points),
-        11 => outline::by_halving(shape, controls, points),
-        _ => outline::by_differences(shape, controls, points),
-    }
-}
-
-pub(crate) fn draw(bench: Bench, op: u8, controls: &[i32], points: &mut [i32]) -> Turn {
-    let shape = bench.shape;
-    match draw_by(op, shape, controls, points) {
+// What drawing answered, said.
+fn say_drawn(answer: Drawn) {
+    match answer {
         Drawn::Refused(refusal) => say_refusal(refusal),
         Drawn::Points(count) => say(b"drawn", &[count]),
     }
-    Turn::Next(bench)
+}
+
+// The outline, by the way that the operation names.
+pub(crate) fn draw(shape: Shape, op: u8, controls: &[i32], points: &mut [i32]) {
+    match op {
+        10 => say_drawn(outline::by_weights(shape, controls, points)),
+        11 => say_drawn(outline::by_halving(shape, controls, points)),
+        _ => say_drawn(outline::by_differences(shape, controls, points)),
+    }
 }
 
 // What an edit answered, said, and the shape that it leaves.

@@ -51,7 +51,11 @@ fn play_outline(bench: Bench, r: Record, controls: &mut [i32], points: &mut [i32
     match op {
         3 | 60 => play_numbers(bench, r, controls),
         4 | 61 => play_numbers(bench, r, points),
-        10 | 11 | 12 => calls::draw(bench, op, controls, points),
+        10 | 11 | 12 => {
+            let shape = bench.shape;
+            calls::draw(shape, op, controls, points);
+            Turn::Next(bench)
+        }
         20 | 21 => calls::place_record(bench, r, controls, points),
         22 => calls::remove_record(bench, r, controls, points),
         _ => calls::view(bench, r, points),
