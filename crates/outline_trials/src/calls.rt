@@ -7,7 +7,6 @@ use bench::Bench;
 use bench::Turn;
 use drawing::Control;
 use drawing::State;
-use drawing::Step;
 use drawing::Stepped;
 use edit::Edited;
 use file_list::list_file;
@@ -19,7 +18,7 @@ use shape::Shape;
 use trial_record::Placed;
 use trial_record::Record;
 use trial_record::control;
-use trial_record::double;
+use trial_record::step_of;
 
 // A place is below 2^63.
 const HALF: u64 = 9223372036854775808;
@@ -136,24 +135,6 @@ pub(crate) fn draw_preview(bench: Bench, controls: &[i32], preview: &mut [f64]) 
         Previewed::Drawn(count) => say(b"previewed", &[count]),
     }
     Turn::Next(bench)
-}
-
-// The step that a record names.
-fn step_of(r: Record) -> Step {
-    let op = r.op;
-    match op {
-        51 => Step::Move(double(r.a), double(r.b)),
-        52 => Step::Line(double(r.a), double(r.b)),
-        53 => Step::Cubic(
-            double(r.a),
-            double(r.b),
-            double(r.c),
-            double(r.d),
-            double(r.e),
-            double(r.f),
-        ),
-        _ => Step::Close,
-    }
 }
 
 fn show_state(state: State) {

@@ -27,6 +27,9 @@ const MOST_POINTS: usize = 8000;
 
 const MOST_FILE: usize = 800;
 
+// The operation that adds to the file.
+const MORE_FILE: u8 = 6;
+
 // The operations from here on show a list.
 const SHOWING: u8 = 60;
 
@@ -121,18 +124,16 @@ fn lend_drawing(
 // One record: it sets the bench up, or works on what is lent.
 fn play(
     bench: Bench,
-    bytes: &[u8; 56],
+    r: Record,
     controls: &mut [i32],
     points: &mut [i32],
     preview: &mut [f64],
-    file: &mut [u8],
+    file: &[u8],
 ) -> Turn {
-    let r = decoded(bytes);
     let op = r.op;
     match op {
         1 => lend(bench, r, controls, points, preview),
         2 | 5 | 50 => set_bench(bench, r),
-        6 => more_file(bench, r, bytes, file),
         3 | 4 | 10 | 11 | 12 | 20 | 21 | 22 | 30 | 60 | 61 => lend_outline(
             bench,
             r,
@@ -148,7 +149,7 @@ fn cut_short(got: usize) -> Turn {
     if got == 0 { Turn::End } else { Turn::Bad }
 }
 
-// The next record of the input.
+// The next record of the input. The file is written by one operation alone, with the record's own bytes.
 fn play_next(
     bench: Bench,
     controls: &mut [i32],
@@ -161,7 +162,11 @@ fn play_next(
     if got < RECORD {
         return cut_short(got);
     }
-    play(bench, &bytes, controls, points, preview, file)
+    let r = decoded(&bytes);
+    if r.op == MORE_FILE {
+        return more_file(bench, r, &bytes, file);
+    }
+    play(bench, r, controls, points, preview, file)
 }
 
 // A bad record is named, and ends the run.

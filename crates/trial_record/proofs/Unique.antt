@@ -9,6 +9,8 @@ use Rattle.trial_record.proofs.decoded.Kinds as decoded
 use Rattle.trial_record.proofs.decoded.Reads as decoded-reads
 use Rattle.trial_record.proofs.double.Kinds as double
 use Rattle.trial_record.proofs.double.Reads as double-reads
+use Rattle.trial_record.proofs.step_of.Kinds as step-of
+use Rattle.trial_record.proofs.step_of.Reads as step-of-reads
 
 pub decoded-unique : Unique 1 decoded.ps decoded.r decoded-reads.Post
 decoded-unique κs a x y u v p q = (p ∙ sym q, refl)
@@ -21,3 +23,6 @@ control-unique κs a x y u v p q = (p ∙ sym q, refl)
 
 pub double-unique : Unique 0 double.ps double.r double-reads.Post
 double-unique κs a x y u v p q = (p ∙ sym q, refl)
+
+pub step-of-unique : Unique 0 step-of.ps step-of.r step-of-reads.Post
+step-of-unique κs a x y u v p q = (p ∙ sym q, refl)

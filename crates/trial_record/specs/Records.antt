@@ -1,13 +1,15 @@
 -- The records of a trials file (docs/TRIALS.md, "Records"): 56 bytes, byte 0 the operation, and from byte 8 on six numbers of 8 bytes, low byte first. Bytes 1 to 7 are not
--- looked at. A whole number is in two's complement; a double is its bit pattern, which the library's `ofBits binary64` reads: every pattern of a NaN is the NaN.
--- Definitions only.
+-- looked at. A whole number is in two's complement; a double is its bit pattern. Definitions only.
 use mathlib.Core.Bool.{cond}
 use mathlib.Core.List.{List}
 use Prim.Native.Nat.{ℕ, _+_, _*_, _^_}
-use lib.Dec.{ltb}
+use lib.Dec.{ltb, eqb}
+use lib.Ieee.{Float, binary64, ofBits}
 use lib.IntN.{ℤ, pos, _-ℤ_}
 use lib.ListN.{getD}
 use lib.Signed.{mag}
+use Rattle.drawing.specs.declared.Step.{Step}
+use Rattle.drawing.specs.declared.Step.the-variants.{Move, Line, Cubic, Close}
 use Rattle.trial_record.specs.declared.Number.{Number}
 use Rattle.trial_record.specs.declared.Number.the-variants as number
 use Rattle.trial_record.specs.declared.Placed.{Placed}
@@ -47,6 +49,10 @@ signed w = cond (ltb w (2 ^ 63)) (pos w) (pos w -ℤ pos (2 ^ 64))
 unfoldable pub coordinateOf : ℕ → Number
 coordinateOf w = cond (ltb (mag (signed w)) (2 ^ 31)) (number.Fits (signed w)) number.Outside
 
+-- The double of a bit pattern: of every pattern of a NaN the NaN.
+abbrev pub doubleOf : ℕ → Float
+doubleOf bits = ofBits binary64 bits
+
 -- Two coordinates, if both are.
 abbrev pub paired : Number → Number → Placed
 paired (number.Fits x) (number.Fits y) = placed.At (record { x = x; y = y })
@@ -55,3 +61,13 @@ paired number.Outside y = placed.Outside
 
 unfoldable pub controlOf : ℕ → ℕ → Placed
 controlOf x y = paired (coordinateOf x) (coordinateOf y)
+
+-- ---- the steps
+
+-- The step of a drawing that a record names (operations 51 to 54): Move and Line with a and b, Cubic with all six, Close.
+unfoldable pub stepOf : Record → Step
+stepOf r =
+    cond (eqb (r .op) 51) (Move (doubleOf (r .a)) (doubleOf (r .b)))
+    (cond (eqb (r .op) 52) (Line (doubleOf (r .a)) (doubleOf (r .b)))
+    (cond (eqb (r .op) 53) (Cubic (doubleOf (r .a)) (doubleOf (r .b)) (doubleOf (r .c)) (doubleOf (r .d)) (doubleOf (r .e)) (doubleOf (r .f)))
+    Close))

@@ -1,9 +1,10 @@
 // The records of a trials file (docs/TRIALS.md): what 56 bytes hold, and what their numbers mean. No public call has a `requires`.
 ghost use mathlib.Core.Path.{_≡_};
 ghost use Prim.Native.Nat.{_≤_};
-ghost use lib.Ieee.{binary64, nanBits, ofBits};
-ghost use Rattle.trial_record.specs.Records.{halfAt, wordAt, recordOf, coordinateOf, controlOf};
+ghost use lib.Ieee.{binary64, nanBits};
+ghost use Rattle.trial_record.specs.Records.{halfAt, wordAt, recordOf, coordinateOf, controlOf, doubleOf, stepOf};
 use drawing::Control;
+use drawing::Step;
 
 // An operation and six numbers, each kept as the 64 bits that stand in the file.
 pub struct Record {
@@ -123,11 +124,31 @@ fn is_nan(bits: u64) -> bool
 
 // The double of a pattern: of every pattern of a NaN the NaN.
 pub fn double(bits: u64) -> f64
-    ensures { λ r. ⌜ r ≡ ofBits binary64 bits ⌝ }
+    ensures { λ r. ⌜ r ≡ doubleOf bits ⌝ }
 {
     if is_nan(bits) {
         0.0 / 0.0
     } else {
         f64::from_bits(bits)
+    }
+}
+
+// The step that a record names: Move, Line, Cubic, and Close.
+pub fn step_of(r: Record) -> Step
+    ensures { λ s. ⌜ s ≡ stepOf r ⌝ }
+{
+    let op = r.op;
+    match op {
+        51 => Step::Move(double(r.a), double(r.b)),
+        52 => Step::Line(double(r.a), double(r.b)),
+        53 => Step::Cubic(
+            double(r.a),
+            double(r.b),
+            double(r.c),
+            double(r.d),
+            double(r.e),
+            double(r.f),
+        ),
+        _ => Step::Close,
     }
 }
