@@ -39,6 +39,23 @@ fn least(a: usize, b: usize) -> usize
     if a < b { a } else { b }
 }
 
+// What a record works on: the lists' lengths, the bench alone, the lent controls and points, or the rest.
+enum Work {
+    Lists,
+    Bench,
+    Outline,
+    Drawing,
+}
+
+fn work_of(op: u8) -> Work {
+    match op {
+        1 => Work::Lists,
+        2 | 5 | 50 => Work::Bench,
+        3 | 4 | 10..=12 | 20..=22 | 30 | 60 | 61 => Work::Outline,
+        _ => Work::Drawing,
+    }
+}
+
 // A record on one list of numbers: one of them set, or all shown.
 fn play_numbers(bench: Bench, r: Record, list: &mut [i32]) -> Turn {
     if r.op < SHOWING {
@@ -54,7 +71,7 @@ fn play_outline(bench: Bench, r: Record, controls: &mut [i32], points: &mut [i32
     match op {
         3 | 60 => play_numbers(bench, r, controls),
         4 | 61 => play_numbers(bench, r, points),
-        10 | 11 | 12 => {
+        10..=12 => {
             let shape = bench.shape;
             calls::draw(shape, op, controls, points);
             Turn::Next(bench)
@@ -88,7 +105,7 @@ fn play_drawing(
     let op = r.op;
     match op {
         40 => calls::draw_preview(bench, controls, preview),
-        51 | 52 | 53 | 54 => calls::step(bench, r, controls),
+        51..=54 => calls::step(bench, r, controls),
         55 => calls::read_file(bench, file, controls),
         _ => show(bench, op, preview, file),
     }
@@ -131,16 +148,11 @@ fn play(
     file: &[u8],
 ) -> Turn {
     let op = r.op;
-    match op {
-        1 => lend(bench, r, controls, points, preview),
-        2 | 5 | 50 => set_bench(bench, r),
-        3 | 4 | 10 | 11 | 12 | 20 | 21 | 22 | 30 | 60 | 61 => lend_outline(
-            bench,
-            r,
-            controls,
-            points,
-        ),
-        _ => lend_drawing(bench, r, controls, preview, file),
+    match work_of(op) {
+        Work::Lists => lend(bench, r, controls, points, preview),
+        Work::Bench => set_bench(bench, r),
+        Work::Outline => lend_outline(bench, r, controls, points),
+        Work::Drawing => lend_drawing(bench, r, controls, preview, file),
     }
 }
 
