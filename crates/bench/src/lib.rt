@@ -48,6 +48,7 @@ impl Bench {
         }
     }
 
+    // The bench with another shape.
     pub fn with_shape(self, shape: Shape) -> Bench
         ensures { λ r. ⌜ r ≡ withShape self shape ⌝ }
     {
@@ -62,6 +63,7 @@ impl Bench {
         }
     }
 
+    // The bench with another drawing state.
     pub fn with_state(self, state: State) -> Bench
         ensures { λ r. ⌜ r ≡ withState self state ⌝ }
     {
@@ -76,6 +78,7 @@ impl Bench {
         }
     }
 
+    // The bench with other lengths lent.
     fn with_lists(self, controls: usize, points: usize, preview: usize) -> Bench
         ensures { λ r. ⌜ r ≡ withLists self controls points preview ⌝ }
     {
@@ -91,6 +94,7 @@ impl Bench {
         }
     }
 
+    // The bench with another end of the file.
     fn with_file(self, file: usize) -> Bench
         ensures { λ r. ⌜ r ≡ withFile self file ⌝ }
     {

@@ -24,6 +24,7 @@ const MOST_MORE: u64 = 40;
 
 const FILE_BYTES: usize = 16;
 
+// Every number of a list becomes the same.
 fn fill(list: &mut [i32], z: i32)
     ensures { λ _. ⌜ now (list .exit) ≡ replicate (length (now (list .entry))) z ⌝ }
 {
@@ -34,6 +35,7 @@ fn fill(list: &mut [i32], z: i32)
     }
 }
 
+// The same for doubles.
 fn fill_doubles(list: &mut [f64], x: f64)
     ensures { λ _. ⌜ now (list .exit) ≡ replicate (length (now (list .entry))) x ⌝ }
 {
@@ -44,7 +46,7 @@ fn fill_doubles(list: &mut [f64], x: f64)
     }
 }
 
-// Lends so much of each list, every number in them the same.
+// Lends so much of each list, and every number in them becomes the same. Where a length or the number does not fit, no list changes.
 pub fn lend(
     bench: Bench,
     r: Record,
@@ -72,6 +74,7 @@ pub fn lend(
     Turn::Next(bench.with_lists(r.a as usize, r.b as usize, r.c as usize))
 }
 
+// The shape, each of its numbers of 32 bits.
 fn set_shape(bench: Bench, r: Record) -> Turn
     ensures { λ t. ⌜ t ≡ shaping bench r ⌝ }
 {
@@ -91,7 +94,7 @@ fn set_shape(bench: Bench, r: Record) -> Turn
     }))
 }
 
-// One number of a list.
+// One number of a list becomes another, where there is such a place.
 pub fn set_number(bench: Bench, r: Record, list: &mut [i32]) -> Turn
     ensures { λ t. ⌜ outcome t (now (list .exit)) ≡ numbering bench r (now (list .entry)) ⌝ }
 {
@@ -125,7 +128,7 @@ fn append(bytes: &[u8; 56], more: usize, file: &mut [u8], at: usize)
     }
 }
 
-// More bytes at the end of the file, if there is room for them.
+// More bytes at the end of the file, if there is room for them; else the file stays.
 pub fn more_file(bench: Bench, r: Record, bytes: &[u8; 56], file: &mut [u8]) -> Turn
     ensures { λ t. ⌜ outcome t (now (file .exit)) ≡ filing bench r (now (bytes .entry)) (now (file .entry)) ⌝ }
 {
@@ -147,6 +150,7 @@ pub fn more_file(bench: Bench, r: Record, bytes: &[u8; 56], file: &mut [u8]) -> 
     Turn::Next(bench.with_file(at + more))
 }
 
+// The drawing state; the last number says whether it is closed.
 fn set_state(bench: Bench, r: Record) -> Turn
     ensures { λ t. ⌜ t ≡ stating bench r ⌝ }
 {
