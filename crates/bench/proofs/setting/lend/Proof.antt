@@ -1,5 +1,5 @@
 -- Each return is where a length or the number is the first that does not fit, or where all three lists are filled.
-use mathlib.Core.Path.{_≡_, sym, ap, _∙_}
+use mathlib.Core.Path.{sym, ap, _∙_}
 use borrow.Author.Tests.{lt-ltb, le-ltb}
 use lib.ListN.{length, replicate}
 use mir.Syntax.{w32}

@@ -1,5 +1,5 @@
 -- The number decides, then the place.
-use mathlib.Core.Path.{_≡_, sym, ap, _∙_}
+use mathlib.Core.Path.{sym, ap, _∙_}
 use borrow.Author.Tests.{le-leb, lt-leb}
 use lib.ListN.{set}
 use mir.Syntax.{w32}

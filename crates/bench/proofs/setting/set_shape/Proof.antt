@@ -1,5 +1,5 @@
 -- Each return is where a number is the first that does not fit, or where all do.
-use mathlib.Core.Path.{_≡_, sym, ap, _∙_}
+use mathlib.Core.Path.{sym, ap, _∙_}
 use borrow.Author.Tests.{lt-ltb, le-ltb}
 use Rattle.bench.specs.declared.Turn.the-variants.{Next}
 use Rattle.bench.specs.Settings.{shaping}
