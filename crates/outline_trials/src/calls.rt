@@ -1,17 +1,12 @@
 // The records that call the library, on the lent parts of the lists, and write what it answers.
-use crate::bench::Bench;
-use crate::bench::Turn;
-use crate::record::Placed;
-use crate::record::Record;
-use crate::record::control;
-use crate::record::double;
 use crate::text::say;
 use crate::text::say_numbers;
 use crate::text::say_refusal;
 use crate::text::say_state;
+use bench::Bench;
+use bench::Turn;
 use drawing::Control;
 use drawing::State;
-use drawing::Step;
 use drawing::Stepped;
 use edit::Edited;
 use file_list::MOST_TEXT;
@@ -21,26 +16,29 @@ use outline::Drawn;
 use preview::Previewed;
 use record_file::Reading;
 use shape::Shape;
+use trial_record::Placed;
+use trial_record::Record;
+use trial_record::control;
+use trial_record::step_of;
 
 // A place is below 2^63.
 const HALF: u64 = 9223372036854775808;
 
-// The outline, by the way that the operation names.
-fn draw_by(op: u8, shape: Shape, controls: &[i32], points: &mut [i32]) -> Drawn {
-    match op {
-        10 => outline::by_weights(shape, controls, points),
-        11 => outline::by_halving(shape, controls, points),
-        _ => outline::by_differences(shape, controls, points),
-    }
-}
-
-pub(crate) fn draw(bench: Bench, op: u8, controls: &[i32], points: &mut [i32]) -> Turn {
-    let shape = bench.shape;
-    match draw_by(op, shape, controls, points) {
+// What drawing answered, said.
+fn say_drawn(answer: Drawn) {
+    match answer {
         Drawn::Refused(refusal) => say_refusal(refusal),
         Drawn::Points(count) => say(b"drawn", &[count]),
     }
-    Turn::Next(bench)
+}
+
+// The outline, by the way that the operation names.
+pub(crate) fn draw(shape: Shape, op: u8, controls: &[i32], points: &mut [i32]) {
+    match op {
+        10 => say_drawn(outline::by_weights(shape, controls, points)),
+        11 => say_drawn(outline::by_halving(shape, controls, points)),
+        _ => say_drawn(outline::by_differences(shape, controls, points)),
+    }
 }
 
 // What an edit answered, said, and the shape that it leaves.
@@ -135,24 +133,6 @@ pub(crate) fn draw_preview(bench: Bench, controls: &[i32], preview: &mut [f64]) 
         Previewed::Drawn(count) => say(b"previewed", &[count]),
     }
     Turn::Next(bench)
-}
-
-// The step that a record names.
-fn step_of(r: Record) -> Step {
-    let op = r.op;
-    match op {
-        51 => Step::Move(double(r.a), double(r.b)),
-        52 => Step::Line(double(r.a), double(r.b)),
-        53 => Step::Cubic(
-            double(r.a),
-            double(r.b),
-            double(r.c),
-            double(r.d),
-            double(r.e),
-            double(r.f),
-        ),
-        _ => Step::Close,
-    }
 }
 
 fn show_state(state: State) {

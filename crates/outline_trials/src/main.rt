@@ -1,20 +1,21 @@
 // Plays a trials file from standard input: records of 56 bytes, one after the other, each a call of the library, and writes what the calls answer.
 ghost use Prim.Native.Nat.{_≤_};
 
-mod bench;
 mod calls;
-mod record;
-mod setting;
 mod text;
 
 use bench::Bench;
 use bench::Turn;
+use bench::lend;
+use bench::more_file;
+use bench::set_bench;
+use bench::set_number;
 use libc::STDIN_FILENO;
-use record::Record;
-use record::decoded;
 use text::say;
 use text::say_numbers;
 use text::say_patterns;
+use trial_record::Record;
+use trial_record::decoded;
 
 // The bytes of a record.
 const RECORD: usize = 56;
@@ -26,25 +27,65 @@ const MOST_POINTS: usize = 8000;
 
 const MOST_FILE: usize = 800;
 
+// The operation that adds to the file.
+const MORE_FILE: u8 = 6;
+
+// The operations from here on show a list.
+const SHOWING: u8 = 60;
+
 fn least(a: usize, b: usize) -> usize
     ensures { λ r. ⌜ r ≤ b ⌝ }
 {
     if a < b { a } else { b }
 }
 
-// A record that shows a list or the file.
-fn show(
-    bench: Bench,
-    op: u8,
-    controls: &[i32],
-    points: &[i32],
-    preview: &[f64],
-    file: &[u8],
-) -> Turn {
+// What a record works on: the lists' lengths, the bench alone, the lent controls and points, or the rest.
+enum Work {
+    Lists,
+    Bench,
+    Outline,
+    Drawing,
+}
+
+fn work_of(op: u8) -> Work {
+    match op {
+        1 => Work::Lists,
+        2 | 5 | 50 => Work::Bench,
+        3 | 4 | 10..=12 | 20..=22 | 30 | 60 | 61 => Work::Outline,
+        _ => Work::Drawing,
+    }
+}
+
+// A record on one list of numbers: one of them set, or all shown.
+fn play_numbers(bench: Bench, r: Record, list: &mut [i32]) -> Turn {
+    if r.op < SHOWING {
+        return set_number(bench, r, list);
+    }
+    say_numbers(list);
+    Turn::Next(bench)
+}
+
+// A record on the outline: the lent controls and points.
+fn play_outline(bench: Bench, r: Record, controls: &mut [i32], points: &mut [i32]) -> Turn {
+    let op = r.op;
+    match op {
+        3 | 60 => play_numbers(bench, r, controls),
+        4 | 61 => play_numbers(bench, r, points),
+        10..=12 => {
+            let shape = bench.shape;
+            calls::draw(shape, op, controls, points);
+            Turn::Next(bench)
+        }
+        20 | 21 => calls::place_record(bench, r, controls, points),
+        22 => calls::remove_record(bench, r, controls, points),
+        _ => calls::view(bench, r, points),
+    }
+}
+
+// A record that shows the file or the preview.
+fn show(bench: Bench, op: u8, preview: &[f64], file: &[u8]) -> Turn {
     match op {
         56 => calls::show_file(file),
-        60 => say_numbers(controls),
-        61 => say_numbers(points),
         62 => say_patterns(preview),
         _ => {
             return Turn::Bad;
@@ -53,48 +94,45 @@ fn show(
     Turn::Next(bench)
 }
 
-// A record on the lent parts of the lists and on the file as long as it is.
-fn play_lent(
+// A record on the drawing: the lent controls and preview, and the file as long as it is.
+fn play_drawing(
     bench: Bench,
     r: Record,
     controls: &mut [i32],
-    points: &mut [i32],
     preview: &mut [f64],
     file: &[u8],
 ) -> Turn {
     let op = r.op;
     match op {
-        3 => setting::set_number(bench, r, controls),
-        4 => setting::set_number(bench, r, points),
-        10 | 11 | 12 => calls::draw(bench, op, controls, points),
-        20 | 21 => calls::place_record(bench, r, controls, points),
-        22 => calls::remove_record(bench, r, controls, points),
-        30 => calls::view(bench, r, points),
         40 => calls::draw_preview(bench, controls, preview),
-        51 | 52 | 53 | 54 => calls::step(bench, r, controls),
+        51..=54 => calls::step(bench, r, controls),
         55 => calls::read_file(bench, file, controls),
-        _ => show(bench, op, controls, points, preview, file),
+        _ => show(bench, op, preview, file),
     }
 }
 
-// The lent parts of the lists, and a record on them.
-fn lent(
+// The lent parts of the outline's lists, and a record on them.
+fn lend_outline(bench: Bench, r: Record, controls: &mut [i32], points: &mut [i32]) -> Turn {
+    let a = least(bench.controls, controls.len());
+    let b = least(bench.points, points.len());
+    play_outline(bench, r, &mut controls[0..a], &mut points[0..b])
+}
+
+// The lent parts of the drawing's lists, and a record on them.
+fn lend_drawing(
     bench: Bench,
     r: Record,
     controls: &mut [i32],
-    points: &mut [i32],
     preview: &mut [f64],
     file: &[u8],
 ) -> Turn {
     let a = least(bench.controls, controls.len());
-    let b = least(bench.points, points.len());
     let c = least(bench.preview, preview.len());
     let d = least(bench.file, file.len());
-    play_lent(
+    play_drawing(
         bench,
         r,
         &mut controls[0..a],
-        &mut points[0..b],
         &mut preview[0..c],
         &file[0..d],
     )
@@ -103,25 +141,27 @@ fn lent(
 // One record: it sets the bench up, or works on what is lent.
 fn play(
     bench: Bench,
-    bytes: &[u8; 56],
+    r: Record,
     controls: &mut [i32],
     points: &mut [i32],
     preview: &mut [f64],
-    file: &mut [u8],
+    file: &[u8],
 ) -> Turn {
-    let r = decoded(bytes);
     let op = r.op;
-    match op {
-        1 => setting::lend(bench, r, controls, points, preview),
-        2 => setting::set_shape(bench, r),
-        5 => Turn::Next(bench.with_file(0)),
-        6 => setting::more_file(bench, r, bytes, file),
-        50 => setting::set_state(bench, r),
-        _ => lent(bench, r, controls, points, preview, file),
+    match work_of(op) {
+        Work::Lists => lend(bench, r, controls, points, preview),
+        Work::Bench => set_bench(bench, r),
+        Work::Outline => lend_outline(bench, r, controls, points),
+        Work::Drawing => lend_drawing(bench, r, controls, preview, file),
     }
 }
 
-// The next record of the input.
+// The input has ended, or a record is cut short.
+fn cut_short(got: usize) -> Turn {
+    if got == 0 { Turn::End } else { Turn::Bad }
+}
+
+// The next record of the input. The file is written by one operation alone, with the record's own bytes.
 fn play_next(
     bench: Bench,
     controls: &mut [i32],
@@ -131,13 +171,22 @@ fn play_next(
 ) -> Turn {
     let mut bytes = [0u8; RECORD];
     let got = io::read_full(STDIN_FILENO, &mut bytes);
-    if got == 0 {
-        return Turn::End;
-    }
     if got < RECORD {
-        return Turn::Bad;
+        return cut_short(got);
     }
-    play(bench, &bytes, controls, points, preview, file)
+    let r = decoded(&bytes);
+    if r.op == MORE_FILE {
+        return more_file(bench, r, &bytes, file);
+    }
+    play(bench, r, controls, points, preview, file)
+}
+
+// A bad record is named, and ends the run.
+fn told(turn: Turn, number: usize) -> Turn {
+    if let Turn::Bad = turn {
+        say(b"bad record", &[number]);
+    }
+    turn
 }
 
 // The records to the end of the input, or to the first that is bad.
@@ -145,18 +194,11 @@ fn play_all(controls: &mut [i32], points: &mut [i32], preview: &mut [f64], file:
     let mut bench = Bench::new();
     let mut number: usize = 0;
     while number < usize::MAX {
-        match play_next(bench, controls, points, preview, file) {
-            Turn::Next(next) => {
-                bench = next;
-            }
-            Turn::Bad => {
-                say(b"bad record", &[number]);
-                return;
-            }
-            Turn::End => {
-                return;
-            }
-        }
+        let turn = play_next(bench, controls, points, preview, file);
+        let Turn::Next(next) = told(turn, number) else {
+            return;
+        };
+        bench = next;
         number += 1;
     }
 }

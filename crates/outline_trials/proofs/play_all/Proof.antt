@@ -17,11 +17,11 @@ record Kept (controls₀ controls points₀ points : List ℤ) (preview₀ previ
   of-file : length file ≡ length file₀
 
 abbrev Inv-loop : tie.InvT-loop
-Inv-loop controls₀ points₀ preview₀ file₀ bench₀ number₀ t8 controls points preview file bench number =
+Inv-loop controls₀ points₀ preview₀ file₀ bench₀ number₀ controls points preview file bench number =
     Kept controls₀ controls points₀ points preview₀ preview file₀ file
 
 abbrev μ-loop : tie.MeasureT-loop
-μ-loop controls₀ points₀ preview₀ file₀ bench₀ number₀ t8 controls points preview file bench number =
+μ-loop controls₀ points₀ preview₀ file₀ bench₀ number₀ controls points preview file bench number =
     18446744073709551615 - number
 
 new-requires : tie.Need-new-requires Inv-loop μ-loop
@@ -33,20 +33,11 @@ loop-holds c = record { of-controls = refl; of-points = refl; of-preview = refl;
 play-next-requires : tie.Need-play-next-requires Inv-loop μ-loop
 play-next-requires c κs = search needs
 
+told-requires : tie.Need-told-requires Inv-loop μ-loop
+told-requires c κs = search needs
+
 enum-known-next : tie.Need-enum-known-next Inv-loop μ-loop
 enum-known-next c = search needs
-
-enum-told : tie.Need-enum-told Inv-loop μ-loop
-enum-told c = search needs
-
-slice-aggregate-say : tie.Need-slice-aggregate-say Inv-loop μ-loop
-slice-aggregate-say c = search needs
-
-slice-aggregate-say-2 : tie.Need-slice-aggregate-say-2 Inv-loop μ-loop
-slice-aggregate-say-2 c = search needs
-
-say-requires : tie.Need-say-requires Inv-loop μ-loop
-say-requires c κs = search needs
 
 same-length : tie.Need-same-length Inv-loop μ-loop
 same-length c = search needs
@@ -63,8 +54,14 @@ same-length-4 c = search needs
 returns : tie.Need-returns Inv-loop μ-loop
 returns c = search needs
 
-enum-told-2 : tie.Need-enum-told-2 Inv-loop μ-loop
-enum-told-2 c = search needs
+add-number : tie.Need-add-number Inv-loop μ-loop
+add-number c = search needs
+
+loop-less : tie.Need-loop-less Inv-loop μ-loop
+loop-less c = search needs
+
+loop-again : tie.Need-loop-again Inv-loop μ-loop
+loop-again c = record { of-controls = search needs; of-points = search needs; of-preview = search needs; of-file = search needs }
 
 same-length-5 : tie.Need-same-length-5 Inv-loop μ-loop
 same-length-5 c = search needs
@@ -81,30 +78,6 @@ same-length-8 c = search needs
 returns-2 : tie.Need-returns-2 Inv-loop μ-loop
 returns-2 c = search needs
 
-add-number : tie.Need-add-number Inv-loop μ-loop
-add-number c = search needs
-
-loop-less : tie.Need-loop-less Inv-loop μ-loop
-loop-less c = search needs
-
-loop-again : tie.Need-loop-again Inv-loop μ-loop
-loop-again c = record { of-controls = search needs; of-points = search needs; of-preview = search needs; of-file = search needs }
-
-same-length-9 : tie.Need-same-length-9 Inv-loop μ-loop
-same-length-9 c = search needs
-
-same-length-10 : tie.Need-same-length-10 Inv-loop μ-loop
-same-length-10 c = search needs
-
-same-length-11 : tie.Need-same-length-11 Inv-loop μ-loop
-same-length-11 c = search needs
-
-same-length-12 : tie.Need-same-length-12 Inv-loop μ-loop
-same-length-12 c = search needs
-
-returns-3 : tie.Need-returns-3 Inv-loop μ-loop
-returns-3 c = search needs
-
 pub play-all-spec : {M : Type 1} → statement M
 play-all-spec =
     tie.close
@@ -114,27 +87,18 @@ play-all-spec =
     new-requires
     loop-holds
     play-next-requires
+    told-requires
     enum-known-next
-    enum-told
-    slice-aggregate-say
-    slice-aggregate-say-2
-    say-requires
     same-length
     same-length-2
     same-length-3
     same-length-4
     returns
-    enum-told-2
+    add-number
+    loop-less
+    loop-again
     same-length-5
     same-length-6
     same-length-7
     same-length-8
-    returns-2
-    add-number
-    loop-less
-    loop-again
-    same-length-9
-    same-length-10
-    same-length-11
-    same-length-12
-    returns-3)
+    returns-2)

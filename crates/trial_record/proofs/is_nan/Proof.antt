@@ -1,12 +1,12 @@
 -- The test on the bits is that of the field and that of the digits.
-use mathlib.Core.Path.{_≡_, refl, sym, ap, _∙_}
-use mathlib.Core.Bool.{Bool, true, false, not, _&&_}
+use mathlib.Core.Path.{_≡_, refl, sym, _∙_}
+use mathlib.Core.Bool.{not, _&&_}
 use Prim.Native.Nat.{ℕ, _/_, _%_}
 use borrow.Author.Tests.{eq-eqb, ne-eqb}
 use lib.Dec.{eqb}
 use lib.Ieee.{binary64, nanBits}
-use Rattle.outline_trials.proofs.record.is_nan.Statement.{statement}
-use Rattle.outline_trials.proofs.record.is_nan.Tie as tie
+use Rattle.trial_record.proofs.is_nan.Statement.{statement}
+use Rattle.trial_record.proofs.is_nan.Tie as tie
 
 test : (b : ℕ) → nanBits binary64 b ≡ (eqb (b % 9223372036854775808 / 4503599627370496) 2047 && not (eqb (b % 4503599627370496) 0))
 unfolding nanBits

@@ -1,8 +1,18 @@
-// What a trials file works on, beside the lists: the shape, the drawing state, and how much of each list and of the file is lent.
+// The bench that a trials file works on, and the records that set it up. No public call has a `requires`.
+ghost use mathlib.Core.Path.{_≡_};
+ghost use Rattle.bench.specs.Settings.{bare, withShape, withState, withLists, withFile};
+
+mod setting;
+
 use drawing::State;
+pub use setting::lend;
+pub use setting::more_file;
+pub use setting::set_bench;
+pub use setting::set_number;
 use shape::Shape;
 
-pub(crate) struct Bench {
+// What a trials file works on, beside the lists: the shape, the drawing state, and how much of each list and of the file is lent.
+pub struct Bench {
     pub shape: Shape,
     pub state: State,
     pub controls: usize,
@@ -12,7 +22,7 @@ pub(crate) struct Bench {
 }
 
 // What playing a record comes to: the bench afterwards, that the record is bad, or that the input has ended.
-pub(crate) enum Turn {
+pub enum Turn {
     Next(Bench),
     Bad,
     End,
@@ -20,7 +30,9 @@ pub(crate) enum Turn {
 
 impl Bench {
     // The bench before the first record.
-    pub(crate) fn new() -> Bench {
+    pub fn new() -> Bench
+        ensures { λ r. ⌜ r ≡ bare ⌝ }
+    {
         let state = State::new();
         Bench {
             shape: Shape {
@@ -36,7 +48,10 @@ impl Bench {
         }
     }
 
-    pub(crate) fn with_shape(self, shape: Shape) -> Bench {
+    // The bench with another shape.
+    pub fn with_shape(self, shape: Shape) -> Bench
+        ensures { λ r. ⌜ r ≡ withShape self shape ⌝ }
+    {
         let state = self.state;
         Bench {
             shape,
@@ -48,7 +63,10 @@ impl Bench {
         }
     }
 
-    pub(crate) fn with_state(self, state: State) -> Bench {
+    // The bench with another drawing state.
+    pub fn with_state(self, state: State) -> Bench
+        ensures { λ r. ⌜ r ≡ withState self state ⌝ }
+    {
         let shape = self.shape;
         Bench {
             shape,
@@ -60,7 +78,10 @@ impl Bench {
         }
     }
 
-    pub(crate) fn with_lists(self, controls: usize, points: usize, preview: usize) -> Bench {
+    // The bench with other lengths lent.
+    fn with_lists(self, controls: usize, points: usize, preview: usize) -> Bench
+        ensures { λ r. ⌜ r ≡ withLists self controls points preview ⌝ }
+    {
         let shape = self.shape;
         let state = self.state;
         Bench {
@@ -73,7 +94,10 @@ impl Bench {
         }
     }
 
-    pub(crate) fn with_file(self, file: usize) -> Bench {
+    // The bench with another end of the file.
+    fn with_file(self, file: usize) -> Bench
+        ensures { λ r. ⌜ r ≡ withFile self file ⌝ }
+    {
         let shape = self.shape;
         let state = self.state;
         Bench {

@@ -1,16 +1,20 @@
 // The records that set the bench up, and write nothing.
+ghost use mathlib.Core.Path.{_≡_};
 ghost use Prim.Native.Nat.{_+_, _≤_};
-ghost use lib.ListN.{length};
-use crate::bench::Bench;
-use crate::bench::Turn;
-use crate::record::Number;
-use crate::record::Placed;
-use crate::record::Record;
-use crate::record::control;
-use crate::record::coordinate;
+ghost use lib.ListN.{length, replicate};
+ghost use lib.Seq.{sets};
+ghost use Rattle.bench.specs.declared.Turn.the-variants.{Next};
+ghost use Rattle.bench.specs.Settings.{withFile, outcome, lists, lending, shaping, numbering, brought, filing, stating, setting};
+use crate::Bench;
+use crate::Turn;
 use doubles::double_of;
 use drawing::State;
 use shape::Shape;
+use trial_record::Number;
+use trial_record::Placed;
+use trial_record::Record;
+use trial_record::control;
+use trial_record::coordinate;
 
 // The greatest number of 32 bits.
 const MOST_32: u64 = 4294967295;
@@ -20,7 +24,10 @@ const MOST_MORE: u64 = 40;
 
 const FILE_BYTES: usize = 16;
 
-fn fill(list: &mut [i32], z: i32) {
+// Every number of a list becomes the same.
+fn fill(list: &mut [i32], z: i32)
+    ensures { λ _. ⌜ now (list .exit) ≡ replicate (length (now (list .entry))) z ⌝ }
+{
     let mut i = 0;
     while i < list.len() {
         list[i] = z;
@@ -28,7 +35,10 @@ fn fill(list: &mut [i32], z: i32) {
     }
 }
 
-fn fill_doubles(list: &mut [f64], x: f64) {
+// The same for doubles.
+fn fill_doubles(list: &mut [f64], x: f64)
+    ensures { λ _. ⌜ now (list .exit) ≡ replicate (length (now (list .entry))) x ⌝ }
+{
     let mut i = 0;
     while i < list.len() {
         list[i] = x;
@@ -36,14 +46,16 @@ fn fill_doubles(list: &mut [f64], x: f64) {
     }
 }
 
-// Lends so much of each list, every number in them the same.
-pub(crate) fn lend(
+// Lends so much of each list, and every number in them becomes the same. Where a length or the number does not fit, no list changes.
+pub fn lend(
     bench: Bench,
     r: Record,
     controls: &mut [i32],
     points: &mut [i32],
     preview: &mut [f64],
-) -> Turn {
+) -> Turn
+    ensures { λ t. ⌜ outcome t (lists (now (controls .exit)) (now (points .exit)) (now (preview .exit))) ≡ lending bench r (lists (now (controls .entry)) (now (points .entry)) (now (preview .entry))) ⌝ }
+{
     if r.a > controls.len() as u64 {
         return Turn::Bad;
     }
@@ -62,7 +74,10 @@ pub(crate) fn lend(
     Turn::Next(bench.with_lists(r.a as usize, r.b as usize, r.c as usize))
 }
 
-pub(crate) fn set_shape(bench: Bench, r: Record) -> Turn {
+// The shape, each of its numbers of 32 bits.
+fn set_shape(bench: Bench, r: Record) -> Turn
+    ensures { λ t. ⌜ t ≡ shaping bench r ⌝ }
+{
     if r.a > MOST_32 {
         return Turn::Bad;
     }
@@ -79,8 +94,10 @@ pub(crate) fn set_shape(bench: Bench, r: Record) -> Turn {
     }))
 }
 
-// One number of a list.
-pub(crate) fn set_number(bench: Bench, r: Record, list: &mut [i32]) -> Turn {
+// One number of a list becomes another, where there is such a place.
+pub fn set_number(bench: Bench, r: Record, list: &mut [i32]) -> Turn
+    ensures { λ t. ⌜ outcome t (now (list .exit)) ≡ numbering bench r (now (list .entry)) ⌝ }
+{
     let at = r.a as usize;
     let Number::Fits(z) = coordinate(r.b) else {
         return Turn::Bad;
@@ -92,9 +109,17 @@ pub(crate) fn set_number(bench: Bench, r: Record, list: &mut [i32]) -> Turn {
     Turn::Next(bench)
 }
 
+// The file becomes empty.
+fn empty_file(bench: Bench) -> Turn
+    ensures { λ t. ⌜ t ≡ Next (withFile bench 0) ⌝ }
+{
+    Turn::Next(bench.with_file(0))
+}
+
 // The record's first `more` bytes of the file, from place `at` on.
 fn append(bytes: &[u8; 56], more: usize, file: &mut [u8], at: usize)
     requires { ⌜ (more ≤ 40) × (at + more ≤ length (now file)) ⌝ }
+    ensures { λ _. ⌜ now (file .exit) ≡ sets (now (file .entry)) at (brought (now (bytes .entry)) more) ⌝ }
 {
     let mut i = 0;
     while i < more {
@@ -103,8 +128,10 @@ fn append(bytes: &[u8; 56], more: usize, file: &mut [u8], at: usize)
     }
 }
 
-// More bytes at the end of the file, if there is room for them.
-pub(crate) fn more_file(bench: Bench, r: Record, bytes: &[u8; 56], file: &mut [u8]) -> Turn {
+// More bytes at the end of the file, if there is room for them; else the file stays.
+pub fn more_file(bench: Bench, r: Record, bytes: &[u8; 56], file: &mut [u8]) -> Turn
+    ensures { λ t. ⌜ outcome t (now (file .exit)) ≡ filing bench r (now (bytes .entry)) (now (file .entry)) ⌝ }
+{
     if r.a == 0 {
         return Turn::Bad;
     }
@@ -123,7 +150,10 @@ pub(crate) fn more_file(bench: Bench, r: Record, bytes: &[u8; 56], file: &mut [u
     Turn::Next(bench.with_file(at + more))
 }
 
-pub(crate) fn set_state(bench: Bench, r: Record) -> Turn {
+// The drawing state; the last number says whether it is closed.
+fn set_state(bench: Bench, r: Record) -> Turn
+    ensures { λ t. ⌜ t ≡ stating bench r ⌝ }
+{
     if r.a > MOST_32 {
         return Turn::Bad;
     }
@@ -142,4 +172,17 @@ pub(crate) fn set_state(bench: Bench, r: Record) -> Turn {
         current,
         closed: r.f == 1,
     }))
+}
+
+// The records that set the bench alone, and no list: its shape, the end of its file, its state.
+pub fn set_bench(bench: Bench, r: Record) -> Turn
+    ensures { λ t. ⌜ t ≡ setting bench r ⌝ }
+{
+    let op = r.op;
+    match op {
+        2 => set_shape(bench, r),
+        5 => empty_file(bench),
+        50 => set_state(bench, r),
+        _ => Turn::Bad,
+    }
 }
