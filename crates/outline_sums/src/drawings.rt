@@ -1,10 +1,10 @@
 // The sums of a drawing's numbers: what a Move to x millimetres makes of x.
-use crate::text::put;
-use crate::text::put_number;
-use crate::text::put_refusal;
+use crate::outlines::put_refusal;
 use drawing::State;
 use drawing::Step;
 use drawing::Stepped;
+use phrases::add_spaced_number;
+use phrases::add_word;
 
 // P12.
 pub(crate) fn put_millimetres(text: &mut [u8], at: usize) -> usize {
@@ -18,20 +18,18 @@ pub(crate) fn put_millimetres(text: &mut [u8], at: usize) -> usize {
 fn put_move(text: &mut [u8], at: usize, label: &[u8], mm: f64) -> usize {
     let mut controls = [0i32; 2];
     let stepped = State::new().step(Step::Move(mm, 0.0), &mut controls);
-    let past_label = put(text, at, label);
+    let past_label = add_word(text, at, label);
     let end = put_stepped(text, past_label, stepped);
-    put(text, end, b"\n")
+    add_word(text, end, b"\n")
 }
 
+// The x of the last control, or the refusal.
 fn put_stepped(text: &mut [u8], at: usize, stepped: Stepped) -> usize {
     match stepped {
-        Stepped::Next(state) => put_current(text, at, state),
+        Stepped::Next(state) => {
+            let current = state.current;
+            add_spaced_number(text, at, current.x)
+        }
         Stepped::Refused(refusal) => put_refusal(text, at, refusal),
     }
-}
-
-// The x of the last control.
-fn put_current(text: &mut [u8], at: usize, state: State) -> usize {
-    let current = state.current;
-    put_number(text, at, current.x)
 }

@@ -1,14 +1,8 @@
 // The sums of the edits: each starts from the same outline, and tells the points after it and the spans worked afresh.
 use crate::outlines::CARDINAL;
-use crate::outlines::put_points;
-use crate::records::ROOM;
-use crate::records::none;
-use crate::records::on_x;
-use crate::text::put;
-use crate::text::put_count;
-use crate::text::put_number;
-use crate::text::put_refusal;
-use crate::text::put_x;
+use crate::outlines::ROOM;
+use crate::outlines::put_outline;
+use crate::outlines::put_refusal;
 use edit::Change;
 use edit::Edit;
 use edit::Edited;
@@ -16,81 +10,50 @@ use edit::insert_record;
 use edit::move_record;
 use edit::remove_record;
 use outline::by_weights;
+use phrases::add_spaced_natural;
+use phrases::add_spaced_number;
+use phrases::add_word;
+use phrases::add_x;
 use shape::Judged;
 use shape::Shape;
 use shape::check_shape;
 
-// The records before an edit.
-const BEFORE: [i32; 6] = [0, 10, 20, 30, 40, 50];
+// The outline before an edit: six records, and room for one more.
+const SHAPE: Shape = Shape {
+    basis: CARDINAL,
+    depth: 0,
+    count: 6,
+};
+
+const CONTROLS: [i32; 14] = [0, 0, 10, 0, 20, 0, 30, 0, 40, 0, 50, 0, 0, 0];
 
 // The outline before the edits, and P9 to P11.
 pub(crate) fn put_edits(text: &mut [u8], at: usize) -> usize {
-    let before = put_points(text, at, b"", CARDINAL, 0, &BEFORE);
-    let p9 = put_edit(text, before, b"P9", Edit::Insert(60, 0), 6);
-    let p10 = put_edit(text, p9, b"P10", Edit::Remove, 0);
-    put_edit(text, p10, b"P11", Edit::Move(33, 0), 3)
+    let before = put_outline(text, at, SHAPE, &CONTROLS);
+    let p9 = put_edit(text, before, b"P9 insert 60 at 6:", Edit::Insert(60, 0), 6);
+    let p10 = put_edit(text, p9, b"P10 remove at 0:", Edit::Remove, 0);
+    put_edit(text, p10, b"P11 move 3 to 33:", Edit::Move(33, 0), 3)
 }
 
-// The line of an edit: its label, what is asked, and what it leaves.
-fn put_edit(text: &mut [u8], at: usize, label: &[u8], edit: Edit, place: usize) -> usize {
-    let mut controls = on_x(&BEFORE);
-    let mut points = none();
-    let shape = Shape {
-        basis: CARDINAL,
-        depth: 0,
-        count: BEFORE.len(),
-    };
-    by_weights(shape, &controls, &mut points);
-    let edited = edit_outline(edit, shape, place, &mut controls, &mut points);
-    let past_label = put(text, at, label);
-    let past_asked = put_asked(text, past_label, edit, place);
-    let past_colon = put(text, past_asked, b":");
-    let past_edited = put_edited(text, past_colon, edited, &points);
-    let end = put_kept(text, past_edited, edit, &points);
-    put(text, end, b"\n")
+// The line of an edit: what is asked, and what it leaves.
+fn put_edit(text: &mut [u8], at: usize, asked: &[u8], edit: Edit, place: usize) -> usize {
+    let mut points = [0i32; ROOM];
+    let edited = edit_outline(edit, place, &mut points);
+    let past_asked = add_word(text, at, asked);
+    let past_edited = put_edited(text, past_asked, edited, &points);
+    let end = put_kept(text, past_edited, edit, points[2 * 3]);
+    add_word(text, end, b"\n")
 }
 
-// The edit, done to the lent lists.
-fn edit_outline(
-    edit: Edit,
-    shape: Shape,
-    place: usize,
-    controls: &mut [i32],
-    points: &mut [i32],
-) -> Edited {
+// The edit, done to the outline, whose points are left in the lent list.
+fn edit_outline(edit: Edit, place: usize, points: &mut [i32]) -> Edited {
+    let mut controls = CONTROLS;
+    by_weights(SHAPE, &controls, points);
     match edit {
-        Edit::Move(x, y) => move_record(shape, place, x, y, controls, points),
-        Edit::Insert(x, y) => insert_record(shape, place, x, y, controls, points),
-        Edit::Remove => remove_record(shape, place, controls, points),
+        Edit::Move(x, y) => move_record(SHAPE, place, x, y, &mut controls, points),
+        Edit::Insert(x, y) => insert_record(SHAPE, place, x, y, &mut controls, points),
+        Edit::Remove => remove_record(SHAPE, place, &mut controls, points),
     }
-}
-
-// What is asked of the outline.
-fn put_asked(text: &mut [u8], at: usize, edit: Edit, place: usize) -> usize {
-    match edit {
-        Edit::Move(x, _) => put_move(text, at, place, x),
-        Edit::Insert(x, _) => put_insert(text, at, x, place),
-        Edit::Remove => put_remove(text, at, place),
-    }
-}
-
-fn put_move(text: &mut [u8], at: usize, place: usize, x: i32) -> usize {
-    let past_move = put(text, at, b" move");
-    let past_place = put_count(text, past_move, place);
-    let past_to = put(text, past_place, b" to");
-    put_number(text, past_to, x)
-}
-
-fn put_insert(text: &mut [u8], at: usize, x: i32, place: usize) -> usize {
-    let past_insert = put(text, at, b" insert");
-    let past_x = put_number(text, past_insert, x);
-    let past_at = put(text, past_x, b" at");
-    put_count(text, past_at, place)
-}
-
-fn put_remove(text: &mut [u8], at: usize, place: usize) -> usize {
-    let past_remove = put(text, at, b" remove at");
-    put_count(text, past_remove, place)
 }
 
 // What the edit answers, with the points that it leaves; or the refusal.
@@ -103,25 +66,20 @@ fn put_edited(text: &mut [u8], at: usize, edited: Edited, points: &[i32]) -> usi
 
 fn put_change(text: &mut [u8], at: usize, change: Change, points: &[i32]) -> usize {
     let shape = change.shape;
-    let past_points = put_x(text, at, points, point_count(shape));
-    let past_first = put(text, past_points, b" first");
-    let past_number = put_count(text, past_first, change.first);
-    let past_count = put(text, past_number, b" count");
-    put_count(text, past_count, change.fresh)
+    let past_points = add_x(text, at, points, point_count(shape));
+    let past_first = add_word(text, past_points, b" first");
+    let past_number = add_spaced_natural(text, past_first, change.first as u64);
+    let past_count = add_word(text, past_number, b" count");
+    add_spaced_natural(text, past_count, change.fresh as u64)
 }
 
 // After a removal, the x of the fourth point: it stands past those that are left, and keeps what it was.
-fn put_kept(text: &mut [u8], at: usize, edit: Edit, points: &[i32; ROOM]) -> usize {
-    match edit {
-        Edit::Move(_, _) => at,
-        Edit::Insert(_, _) => at,
-        Edit::Remove => put_fourth(text, at, points[2 * 3]),
-    }
-}
-
-fn put_fourth(text: &mut [u8], at: usize, x: i32) -> usize {
-    let past_word = put(text, at, b" fourth");
-    put_number(text, past_word, x)
+fn put_kept(text: &mut [u8], at: usize, edit: Edit, x: i32) -> usize {
+    let Edit::Remove = edit else {
+        return at;
+    };
+    let past_word = add_word(text, at, b" fourth");
+    add_spaced_number(text, past_word, x)
 }
 
 // The number of points of a shape, 0 where it is not sound.

@@ -1,70 +1,81 @@
-// The limits of depth, count and coordinate: the greatest that is drawn, and a sum that is refused.
+// The limits of depth, count and coordinate: the greatest that is drawn, and sums that are refused.
 use crate::outlines::BEZIER;
-use crate::outlines::put_asked;
-use crate::outlines::put_basis;
-use crate::outlines::put_depth;
-use crate::outlines::put_points;
-use crate::records::none;
-use crate::records::on_x;
-use crate::text::put;
-use crate::text::put_count;
-use crate::text::put_refusal;
+use crate::outlines::ROOM;
+use crate::outlines::Sum;
+use crate::outlines::put_refusal;
+use crate::outlines::put_sum;
 use outline::Drawn;
 use outline::by_weights;
+use phrases::add_spaced_natural;
+use phrases::add_word;
 use shape::Shape;
 
-// Depth 6 and 7, 64 records and 5, a coordinate of 4,000,000 and one more.
+// Depth 6 and 7; 64 records, 5 and 2^32; a coordinate of 4,000,000 and one more.
 pub(crate) fn put_limits(text: &mut [u8], at: usize) -> usize {
-    let deepest = put_deep(text, at, 6, &[0, 0, 0, 4]);
-    let too_deep = put_deep(text, deepest, 7, &[0, 0, 0, 4]);
-    let most = put_zeros(text, too_deep, 64);
-    let miscounted = put_zeros(text, most, 5);
-    let farthest = put_points(text, miscounted, b"", BEZIER, 1, &[0, 0, 0, 4000000]);
-    put_points(text, farthest, b"", BEZIER, 1, &[0, 0, 0, 4000001])
+    let past_sizes = put_sizes(text, at);
+    let farthest = put_reach(text, past_sizes, 4000000);
+    put_reach(text, farthest, 4000001)
 }
 
-// The line of a Bezier sum of which only the number of points is told.
-fn put_deep(text: &mut [u8], at: usize, depth: usize, numbers: &[i32]) -> usize {
+fn put_sizes(text: &mut [u8], at: usize) -> usize {
+    let deepest = put_size(text, at, b"0 0 0 4 depth 6:", 6, 4, 4);
+    let too_deep = put_size(text, deepest, b"0 0 0 4 depth 7:", 7, 4, 4);
+    let most = put_size(text, too_deep, b"64 records of 0 depth 1:", 1, 64, 0);
+    let odd = put_size(text, most, b"5 records of 0 depth 1:", 1, 5, 0);
+    put_size(
+        text,
+        odd,
+        b"4294967296 records of 0 depth 1:",
+        1,
+        4294967296,
+        0,
+    )
+}
+
+// The line of a Bezier sum of which only the number of points is told. All its records are 0, but the last of the first span.
+fn put_size(
+    text: &mut [u8],
+    at: usize,
+    asked: &[u8],
+    depth: usize,
+    count: usize,
+    last: i32,
+) -> usize {
     let shape = Shape {
         basis: BEZIER,
         depth,
-        count: numbers.len(),
-    };
-    let controls = on_x(numbers);
-    let mut points = none();
-    let drawn = by_weights(shape, &controls, &mut points);
-    let past_asked = put_asked(text, at, shape, &controls);
-    let end = put_size_drawn(text, past_asked, drawn);
-    put(text, end, b"\n")
-}
-
-// The same where all records are 0, and only their number is told.
-fn put_zeros(text: &mut [u8], at: usize, count: usize) -> usize {
-    let shape = Shape {
-        basis: BEZIER,
-        depth: 1,
         count,
     };
-    let mut points = none();
-    let drawn = by_weights(shape, &none(), &mut points);
-    let past_basis = put_basis(text, at, BEZIER);
-    let past_count = put_count(text, past_basis, count);
-    let past_records = put(text, past_count, b" records of 0");
-    let past_depth = put_depth(text, past_records, 1);
-    let end = put_size_drawn(text, past_depth, drawn);
-    put(text, end, b"\n")
+    let mut controls = [0i32; ROOM];
+    controls[2 * 3] = last;
+    let mut points = [0i32; ROOM];
+    let drawn = by_weights(shape, &controls, &mut points);
+    let start = add_word(text, at, b"Bezier ");
+    let past_asked = add_word(text, start, asked);
+    let end = put_size_drawn(text, past_asked, drawn);
+    add_word(text, end, b"\n")
 }
 
 // How many points were drawn, or the refusal.
 fn put_size_drawn(text: &mut [u8], at: usize, drawn: Drawn) -> usize {
     match drawn {
-        Drawn::Points(count) => put_size(text, at, count),
+        Drawn::Points(count) => {
+            let past_word = add_word(text, at, b" drawn");
+            add_spaced_natural(text, past_word, count as u64)
+        }
         Drawn::Refused(refusal) => put_refusal(text, at, refusal),
     }
 }
 
-// How many points there are.
-fn put_size(text: &mut [u8], at: usize, count: usize) -> usize {
-    let past_word = put(text, at, b" drawn");
-    put_count(text, past_word, count)
+// The line of a Bezier sum whose last record is x.
+fn put_reach(text: &mut [u8], at: usize, x: i32) -> usize {
+    put_sum(
+        text,
+        at,
+        Sum {
+            basis: BEZIER,
+            depth: 1,
+            numbers: [0, 0, 0, x],
+        },
+    )
 }
