@@ -7,17 +7,13 @@ mod outlines;
 use libc::STDOUT_FILENO;
 use phrases::length_of;
 
+// Every sum in the paper's order.
 fn main() {
     let mut text = io::buffer();
-    let end = put_sums(&mut text);
+    let past_bases = outlines::put_bases(&mut text, 0);
+    let past_edits = edits::put_edits(&mut text, past_bases);
+    let past_millimetres = drawings::put_millimetres(&mut text, past_edits);
+    let end = limits::put_limits(&mut text, past_millimetres);
     let length = length_of(end, &text);
     io::write_all(STDOUT_FILENO, &text[..length]);
-}
-
-// Every sum in the paper's order, from the start of the text on. Answers the place past them.
-fn put_sums(text: &mut [u8]) -> usize {
-    let past_bases = outlines::put_bases(text, 0);
-    let past_edits = edits::put_edits(text, past_bases);
-    let past_millimetres = drawings::put_millimetres(text, past_edits);
-    limits::put_limits(text, past_millimetres)
 }

@@ -1,11 +1,11 @@
-// The line of an outline's sum: what is drawn, and its points or its refusal. A sum is over one axis: its numbers are the x of records whose y is 0.
+// The line of an outline's sum: what is drawn, and its points or its refusal. A sum is over one axis: records stand as x then y, and every y is 0.
 use outline::Drawn;
 use outline::by_weights;
-use phrases::add_natural;
+use phrases::add_phrase;
 use phrases::add_spaced_natural;
 use phrases::add_word;
 use phrases::add_x;
-use shape::Refusal;
+use phrases::end_line;
 use shape::Shape;
 
 // The bases by their numbers.
@@ -15,97 +15,64 @@ const B_SPLINE: usize = 2;
 
 pub(crate) const CARDINAL: usize = 3;
 
-const HERMITE: usize = 4;
-
 // Enough for 64 records, and for the 65 points of one span at depth 6.
 pub(crate) const ROOM: usize = 130;
 
-// A sum of four records.
-pub(crate) struct Sum {
-    pub basis: usize,
-    pub depth: usize,
-    pub numbers: [i32; 4],
-}
-
 // P1 to P8, two sums for each basis.
-const BASES: [Sum; 8] = [
-    Sum {
-        basis: BEZIER,
-        depth: 1,
-        numbers: [0, 0, 0, 4],
-    },
-    Sum {
-        basis: BEZIER,
-        depth: 1,
-        numbers: [0, 0, 0, -4],
-    },
-    Sum {
-        basis: B_SPLINE,
-        depth: 1,
-        numbers: [0, 6, 12, 18],
-    },
-    Sum {
-        basis: B_SPLINE,
-        depth: 1,
-        numbers: [0, 1, 0, 0],
-    },
-    Sum {
-        basis: CARDINAL,
-        depth: 1,
-        numbers: [0, 1000, 1000, 0],
-    },
-    Sum {
-        basis: CARDINAL,
-        depth: 1,
-        numbers: [-4000000, 4000000, 4000000, -4000000],
-    },
-    Sum {
-        basis: HERMITE,
-        depth: 2,
-        numbers: [0, 0, 1000, 0],
-    },
-    Sum {
-        basis: HERMITE,
-        depth: 1,
-        numbers: [0, 8, 0, -8],
-    },
-];
-
 pub(crate) fn put_bases(text: &mut [u8], at: usize) -> usize {
     let mut end = at;
-    let mut i = 0;
-    while i < 8 {
-        end = add_word(text, end, b"P");
-        end = add_natural(text, end, i as u64 + 1);
-        end = add_word(text, end, b" ");
-        end = put_sum(text, end, BASES[i]);
-        i += 1;
+    let mut number = 1;
+    while number < 9 {
+        let start = add_word(text, end, &[b'P', b'0' + number as u8, b' ']);
+        let records = records_of(number);
+        end = put_outline(
+            text,
+            start,
+            (number + 1) / 2,
+            depth_of(number),
+            4,
+            &records,
+            true,
+        );
+        number += 1;
     }
     end
 }
 
-// The line of a sum of four records.
-pub(crate) fn put_sum(text: &mut [u8], at: usize, sum: Sum) -> usize {
-    let shape = Shape {
-        basis: sum.basis,
-        depth: sum.depth,
-        count: 4,
-    };
-    let x = sum.numbers;
-    put_outline(text, at, shape, &[x[0], 0, x[1], 0, x[2], 0, x[3], 0])
+// The records of P1 to P8.
+fn records_of(number: usize) -> [i32; 8] {
+    match number {
+        1 => [0, 0, 0, 0, 0, 0, 4, 0],
+        2 => [0, 0, 0, 0, 0, 0, -4, 0],
+        3 => [0, 0, 6, 0, 12, 0, 18, 0],
+        4 => [0, 0, 1, 0, 0, 0, 0, 0],
+        5 => [0, 0, 1000, 0, 1000, 0, 0, 0],
+        6 => [-4000000, 0, 4000000, 0, 4000000, 0, -4000000, 0],
+        7 => [0, 0, 0, 0, 1000, 0, 0, 0],
+        _ => [0, 0, 8, 0, 0, 0, -8, 0],
+    }
 }
 
-// The line of an outline: the basis, the records' x, the depth, and the points' x or the refusal.
-pub(crate) fn put_outline(text: &mut [u8], at: usize, shape: Shape, controls: &[i32]) -> usize {
-    let mut points = [0i32; ROOM];
-    let drawn = by_weights(shape, controls, &mut points);
-    let past_basis = put_basis(text, at, shape.basis);
-    let past_records = add_x(text, past_basis, controls, shape.count);
-    let past_word = add_word(text, past_records, b" depth");
-    let past_depth = add_spaced_natural(text, past_word, shape.depth as u64);
+fn depth_of(number: usize) -> usize {
+    if number == 7 { 2 } else { 1 }
+}
+
+// The line of an outline: the basis, the records' x and the depth, and what is drawn.
+pub(crate) fn put_outline(
+    text: &mut [u8],
+    at: usize,
+    basis: usize,
+    depth: usize,
+    count: usize,
+    controls: &[i32],
+    all: bool,
+) -> usize {
+    let past_basis = put_basis(text, at, basis);
+    let past_records = add_x(text, past_basis, controls, count);
+    let past_depth = add_phrase(text, past_records, b" depth", depth);
     let start = add_word(text, past_depth, b":");
-    let end = put_drawn(text, start, drawn, &points);
-    add_word(text, end, b"\n")
+    let end = put_drawn(text, start, basis, depth, count, controls, all);
+    end_line(text, end)
 }
 
 fn put_basis(text: &mut [u8], at: usize, basis: usize) -> usize {
@@ -117,17 +84,40 @@ fn put_basis(text: &mut [u8], at: usize, basis: usize) -> usize {
     }
 }
 
-// The x of the points that were drawn, or the refusal.
-fn put_drawn(text: &mut [u8], at: usize, drawn: Drawn, points: &[i32]) -> usize {
-    match drawn {
-        Drawn::Points(count) => add_x(text, at, points, count),
-        Drawn::Refused(refusal) => put_refusal(text, at, refusal),
+// What is drawn: the x of all points, or only how many there are; or the refusal.
+pub(crate) fn put_drawn(
+    text: &mut [u8],
+    at: usize,
+    basis: usize,
+    depth: usize,
+    count: usize,
+    controls: &[i32],
+    all: bool,
+) -> usize {
+    let mut points = [0i32; ROOM];
+    match by_weights(
+        Shape {
+            basis,
+            depth,
+            count,
+        },
+        controls,
+        &mut points,
+    ) {
+        Drawn::Points(drawn) => put_points(text, at, &points, drawn, all),
+        Drawn::Refused(refusal) => put_refusal(text, at, refusal.number, refusal.place),
     }
 }
 
+fn put_points(text: &mut [u8], at: usize, points: &[i32], count: usize, all: bool) -> usize {
+    if all {
+        return add_x(text, at, points, count);
+    }
+    add_phrase(text, at, b" drawn", count)
+}
+
 // A refusal: its number and its place.
-pub(crate) fn put_refusal(text: &mut [u8], at: usize, refusal: Refusal) -> usize {
-    let past_word = add_word(text, at, b" refused");
-    let past_number = add_spaced_natural(text, past_word, refusal.number as u64);
-    add_spaced_natural(text, past_number, refusal.place as u64)
+pub(crate) fn put_refusal(text: &mut [u8], at: usize, number: usize, place: usize) -> usize {
+    let past_number = add_phrase(text, at, b" refused", number);
+    add_spaced_natural(text, past_number, place as u64)
 }

@@ -3,8 +3,9 @@ use libc::STDOUT_FILENO;
 use phrases::add_naturals;
 use phrases::add_numbers;
 use phrases::add_patterns;
-use phrases::add_spaced_natural;
+use phrases::add_phrase;
 use phrases::add_word;
+use phrases::end_line;
 use phrases::length_of;
 use shape::Refusal;
 
@@ -15,7 +16,7 @@ const LONG: usize = 168001;
 
 // Ends the line at a place of the text, and writes it.
 fn send(text: &mut [u8], at: usize) {
-    let end = add_word(text, at, b"\n");
+    let end = end_line(text, at);
     let n = length_of(end, text);
     io::write_all(STDOUT_FILENO, &text[..n]);
 }
@@ -43,8 +44,7 @@ pub(crate) fn say_numbers(numbers: &[i32]) {
 // The line of a drawing state: its count, start and current, and 1 where it is closed.
 pub(crate) fn say_state(count: usize, numbers: &[i32]) {
     let mut text = [0u8; SHORT];
-    let past_name = add_word(&mut text, 0, b"state");
-    let past_count = add_spaced_natural(&mut text, past_name, count as u64);
+    let past_count = add_phrase(&mut text, 0, b"state", count);
     let start = add_word(&mut text, past_count, b" ");
     let end = add_numbers(&mut text, start, numbers);
     send(&mut text, end);

@@ -25,9 +25,9 @@ put-added l at word {m} e p = ap (λ (k : ℕ). page k m) e ∙ ap (after at) p
 pub narrow-text : (z : ℤ) → SFits w32 z → decimal (narrow z) ≡ decimal z
 narrow-text z h = ap decimal (toZ-ofZ h)
 
--- two words, one after the other
-pub then : (p : Page) (v w : List ℕ) {q r : Page} → q ≡ added p v → r ≡ added q w → r ≡ adds p (v ∷ w ∷ [])
-then p v w a b = b ∙ ap (λ (s : Page). added s w) a
+-- a word, and then others
+pub then : (p : Page) (v : List ℕ) (ws : List (List ℕ)) {q r : Page} → q ≡ added p v → r ≡ adds q ws → r ≡ adds p (v ∷ ws)
+then p v ws a b = b ∙ ap (λ (s : Page). adds s ws) a
 
 -- on the way to `whole`: adding the words of the list's elements from the i-th on to page p comes to it
 pub record Left {A : Type 0} (shown : A → List ℕ) (l : List A) (whole : Page) (i : ℕ) (p : Page) : Type 0 where

@@ -16,12 +16,16 @@ use Rattle.phrases.proofs.word.add_natural.Kinds as add-natural
 use Rattle.phrases.proofs.word.add_natural.Reads as add-natural-reads
 use Rattle.phrases.proofs.word.add_number.Kinds as add-number
 use Rattle.phrases.proofs.word.add_number.Reads as add-number-reads
+use Rattle.phrases.proofs.word.add_phrase.Kinds as add-phrase
+use Rattle.phrases.proofs.word.add_phrase.Reads as add-phrase-reads
 use Rattle.phrases.proofs.word.add_spaced_natural.Kinds as add-spaced-natural
 use Rattle.phrases.proofs.word.add_spaced_natural.Reads as add-spaced-natural-reads
 use Rattle.phrases.proofs.word.add_spaced_number.Kinds as add-spaced-number
 use Rattle.phrases.proofs.word.add_spaced_number.Reads as add-spaced-number-reads
 use Rattle.phrases.proofs.word.add_word.Kinds as add-word
 use Rattle.phrases.proofs.word.add_word.Reads as add-word-reads
+use Rattle.phrases.proofs.word.end_line.Kinds as end-line
+use Rattle.phrases.proofs.word.end_line.Reads as end-line-reads
 
 pub add-word-unique : Unique 2 add-word.ps add-word.r add-word-reads.Post
 add-word-unique κs a x y v w p q =
@@ -47,6 +51,16 @@ pub add-spaced-number-unique : Unique 1 add-spaced-number.ps add-spaced-number.r
 add-spaced-number-unique κs a x y v w p q =
     let same : page x (v .0) ≡ page y (w .0) = p ∙ sym q in
     (ap (λ (o : Page). o .at) same, λ i. (same i .held, (tt, (tt, tt))))
+
+pub add-phrase-unique : Unique 2 add-phrase.ps add-phrase.r add-phrase-reads.Post
+add-phrase-unique κs a x y v w p q =
+    let same : page x (v .0) ≡ page y (w .0) = p ∙ sym q in
+    (ap (λ (o : Page). o .at) same, λ i. (same i .held, (tt, (tt, (tt, tt)))))
+
+pub end-line-unique : Unique 1 end-line.ps end-line.r end-line-reads.Post
+end-line-unique κs a x y v w p q =
+    let same : page x (v .0) ≡ page y (w .0) = p ∙ sym q in
+    (ap (λ (o : Page). o .at) same, λ i. (same i .held, (tt, tt)))
 
 pub add-naturals-unique : Unique 2 add-naturals.ps add-naturals.r add-naturals-reads.Post
 add-naturals-unique κs a x y v w p q =

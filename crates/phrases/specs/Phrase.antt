@@ -9,6 +9,10 @@ use Rattle.listing.specs.Decimal.{natural}
 abbrev pub blank : List ℕ
 blank = 32 ∷ []
 
+-- a newline
+abbrev pub newline : List ℕ
+newline = 10 ∷ []
+
 module _ {A : Type 0} where
   -- a space before each element
   abbrev pub spaced : (A → List ℕ) → List A → List (List ℕ)

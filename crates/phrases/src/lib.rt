@@ -13,6 +13,8 @@ pub use list::add_patterns;
 pub use list::add_x;
 pub use word::add_natural;
 pub use word::add_number;
+pub use word::add_phrase;
 pub use word::add_spaced_natural;
 pub use word::add_spaced_number;
 pub use word::add_word;
+pub use word::end_line;

@@ -1,7 +1,5 @@
 // The numbers of a list, with spaces.
-ghost use mathlib.Core.List.{[], _∷_};
 ghost use mathlib.Core.Path.{_≡_};
-ghost use lib.ListN.{drop};
 ghost use lib.Ieee.{toBits, binary64};
 ghost use Rattle.listing.specs.Decimal.{natural, decimal};
 ghost use Rattle.phrases.specs.Page.{page, adds};

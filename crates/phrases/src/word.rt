@@ -3,7 +3,7 @@ ghost use mathlib.Core.List.{[], _∷_};
 ghost use mathlib.Core.Path.{_≡_};
 ghost use Rattle.listing.specs.Decimal.{natural, decimal};
 ghost use Rattle.phrases.specs.Page.{page, endOf, added, adds};
-ghost use Rattle.phrases.specs.Phrase.{blank};
+ghost use Rattle.phrases.specs.Phrase.{blank, newline};
 use listing::Put;
 use listing::put_decimal;
 use listing::put_natural;
@@ -44,6 +44,21 @@ pub fn add_spaced_number(text: &mut [u8], at: usize, z: i32) -> usize
 {
     let start = add_word(text, at, b" ");
     add_number(text, start, z)
+}
+
+// A word, a space and a natural number.
+pub fn add_phrase(text: &mut [u8], at: usize, word: &[u8], n: usize) -> usize
+    ensures { λ r. ⌜ page r (now (text .exit)) ≡ adds (page at (now (text .entry))) (now (word .entry) ∷ blank ∷ natural n ∷ []) ⌝ }
+{
+    let start = add_word(text, at, word);
+    add_spaced_natural(text, start, n as u64)
+}
+
+// The end of a line.
+pub fn end_line(text: &mut [u8], at: usize) -> usize
+    ensures { λ r. ⌜ page r (now (text .exit)) ≡ added (page at (now (text .entry))) newline ⌝ }
+{
+    add_word(text, at, b"\n")
 }
 
 // The place past what was put, or the place where it did not fit.

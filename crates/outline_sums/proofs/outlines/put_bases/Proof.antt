@@ -1,25 +1,26 @@
 -- Each turn puts the next sum; the text keeps its length, and the measure is the sums that are left.
-use mathlib.Core.Path.{_≡_}
 use Prim.Native.Nat.{_-_}
+use mathlib.Core.Path.{_≡_}
 use native.Mathlib.Omega.{arith}
 use borrow.Author.Needs.{needs}
 use lib.ListN.{length}
 use Rattle.outline_sums.proofs.outlines.put_bases.Statement.{statement}
 use Rattle.outline_sums.proofs.outlines.put_bases.Tie as tie
-use Rattle.outline_sums.proofs.outlines.put_bases.Reads as reads
-use Rattle.outline_sums.proofs.outlines.put_bases.Lts as lts
-use Rattle.outline_sums.proofs.outlines.put_sum.Reads as put-sum-reads
-use Rattle.phrases.proofs.add_natural.Reads as add-natural-reads
-use Rattle.phrases.proofs.add_word.Reads as add-word-reads
 
 abbrev Inv-loop : tie.InvT-loop
-Inv-loop text₀ at end₀ i₀ t5 t6 text end i = length text ≡ length text₀
+Inv-loop text₀ at end₀ number₀ text end number = length text ≡ length text₀
 
 abbrev μ-loop : tie.MeasureT-loop
-μ-loop text₀ at end₀ i₀ t5 t6 text end i = 8 - i
+μ-loop text₀ at end₀ number₀ text end number = 9 - number
 
 loop-holds : tie.Need-loop-holds Inv-loop μ-loop
 loop-holds c = search needs
+
+cast-t11 : tie.Need-cast-t11 Inv-loop μ-loop
+cast-t11 c = search needs
+
+add-t12 : tie.Need-add-t12 Inv-loop μ-loop
+add-t12 c = search needs
 
 slice-aggregate-add-word : tie.Need-slice-aggregate-add-word Inv-loop μ-loop
 slice-aggregate-add-word c = search needs
@@ -27,29 +28,23 @@ slice-aggregate-add-word c = search needs
 add-word-requires : tie.Need-add-word-requires Inv-loop μ-loop
 add-word-requires c κs = search needs
 
-add-add-natural : tie.Need-add-add-natural Inv-loop μ-loop
-add-add-natural c = search needs
+records-of-requires : tie.Need-records-of-requires Inv-loop μ-loop
+records-of-requires c κs = search needs
 
-add-natural-requires : tie.Need-add-natural-requires Inv-loop μ-loop
-add-natural-requires c κs = search needs
+add-put-outline : tie.Need-add-put-outline Inv-loop μ-loop
+add-put-outline c = search needs
 
-slice-aggregate-add-word-2 : tie.Need-slice-aggregate-add-word-2 Inv-loop μ-loop
-slice-aggregate-add-word-2 c = search needs
+depth-of-requires : tie.Need-depth-of-requires Inv-loop μ-loop
+depth-of-requires c κs = search needs
 
-add-word-requires-2 : tie.Need-add-word-requires-2 Inv-loop μ-loop
-add-word-requires-2 c κs = search needs
+slice-aggregate-put-outline : tie.Need-slice-aggregate-put-outline Inv-loop μ-loop
+slice-aggregate-put-outline c = search needs
 
-mul-put-sum : tie.Need-mul-put-sum Inv-loop μ-loop
-mul-put-sum c = search needs
+put-outline-requires : tie.Need-put-outline-requires Inv-loop μ-loop
+put-outline-requires c κs = search needs
 
-array-copy-out-put-sum : tie.Need-array-copy-out-put-sum Inv-loop μ-loop
-array-copy-out-put-sum c = search needs
-
-put-sum-requires : tie.Need-put-sum-requires Inv-loop μ-loop
-put-sum-requires c κs = search needs
-
-add-i : tie.Need-add-i Inv-loop μ-loop
-add-i c = search needs
+add-number : tie.Need-add-number Inv-loop μ-loop
+add-number c = search needs
 
 loop-less : tie.Need-loop-less Inv-loop μ-loop
 loop-less c = omega arith
@@ -70,16 +65,16 @@ put-bases-spec =
     Inv-loop
     μ-loop
     loop-holds
+    cast-t11
+    add-t12
     slice-aggregate-add-word
     add-word-requires
-    add-add-natural
-    add-natural-requires
-    slice-aggregate-add-word-2
-    add-word-requires-2
-    mul-put-sum
-    array-copy-out-put-sum
-    put-sum-requires
-    add-i
+    records-of-requires
+    add-put-outline
+    depth-of-requires
+    slice-aggregate-put-outline
+    put-outline-requires
+    add-number
     loop-less
     loop-again
     same-length

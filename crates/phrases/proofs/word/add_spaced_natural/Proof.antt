@@ -1,4 +1,5 @@
 -- `phrases::word::add_spaced_natural` meets its contract: two words, one after the other.
+use mathlib.Core.List.{[], _∷_}
 use borrow.Author.Needs.{needs}
 use Rattle.listing.specs.Decimal.{natural}
 use Rattle.phrases.specs.Page.{page}
@@ -22,7 +23,7 @@ same-length c = search needs
 returns : tie.Need-returns
 returns c =
     let a = c .before .before .before .before .before .before .before .before .before .before .args in
-    then (page (a .at) (a .text .now)) blank (natural (a .n))
+    then (page (a .at) (a .text .now)) blank (natural (a .n) ∷ [])
     (c .before .before .before .before .before .before .add-word .ensures) (c .before .before .add-natural .ensures)
 
 pub add-spaced-natural-spec : {M : Type 1} → statement M

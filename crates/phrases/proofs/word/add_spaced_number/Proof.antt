@@ -1,4 +1,5 @@
 -- `phrases::word::add_spaced_number` meets its contract: two words, one after the other.
+use mathlib.Core.List.{[], _∷_}
 use borrow.Author.Needs.{needs}
 use Rattle.listing.specs.Decimal.{decimal}
 use Rattle.listing.proofs.Sign.{narrow}
@@ -25,7 +26,7 @@ returns c =
     let s = c .before .before .before .before .before .before .before .before .before .before in
     let a = s .args in
     rw (← narrow-text (a .z) (s .fits .z))
-    (then (page (a .at) (a .text .now)) blank (decimal (narrow (a .z)))
+    (then (page (a .at) (a .text .now)) blank (decimal (narrow (a .z)) ∷ [])
     (c .before .before .before .before .before .before .add-word .ensures) (c .before .before .add-number .ensures))
 
 pub add-spaced-number-spec : {M : Type 1} → statement M
