@@ -18,7 +18,7 @@ pub(crate) const CARDINAL: usize = 3;
 // Enough for 64 records, and for the 65 points of one span at depth 6.
 pub(crate) const ROOM: usize = 130;
 
-// P1 to P8, two sums for each basis.
+// P1 to P8, two sums for each basis in turn.
 pub(crate) fn put_bases(text: &mut [u8], at: usize) -> usize {
     let mut end = at;
     let mut number = 1;
@@ -104,16 +104,15 @@ pub(crate) fn put_drawn(
         controls,
         &mut points,
     ) {
-        Drawn::Points(drawn) => put_points(text, at, &points, drawn, all),
+        Drawn::Points(drawn) => {
+            if all {
+                add_x(text, at, &points, drawn)
+            } else {
+                add_phrase(text, at, b" drawn", drawn)
+            }
+        }
         Drawn::Refused(refusal) => put_refusal(text, at, refusal.number, refusal.place),
     }
-}
-
-fn put_points(text: &mut [u8], at: usize, points: &[i32], count: usize, all: bool) -> usize {
-    if all {
-        return add_x(text, at, points, count);
-    }
-    add_phrase(text, at, b" drawn", count)
 }
 
 // A refusal: its number and its place.
