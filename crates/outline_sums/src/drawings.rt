@@ -1,4 +1,5 @@
 // The sums of a drawing's numbers: what a Move to x millimetres makes of x.
+use crate::Text;
 use crate::outlines::put_refusal;
 use drawing::State;
 use drawing::Step;
@@ -8,7 +9,7 @@ use phrases::add_word;
 use phrases::end_line;
 
 // P12.
-pub(crate) fn put_millimetres(text: &mut [u8], at: usize) -> usize {
+pub(crate) fn put_millimetres(text: &mut Text, at: usize) -> usize {
     let up = put_number(text, at, b"P12 0.0625 mm:", 0.0625);
     let down = put_number(text, up, b"P12 -0.0625 mm:", -0.0625);
     let farthest = put_number(text, down, b"P12 4000.00048828125 mm:", 4000.00048828125);
@@ -16,14 +17,14 @@ pub(crate) fn put_millimetres(text: &mut [u8], at: usize) -> usize {
 }
 
 // The line of a number of millimetres.
-fn put_number(text: &mut [u8], at: usize, asked: &[u8], mm: f64) -> usize {
+fn put_number(text: &mut Text, at: usize, asked: &[u8], mm: f64) -> usize {
     let start = add_word(text, at, asked);
     let end = put_move(text, start, mm);
     end_line(text, end)
 }
 
 // The x of the control that a Move to a number adds, or the refusal.
-fn put_move(text: &mut [u8], at: usize, mm: f64) -> usize {
+fn put_move(text: &mut Text, at: usize, mm: f64) -> usize {
     let mut controls = [0i32; 2];
     match State::new().step(Step::Move(mm, 0.0), &mut controls) {
         Stepped::Next(_) => add_spaced_number(text, at, controls[0]),

@@ -1,4 +1,5 @@
 // The sums of the edits: each starts from the same outline, and tells the points after it and the spans worked afresh.
+use crate::Text;
 use crate::outlines::CARDINAL;
 use crate::outlines::ROOM;
 use crate::outlines::put_outline;
@@ -27,7 +28,7 @@ const SHAPE: Shape = Shape {
 const CONTROLS: [i32; 14] = [0, 0, 10, 0, 20, 0, 30, 0, 40, 0, 50, 0, 0, 0];
 
 // The outline before the edits, and P9 to P11.
-pub(crate) fn put_edits(text: &mut [u8], at: usize) -> usize {
+pub(crate) fn put_edits(text: &mut Text, at: usize) -> usize {
     let before = put_outline(text, at, CARDINAL, 0, 6, &CONTROLS, true);
     let p9 = put_insert(text, before);
     let p10 = put_remove(text, p9);
@@ -41,7 +42,7 @@ fn points_before() -> [i32; ROOM] {
     points
 }
 
-fn put_insert(text: &mut [u8], at: usize) -> usize {
+fn put_insert(text: &mut Text, at: usize) -> usize {
     let start = add_word(text, at, b"P9 insert 60 at 6:");
     let mut controls = CONTROLS;
     let mut points = points_before();
@@ -54,7 +55,7 @@ fn put_insert(text: &mut [u8], at: usize) -> usize {
     end_line(text, end)
 }
 
-fn put_remove(text: &mut [u8], at: usize) -> usize {
+fn put_remove(text: &mut Text, at: usize) -> usize {
     let start = add_word(text, at, b"P10 remove at 0:");
     let mut controls = CONTROLS;
     let mut points = points_before();
@@ -68,13 +69,13 @@ fn put_remove(text: &mut [u8], at: usize) -> usize {
 }
 
 // The x of the fourth point, which stands past those that a removal leaves, and keeps what it was.
-fn put_fourth(text: &mut [u8], at: usize, x: i32) -> usize {
+fn put_fourth(text: &mut Text, at: usize, x: i32) -> usize {
     let past_word = add_word(text, at, b" fourth");
     let end = add_spaced_number(text, past_word, x);
     end_line(text, end)
 }
 
-fn put_move(text: &mut [u8], at: usize) -> usize {
+fn put_move(text: &mut Text, at: usize) -> usize {
     let start = add_word(text, at, b"P11 move 3 to 33:");
     let mut controls = CONTROLS;
     let mut points = points_before();
@@ -88,7 +89,7 @@ fn put_move(text: &mut [u8], at: usize) -> usize {
 }
 
 // What an edit answers, with the points that it leaves; or the refusal.
-fn put_edited(text: &mut [u8], at: usize, edited: Edited, points: &[i32]) -> usize {
+fn put_edited(text: &mut Text, at: usize, edited: Edited, points: &[i32]) -> usize {
     match edited {
         Edited::Done(change) => {
             let shape = change.shape;
@@ -106,7 +107,7 @@ fn put_edited(text: &mut [u8], at: usize, edited: Edited, points: &[i32]) -> usi
 }
 
 fn put_change(
-    text: &mut [u8],
+    text: &mut Text,
     at: usize,
     points: &[i32],
     count: usize,

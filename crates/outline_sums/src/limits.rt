@@ -1,4 +1,5 @@
 // The limits of depth, count and coordinate: the greatest that is drawn, and sums that are refused.
+use crate::Text;
 use crate::outlines::BEZIER;
 use crate::outlines::ROOM;
 use crate::outlines::put_drawn;
@@ -8,7 +9,7 @@ use phrases::add_word;
 use phrases::end_line;
 
 // Depth 6 and 7; 64 records, 5 and 2^32; a coordinate of 4,000,000 and one more.
-pub(crate) fn put_limits(text: &mut [u8], at: usize) -> usize {
+pub(crate) fn put_limits(text: &mut Text, at: usize) -> usize {
     let deepest = put_last(text, at, 6, 4, false);
     let too_deep = put_last(text, deepest, 7, 4, false);
     let past_counts = put_counts(text, too_deep);
@@ -16,19 +17,19 @@ pub(crate) fn put_limits(text: &mut [u8], at: usize) -> usize {
     put_last(text, farthest, 1, 4000001, true)
 }
 
-fn put_counts(text: &mut [u8], at: usize) -> usize {
+fn put_counts(text: &mut Text, at: usize) -> usize {
     let most = put_zeros(text, at, 64);
     let odd = put_zeros(text, most, 5);
     put_zeros(text, odd, 4294967296)
 }
 
 // The line of a Bezier sum of four records, of which only the last is not 0.
-fn put_last(text: &mut [u8], at: usize, depth: usize, x: i32, all: bool) -> usize {
+fn put_last(text: &mut Text, at: usize, depth: usize, x: i32, all: bool) -> usize {
     put_outline(text, at, BEZIER, depth, 4, &[0, 0, 0, 0, 0, 0, x, 0], all)
 }
 
 // The line of a Bezier sum whose records are all 0.
-fn put_zeros(text: &mut [u8], at: usize, count: usize) -> usize {
+fn put_zeros(text: &mut Text, at: usize, count: usize) -> usize {
     let past_count = add_phrase(text, at, b"Bezier", count);
     let start = add_word(text, past_count, b" records of 0 depth 1:");
     let end = put_drawn(text, start, BEZIER, 1, count, &[0i32; ROOM], false);

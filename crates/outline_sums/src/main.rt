@@ -7,6 +7,9 @@ mod outlines;
 use libc::STDOUT_FILENO;
 use phrases::length_of;
 
+// The text of the sums: as many bytes as a buffer has.
+pub(crate) type Text = [u8; 4096];
+
 // Every sum in the paper's order.
 fn main() {
     let mut text = io::buffer();
@@ -14,6 +17,12 @@ fn main() {
     let past_edits = edits::put_edits(&mut text, past_bases);
     let past_millimetres = drawings::put_millimetres(&mut text, past_edits);
     let end = limits::put_limits(&mut text, past_millimetres);
-    let length = length_of(end, &text);
-    io::write_all(STDOUT_FILENO, &text[..length]);
+    send(&text, end);
+}
+
+// Writes the text up to its end.
+fn send(text: &Text, end: usize) {
+    let bytes: &[u8] = text;
+    let length = length_of(end, bytes);
+    io::write_all(STDOUT_FILENO, &bytes[..length]);
 }

@@ -1,4 +1,6 @@
 // The line of an outline's sum: what is drawn, and its points or its refusal. A sum is over one axis: records stand as x then y, and every y is 0.
+ghost use Prim.Native.Nat.{_<_};
+use crate::Text;
 use outline::Drawn;
 use outline::by_weights;
 use phrases::add_phrase;
@@ -18,25 +20,32 @@ pub(crate) const CARDINAL: usize = 3;
 // Enough for 64 records, and for the 65 points of one span at depth 6.
 pub(crate) const ROOM: usize = 130;
 
-// P1 to P8, two sums for each basis in turn.
-pub(crate) fn put_bases(text: &mut [u8], at: usize) -> usize {
+// P1 to P8.
+pub(crate) fn put_bases(text: &mut Text, at: usize) -> usize {
     let mut end = at;
     let mut number = 1;
     while number < 9 {
-        let start = add_word(text, end, &[b'P', b'0' + number as u8, b' ']);
-        let records = records_of(number);
-        end = put_outline(
-            text,
-            start,
-            (number + 1) / 2,
-            depth_of(number),
-            4,
-            &records,
-            true,
-        );
+        end = put_base(text, end, number);
         number += 1;
     }
     end
+}
+
+// The line of one of them: two sums for each basis in turn.
+fn put_base(text: &mut Text, at: usize, number: usize) -> usize
+    requires { ⌜ number < 9 ⌝ }
+{
+    let start = add_word(text, at, &[b'P', b'0' + number as u8, b' ']);
+    let basis = (number + 1) / 2;
+    put_outline(
+        text,
+        start,
+        basis,
+        depth_of(number),
+        4,
+        &records_of(number),
+        true,
+    )
 }
 
 // The records of P1 to P8.
@@ -59,7 +68,7 @@ fn depth_of(number: usize) -> usize {
 
 // The line of an outline: the basis, the records' x and the depth, and what is drawn.
 pub(crate) fn put_outline(
-    text: &mut [u8],
+    text: &mut Text,
     at: usize,
     basis: usize,
     depth: usize,
@@ -75,7 +84,7 @@ pub(crate) fn put_outline(
     end_line(text, end)
 }
 
-fn put_basis(text: &mut [u8], at: usize, basis: usize) -> usize {
+fn put_basis(text: &mut Text, at: usize, basis: usize) -> usize {
     match basis {
         BEZIER => add_word(text, at, b"Bezier"),
         B_SPLINE => add_word(text, at, b"B-spline"),
@@ -86,7 +95,7 @@ fn put_basis(text: &mut [u8], at: usize, basis: usize) -> usize {
 
 // What is drawn: the x of all points, or only how many there are; or the refusal.
 pub(crate) fn put_drawn(
-    text: &mut [u8],
+    text: &mut Text,
     at: usize,
     basis: usize,
     depth: usize,
@@ -116,7 +125,7 @@ pub(crate) fn put_drawn(
 }
 
 // A refusal: its number and its place.
-pub(crate) fn put_refusal(text: &mut [u8], at: usize, number: usize, place: usize) -> usize {
+pub(crate) fn put_refusal(text: &mut Text, at: usize, number: usize, place: usize) -> usize {
     let past_number = add_phrase(text, at, b" refused", number);
     add_spaced_natural(text, past_number, place as u64)
 }
