@@ -46,6 +46,7 @@ Bezier 0 0 0 4 depth 6: drawn 65
 Bezier 0 0 0 4 depth 7: refused 2 0
 Bezier 64 records of 0 depth 1: drawn 43
 Bezier 5 records of 0 depth 1: refused 3 0
+Bezier 4294967296 records of 0 depth 1: refused 3 0
 Bezier 0 0 0 4000000 depth 1: 0 500000 4000000
 Bezier 0 0 0 4000001 depth 1: refused 8 3
 """

@@ -40,9 +40,9 @@ def outline_sum(label: str, basis: int, depth: int, numbers: Sequence[int]) -> s
     return f"{label}{NAME[basis]} {words(numbers)} depth {depth}: {result(drawn, basis, depth, numbers)}"
 
 
-def only_counted(basis: int, depth: int, numbers: Sequence[int]) -> str:
-    count = draw(Shape(basis, depth, len(numbers)), on_x(numbers), [0] * ROOM)
-    return f"drawn {count}"
+def only_counted(depth: int, count: int, controls: Sequence[int]) -> str:
+    """How many points a Bezier shape has over a controls list, which need not be as long as the shape says."""
+    return f"drawn {draw(Shape(BEZIER, depth, count), controls, [0] * ROOM)}"
 
 
 def result(call, *arguments) -> str:
@@ -93,8 +93,8 @@ def sums() -> Iterator[str]:
     for number in (0.0625, -0.0625, 4000.00048828125, 4000.0009765625):
         yield f"P12 {number} mm: {result(millimetres, number)}"
     for depth in (6, 7):
-        yield f"Bezier 0 0 0 4 depth {depth}: {result(only_counted, BEZIER, depth, (0, 0, 0, 4))}"
-    for count in (64, 5):
-        yield f"Bezier {count} records of 0 depth 1: {result(only_counted, BEZIER, 1, (0,) * count)}"
+        yield f"Bezier 0 0 0 4 depth {depth}: {result(only_counted, depth, 4, on_x((0, 0, 0, 4)))}"
+    for count in (64, 5, 2 ** 32):
+        yield f"Bezier {count} records of 0 depth 1: {result(only_counted, 1, count, on_x(()))}"
     for coordinate in (4000000, 4000001):
         yield outline_sum("", BEZIER, 1, (0, 0, 0, coordinate))

@@ -1,37 +1,33 @@
 // The sums of a drawing's numbers: what a Move to x millimetres makes of x.
-use crate::text::put;
-use crate::text::put_number;
-use crate::text::put_refusal;
+use crate::Text;
+use crate::outlines::put_refusal;
 use drawing::State;
 use drawing::Step;
 use drawing::Stepped;
+use phrases::add_spaced_number;
+use phrases::add_word;
+use phrases::end_line;
 
 // P12.
-pub(crate) fn put_millimetres(text: &mut [u8], at: usize) -> usize {
-    let up = put_move(text, at, b"P12 0.0625 mm:", 0.0625);
-    let down = put_move(text, up, b"P12 -0.0625 mm:", -0.0625);
-    let farthest = put_move(text, down, b"P12 4000.00048828125 mm:", 4000.00048828125);
-    put_move(text, farthest, b"P12 4000.0009765625 mm:", 4000.0009765625)
+pub(crate) fn put_millimetres(text: &mut Text, at: usize) -> usize {
+    let up = put_number(text, at, b"P12 0.0625 mm:", 0.0625);
+    let down = put_number(text, up, b"P12 -0.0625 mm:", -0.0625);
+    let farthest = put_number(text, down, b"P12 4000.00048828125 mm:", 4000.00048828125);
+    put_number(text, farthest, b"P12 4000.0009765625 mm:", 4000.0009765625)
 }
 
-// The line of a number of millimetres: its label, and the x of the control or the refusal.
-fn put_move(text: &mut [u8], at: usize, label: &[u8], mm: f64) -> usize {
+// The line of a number of millimetres.
+fn put_number(text: &mut Text, at: usize, asked: &[u8], mm: f64) -> usize {
+    let start = add_word(text, at, asked);
+    let end = put_move(text, start, mm);
+    end_line(text, end)
+}
+
+// The x of the control that a Move to a number adds, or the refusal.
+fn put_move(text: &mut Text, at: usize, mm: f64) -> usize {
     let mut controls = [0i32; 2];
-    let stepped = State::new().step(Step::Move(mm, 0.0), &mut controls);
-    let past_label = put(text, at, label);
-    let end = put_stepped(text, past_label, stepped);
-    put(text, end, b"\n")
-}
-
-fn put_stepped(text: &mut [u8], at: usize, stepped: Stepped) -> usize {
-    match stepped {
-        Stepped::Next(state) => put_current(text, at, state),
-        Stepped::Refused(refusal) => put_refusal(text, at, refusal),
+    match State::new().step(Step::Move(mm, 0.0), &mut controls) {
+        Stepped::Next(_) => add_spaced_number(text, at, controls[0]),
+        Stepped::Refused(refusal) => put_refusal(text, at, refusal.number, refusal.place),
     }
-}
-
-// The x of the last control.
-fn put_current(text: &mut [u8], at: usize, state: State) -> usize {
-    let current = state.current;
-    put_number(text, at, current.x)
 }

@@ -1,26 +1,28 @@
 // Writes the sums that document 01 holds the outlines to, a line each: what is asked, and what the libraries answer.
-mod bases;
 mod drawings;
 mod edits;
-mod least;
 mod limits;
 mod outlines;
-mod records;
-mod text;
 
 use libc::STDOUT_FILENO;
+use phrases::length_of;
 
+// The text of the sums: as many bytes as a buffer has.
+pub(crate) type Text = [u8; 4096];
+
+// Every sum in the paper's order.
 fn main() {
     let mut text = io::buffer();
-    let end = put_sums(&mut text);
-    let length = text::length_of(end, &text);
-    io::write_all(STDOUT_FILENO, &text[..length]);
+    let past_bases = outlines::put_bases(&mut text, 0);
+    let past_edits = edits::put_edits(&mut text, past_bases);
+    let past_millimetres = drawings::put_millimetres(&mut text, past_edits);
+    let end = limits::put_limits(&mut text, past_millimetres);
+    send(&text, end);
 }
 
-// Every sum in the paper's order, from the start of the text on. Answers the place past them.
-fn put_sums(text: &mut [u8]) -> usize {
-    let past_bases = bases::put_bases(text, 0);
-    let past_edits = edits::put_edits(text, past_bases);
-    let past_millimetres = drawings::put_millimetres(text, past_edits);
-    limits::put_limits(text, past_millimetres)
+// Writes the text up to its end.
+fn send(text: &Text, end: usize) {
+    let bytes: &[u8] = text;
+    let length = length_of(end, bytes);
+    io::write_all(STDOUT_FILENO, &bytes[..length]);
 }

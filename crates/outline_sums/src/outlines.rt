@@ -1,72 +1,131 @@
-// The line of an outline's sum: what is drawn, and its points on one axis or its refusal.
-use crate::records::none;
-use crate::records::on_x;
-use crate::text::put;
-use crate::text::put_count;
-use crate::text::put_refusal;
-use crate::text::put_x;
+// The line of an outline's sum: what is drawn, and its points or its refusal. A sum is over one axis: records stand as x then y, and every y is 0.
+ghost use Prim.Native.Nat.{_<_};
+use crate::Text;
 use outline::Drawn;
 use outline::by_weights;
+use phrases::add_phrase;
+use phrases::add_spaced_natural;
+use phrases::add_word;
+use phrases::add_x;
+use phrases::end_line;
 use shape::Shape;
 
 // The bases by their numbers.
 pub(crate) const BEZIER: usize = 1;
 
-pub(crate) const B_SPLINE: usize = 2;
+const B_SPLINE: usize = 2;
 
 pub(crate) const CARDINAL: usize = 3;
 
-pub(crate) const HERMITE: usize = 4;
+// Enough for 64 records, and for the 65 points of one span at depth 6.
+pub(crate) const ROOM: usize = 130;
 
-// The line of a sum: its label, what is drawn, and its points.
-pub(crate) fn put_points(
-    text: &mut [u8],
+// P1 to P8.
+pub(crate) fn put_bases(text: &mut Text, at: usize) -> usize {
+    let mut end = at;
+    let mut number = 1;
+    while number < 9 {
+        end = put_base(text, end, number);
+        number += 1;
+    }
+    end
+}
+
+// The line of one of them: two sums for each basis in turn.
+fn put_base(text: &mut Text, at: usize, number: usize) -> usize
+    requires { ⌜ number < 9 ⌝ }
+{
+    let start = add_word(text, at, &[b'P', b'0' + number as u8, b' ']);
+    let basis = (number + 1) / 2;
+    put_outline(
+        text,
+        start,
+        basis,
+        depth_of(number),
+        4,
+        &records_of(number),
+        true,
+    )
+}
+
+// The records of P1 to P8.
+fn records_of(number: usize) -> [i32; 8] {
+    match number {
+        1 => [0, 0, 0, 0, 0, 0, 4, 0],
+        2 => [0, 0, 0, 0, 0, 0, -4, 0],
+        3 => [0, 0, 6, 0, 12, 0, 18, 0],
+        4 => [0, 0, 1, 0, 0, 0, 0, 0],
+        5 => [0, 0, 1000, 0, 1000, 0, 0, 0],
+        6 => [-4000000, 0, 4000000, 0, 4000000, 0, -4000000, 0],
+        7 => [0, 0, 0, 0, 1000, 0, 0, 0],
+        _ => [0, 0, 8, 0, 0, 0, -8, 0],
+    }
+}
+
+fn depth_of(number: usize) -> usize {
+    if number == 7 { 2 } else { 1 }
+}
+
+// The line of an outline: the basis, the records' x and the depth, and what is drawn.
+pub(crate) fn put_outline(
+    text: &mut Text,
     at: usize,
-    label: &[u8],
     basis: usize,
     depth: usize,
-    numbers: &[i32],
+    count: usize,
+    controls: &[i32],
+    all: bool,
 ) -> usize {
-    let shape = Shape {
-        basis,
-        depth,
-        count: numbers.len(),
-    };
-    let controls = on_x(numbers);
-    let mut points = none();
-    let drawn = by_weights(shape, &controls, &mut points);
-    let past_label = put(text, at, label);
-    let past_asked = put_asked(text, past_label, shape, &controls);
-    let end = put_drawn(text, past_asked, drawn, &points);
-    put(text, end, b"\n")
+    let past_basis = put_basis(text, at, basis);
+    let past_records = add_x(text, past_basis, controls, count);
+    let past_depth = add_phrase(text, past_records, b" depth", depth);
+    let start = add_word(text, past_depth, b":");
+    let end = put_drawn(text, start, basis, depth, count, controls, all);
+    end_line(text, end)
 }
 
-// What is drawn: the basis, the records' x and the depth.
-pub(crate) fn put_asked(text: &mut [u8], at: usize, shape: Shape, controls: &[i32]) -> usize {
-    let past_basis = put_basis(text, at, shape.basis);
-    let past_records = put_x(text, past_basis, controls, shape.count);
-    put_depth(text, past_records, shape.depth)
-}
-
-pub(crate) fn put_basis(text: &mut [u8], at: usize, basis: usize) -> usize {
+fn put_basis(text: &mut Text, at: usize, basis: usize) -> usize {
     match basis {
-        BEZIER => put(text, at, b"Bezier"),
-        B_SPLINE => put(text, at, b"B-spline"),
-        CARDINAL => put(text, at, b"cardinal"),
-        _ => put(text, at, b"Hermite"),
+        BEZIER => add_word(text, at, b"Bezier"),
+        B_SPLINE => add_word(text, at, b"B-spline"),
+        CARDINAL => add_word(text, at, b"cardinal"),
+        _ => add_word(text, at, b"Hermite"),
     }
 }
 
-pub(crate) fn put_depth(text: &mut [u8], at: usize, depth: usize) -> usize {
-    let past_word = put(text, at, b" depth");
-    let past_depth = put_count(text, past_word, depth);
-    put(text, past_depth, b":")
+// What is drawn: the x of all points, or only how many there are; or the refusal.
+pub(crate) fn put_drawn(
+    text: &mut Text,
+    at: usize,
+    basis: usize,
+    depth: usize,
+    count: usize,
+    controls: &[i32],
+    all: bool,
+) -> usize {
+    let mut points = [0i32; ROOM];
+    match by_weights(
+        Shape {
+            basis,
+            depth,
+            count,
+        },
+        controls,
+        &mut points,
+    ) {
+        Drawn::Points(drawn) => {
+            if all {
+                add_x(text, at, &points, drawn)
+            } else {
+                add_phrase(text, at, b" drawn", drawn)
+            }
+        }
+        Drawn::Refused(refusal) => put_refusal(text, at, refusal.number, refusal.place),
+    }
 }
 
-// The x of the points that were drawn, or the refusal.
-fn put_drawn(text: &mut [u8], at: usize, drawn: Drawn, points: &[i32]) -> usize {
-    match drawn {
-        Drawn::Points(count) => put_x(text, at, points, count),
-        Drawn::Refused(refusal) => put_refusal(text, at, refusal),
-    }
+// A refusal: its number and its place.
+pub(crate) fn put_refusal(text: &mut Text, at: usize, number: usize, place: usize) -> usize {
+    let past_number = add_phrase(text, at, b" refused", number);
+    add_spaced_natural(text, past_number, place as u64)
 }
