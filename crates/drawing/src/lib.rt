@@ -1,18 +1,21 @@
 // A drawing, step by step (document 01, "Preview and drawing"): the drawing state goes in by value, the next state comes back, and the records that a step adds
 // are written to the lent controls. No public call has a `requires`: any state, step and list can be passed.
+mod controls;
+mod numbers;
+
 ghost use mathlib.Core.Path.{_≡_};
 ghost use mathlib.Core.List.{[], _∷_};
-ghost use Prim.Native.Nat.{_+_, _*_, _≤_};
-ghost use lib.ListN.{length};
-ghost use lib.Seq.{sets};
+ghost use Prim.Native.Nat.{_≤_};
 ghost use Rattle.shape.specs.Shape.{mostRecords};
 ghost use Rattle.drawing.specs.declared.Checked.the-variants.{Fine};
 ghost use Rattle.drawing.specs.declared.Step.the-variants.{Move, Line, Cubic, Close};
-ghost use Rattle.drawing.specs.Drawing.{empty, opens, same, flat};
+ghost use Rattle.drawing.specs.Drawing.{empty, opens};
 ghost use Rattle.drawing.specs.Reading.{miscounted, astray, outOfTurn, both, stepped};
-ghost use Rattle.drawing.specs.Parts.{judgeState, judgeNumber, judgeControl, extends, goesOn};
-use doubles::Measure;
-use doubles::micrometres;
+ghost use Rattle.drawing.specs.Parts.{judgeState, extends, goesOn};
+use controls::is_same;
+use controls::put;
+use controls::put_three;
+use numbers::control_of;
 use shape::MOST_RECORDS;
 use shape::Refusal;
 use shape::first_outside;
@@ -61,62 +64,6 @@ enum Numbered {
 enum Placed {
     At(Control),
     Amiss(Refusal),
-}
-
-// One number of a step, at its index: micrometres, or refused with the index.
-fn number(mm: f64, place: usize) -> Numbered
-    ensures { λ r. ⌜ r ≡ judgeNumber place mm ⌝ }
-{
-    match micrometres(mm) {
-        Measure::NotFinite => Numbered::Wrong(Refusal { number: 10, place }),
-        Measure::Outside => Numbered::Wrong(Refusal { number: 11, place }),
-        Measure::Micrometres(n) => Numbered::Good(n),
-    }
-}
-
-// Two numbers of a step, the first of them at an index: a control, or the first bad one.
-fn control_of(x: f64, y: f64, place: usize) -> Placed
-    requires { ⌜ place ≤ 4 ⌝ }
-    ensures { λ r. ⌜ r ≡ judgeControl place x y ⌝ }
-{
-    match number(x, place) {
-        Numbered::Wrong(refusal) => Placed::Amiss(refusal),
-        Numbered::Good(x) => match number(y, place + 1) {
-            Numbered::Wrong(refusal) => Placed::Amiss(refusal),
-            Numbered::Good(y) => Placed::At(Control { x, y }),
-        },
-    }
-}
-
-// Two controls are the same.
-fn is_same(a: Control, b: Control) -> bool
-    ensures { λ r. ⌜ r ≡ same a b ⌝ }
-{
-    if a.x != b.x {
-        return false;
-    }
-    a.y == b.y
-}
-
-// One record, from a number of the list on.
-fn put(controls: &mut [i32], at: usize, c: Control)
-    requires { ⌜ at + 2 ≤ length (now controls) ⌝ }
-    ensures { λ _. ⌜ now (controls .exit) ≡ sets (now (controls .entry)) at (flat (c ∷ [])) ⌝ }
-{
-    let x = c.x;
-    let y = c.y;
-    controls[at] = x;
-    controls[at + 1] = y;
-}
-
-// Three records, from a number of the list on.
-fn put_three(controls: &mut [i32], at: usize, a: Control, b: Control, c: Control)
-    requires { ⌜ at + 6 ≤ length (now controls) ⌝ }
-    ensures { λ _. ⌜ now (controls .exit) ≡ sets (now (controls .entry)) at (flat (a ∷ b ∷ c ∷ [])) ⌝ }
-{
-    put(controls, at, a);
-    put(controls, at + 2, b);
-    put(controls, at + 4, c);
 }
 
 impl Step {

@@ -11,8 +11,8 @@ use Rattle.doubles.specs.Number.{measure}
 use Rattle.doubles.specs.declared.Measure.the-variants.{NotFinite, Outside, Micrometres}
 use Rattle.drawing.specs.declared.Numbered.the-variants.{Good, Wrong}
 use Rattle.drawing.specs.Parts.{judgeNumber}
-use Rattle.drawing.proofs.number.Statement.{statement}
-use Rattle.drawing.proofs.number.Tie as tie
+use Rattle.drawing.proofs.numbers.number.Statement.{statement}
+use Rattle.drawing.proofs.numbers.number.Tie as tie
 
 not-finite : (i : ℕ) (x : Float) → measure x ≡ NotFinite → Wrong (record { number = 10; place = i }) ≡ judgeNumber i x
 unfolding judgeNumber judge

@@ -7,8 +7,8 @@ use borrow.Author.Needs.{needs}
 use lib.ListN.{set, length-set}
 use mir.Syntax.{w32}
 use Rattle.whole.proofs.Fit.{kept, kept-is}
-use Rattle.drawing.proofs.put.Statement.{statement}
-use Rattle.drawing.proofs.put.Tie as tie
+use Rattle.drawing.proofs.controls.put.Statement.{statement}
+use Rattle.drawing.proofs.controls.put.Tie as tie
 
 mul-x : tie.Need-mul-x
 mul-x c = search needs

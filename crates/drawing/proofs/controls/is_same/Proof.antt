@@ -7,8 +7,8 @@ use Rattle.drawing.specs.declared.Control.{Control}
 use Rattle.curve.specs.Numbers.{equal}
 use Rattle.drawing.specs.Drawing.{same}
 use Rattle.drawing.proofs.Same.{is-equal, is-unequal, same-bits, bits-test}
-use Rattle.drawing.proofs.is_same.Statement.{statement}
-use Rattle.drawing.proofs.is_same.Tie as tie
+use Rattle.drawing.proofs.controls.is_same.Statement.{statement}
+use Rattle.drawing.proofs.controls.is_same.Tie as tie
 
 -- x differs
 apart : (a b : Control) → (ofZ w32 (a .x) ≡ ofZ w32 (b .x) → ⊥) → false ≡ same a b

@@ -8,8 +8,8 @@ use lib.Seq.{sets}
 use Rattle.drawing.specs.declared.Control.{Control}
 use Rattle.drawing.specs.Drawing.{flat}
 use borrow.Author.Needs.{needs}
-use Rattle.drawing.proofs.put_three.Statement.{statement}
-use Rattle.drawing.proofs.put_three.Tie as tie
+use Rattle.drawing.proofs.controls.put_three.Statement.{statement}
+use Rattle.drawing.proofs.controls.put_three.Tie as tie
 
 put-requires : tie.Need-put-requires
 put-requires c κs = search needs

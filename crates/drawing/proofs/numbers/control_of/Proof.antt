@@ -6,8 +6,8 @@ use Rattle.whole.proofs.Fit.{kept-is}
 use Rattle.drawing.specs.declared.Placed.the-variants.{At}
 use Rattle.drawing.proofs.Tables.{wrong-first, good-none, good-is, first-amiss, then-amiss, then-placed}
 use borrow.Author.Needs.{needs}
-use Rattle.drawing.proofs.control_of.Statement.{statement}
-use Rattle.drawing.proofs.control_of.Tie as tie
+use Rattle.drawing.proofs.numbers.control_of.Statement.{statement}
+use Rattle.drawing.proofs.numbers.control_of.Tie as tie
 
 number-requires : tie.Need-number-requires
 number-requires c κs = search needs
