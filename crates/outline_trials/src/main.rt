@@ -27,6 +27,15 @@ const MOST_POINTS: usize = 8000;
 
 const MOST_FILE: usize = 800;
 
+// The lists and the file, each as long as it can be.
+type Controls = [i32; MOST_CONTROLS];
+
+type Points = [i32; MOST_POINTS];
+
+type Preview = [f64; MOST_POINTS];
+
+type File = [u8; MOST_FILE];
+
 // The operation that adds to the file.
 const MORE_FILE: u8 = 6;
 
@@ -142,10 +151,10 @@ fn lend_drawing(
 fn play(
     bench: Bench,
     r: Record,
-    controls: &mut [i32],
-    points: &mut [i32],
-    preview: &mut [f64],
-    file: &[u8],
+    controls: &mut Controls,
+    points: &mut Points,
+    preview: &mut Preview,
+    file: &File,
 ) -> Turn {
     let op = r.op;
     match work_of(op) {
@@ -164,10 +173,10 @@ fn cut_short(got: usize) -> Turn {
 // The next record of the input. The file is written by one operation alone, with the record's own bytes.
 fn play_next(
     bench: Bench,
-    controls: &mut [i32],
-    points: &mut [i32],
-    preview: &mut [f64],
-    file: &mut [u8],
+    controls: &mut Controls,
+    points: &mut Points,
+    preview: &mut Preview,
+    file: &mut File,
 ) -> Turn {
     let mut bytes = [0u8; RECORD];
     let got = io::read_full(STDIN_FILENO, &mut bytes);
@@ -190,7 +199,7 @@ fn told(turn: Turn, number: usize) -> Turn {
 }
 
 // The records to the end of the input, or to the first that is bad.
-fn play_all(controls: &mut [i32], points: &mut [i32], preview: &mut [f64], file: &mut [u8]) {
+fn play_all(controls: &mut Controls, points: &mut Points, preview: &mut Preview, file: &mut File) {
     let mut bench = Bench::new();
     let mut number: usize = 0;
     while number < usize::MAX {
