@@ -1,14 +1,13 @@
 -- Boxes and limits, for any depth. A weighted sum grows with its controls, since no weight is negative, and the weights of four equal controls sum to one: so a
 -- Bezier point stays between bounds of its controls, and so does a B-spline point, whose sixfold controls are sums of records with weights that make six.
 -- Cardinal and Hermite weights have both signs; their sizes sum to 6h^3 + 6i(h-i)h, at most 5/4 of 6h^3.
-use mathlib.Core.Path.{_≡_, refl, sym, ap, _∙_, subst, subst₂}
+use mathlib.Core.Path.{_≡_, sym, ap, _∙_, subst, subst₂}
 use mathlib.Core.List.{List, [], _∷_}
-use Prim.Native.Nat.{ℕ, zero, suc, _+_, _*_, _-_, _^_, _≤_, _<_}
+use Prim.Native.Nat.{ℕ, _+_, _*_, _-_, _^_, _≤_}
 use native.Mathlib.Nat.{le-refl, le-of-eq, le-trans, add-comm, mul-comm}
 use native.Mathlib.Decide.{decLe}
 use native.Mathlib.Omega.{arith}
-use lib.Pow.{pow-pos}
-use lib.IntN.{ℤ, pos, negℤ, natAbs, _+ℤ_, _-ℤ_, _*ℤ_}
+use lib.IntN.{ℤ, pos, natAbs, _+ℤ_, _*ℤ_}
 use lib.Signed.{_≤ℤ_}
 use Rattle.whole.specs.Nearest.{nearest, sixfold}
 use Rattle.whole.proofs.Ring.{Ex, var, lit, _⊕_, _⊖_, _⊗_, ev, solve}

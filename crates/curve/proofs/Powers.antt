@@ -1,12 +1,12 @@
 -- Powers of two and their cubes, as the three ways meet them.
 use mathlib.Core.Path.{_≡_, refl, sym, ap, _∙_}
-use mathlib.Core.List.{List, [], _∷_}
+use mathlib.Core.List.{[], _∷_}
 use Prim.Native.Nat.{ℕ, zero, suc, _+_, _*_, _-_, _%_, _^_, _<_}
 use native.Mathlib.Nat.{pow-suc, mul-pos, one-mul, mod-eq-of-lt}
 use native.Mathlib.Omega.{arith}
-use lib.Pow.{pow-add, pow-lt, pow-pos}
+use lib.Pow.{pow-add, pow-lt}
 use lib.IntN.{ℤ, pos, _*ℤ_}
-use Rattle.whole.proofs.Ring.{var, lit, _⊕_, _⊗_, solve}
+use Rattle.whole.proofs.Ring.{var, _⊕_, _⊗_, solve}
 use Rattle.whole.proofs.Order.{pos-injective}
 
 pub doubled : (l : ℕ) → 2 * 2 ^ l ≡ 2 ^ suc l

@@ -1,13 +1,12 @@
 -- What a teacher would check of the published forms: each is an identity of polynomials in the four records, i and h.
 use mathlib.Core.Path.{_≡_, refl}
-use mathlib.Core.List.{List, [], _∷_}
 use Prim.Native.Nat.{ℕ}
 use lib.IntN.{ℤ, pos, _+ℤ_, _-ℤ_, _*ℤ_}
 use Rattle.whole.proofs.Ring.{Ex, var, lit, _⊕_, _⊖_, _⊗_, ev, Same, solve}
 use Rattle.curve.specs.declared.Four.{Four}
 use Rattle.curve.specs.Numbers.{neg, four, dot}
 use Rattle.curve.specs.Published.{Matrix, Ends, cubic, tangent, curvature, bezierMatrix, hermiteMatrix, cardinalMatrix, bSplineMatrix, weights, blending}
-use Rattle.curve.proofs.Reflect.{Fourᵉ, fourᵉ, litᵉ, num, p, i, h, values, dotᵉ, cubicᵉ, tangentᵉ, curvatureᵉ, weightsᵉ, weightedᵉ}
+use Rattle.curve.proofs.Reflect.{Fourᵉ, fourᵉ, litᵉ, num, p, i, h, values, dotᵉ, cubicᵉ, tangentᵉ, curvatureᵉ, weightedᵉ}
 
 -- ---- the two forms of one curve
 

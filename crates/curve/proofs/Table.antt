@@ -1,5 +1,5 @@
 -- Row i·2^(6-k) of the depth-6 weights serves depth k: both the sum and its divisor grow by the cube of 2^(6-k), and `nearest` does not see a common factor.
-use mathlib.Core.Path.{_≡_, refl, sym, ap, _∙_, subst}
+use mathlib.Core.Path.{_≡_, sym, ap, _∙_, subst}
 use Prim.Native.Nat.{ℕ, zero, suc, _+_, _*_, _-_, _/_, _%_, _^_, _≤_, _<_}
 use native.Mathlib.Nat.{le-trans, le-of-eq, mul-assoc, mul-left-comm, mul-comm, mul-pos, mul-le-mul-left, mul-le-mul-right}
 use native.Mathlib.Omega.{arith}
@@ -7,7 +7,7 @@ use lib.Dec.{lit<, lit≤}
 use lib.Pow.{pow-add, pow-pos}
 use lib.IntN.{ℤ, pos, natAbs, _+ℤ_, _*ℤ_}
 use Rattle.whole.specs.Nearest.{nearest, sixfold}
-use Rattle.whole.proofs.Ring.{Ex, var, lit, _⊕_, _⊖_, _⊗_, solve}
+use Rattle.whole.proofs.Ring.{var, lit, _⊕_, _⊖_, _⊗_, solve}
 use Rattle.whole.proofs.Fit.{ev-size, natAbs-mul}
 use Rattle.whole.proofs.Nearest.{nearest-scale}
 use Rattle.curve.specs.declared.Four.{Four}
@@ -17,7 +17,7 @@ use Rattle.curve.specs.Span.{weighted, divisor}
 use Rattle.curve.specs.Ways.{deepest, row, nth, tableEntry}
 use Rattle.curve.proofs.Powers.{cube, cube-mul, cube-pos, thrice}
 use Rattle.curve.proofs.Reflect.{num, p, i, h, weightsᵉ, weightedᵉ}
-use mathlib.Core.List.{List, [], _∷_}
+use mathlib.Core.List.{[], _∷_}
 
 -- i and h both m times as large
 pub weighted-scale : (m : ℤ) (q : Four) (x y : ℤ) → weighted q (x *ℤ m) (y *ℤ m) ≡ m *ℤ m *ℤ m *ℤ weighted q x y

@@ -1,14 +1,14 @@
 -- Halving and differences list the same exact sums as the weights, at any depth. Halving: the two halves of a span are the span itself at twice the steps, so an
 -- induction on the depth joins them. Differences: after x steps the state holds the sum at x and its differences there, so an induction on the steps lists them.
-use mathlib.Core.Path.{_≡_, refl, sym, ap, _∙_, subst}
-use mathlib.Core.List.{List, [], _∷_, _++_}
-use Prim.Native.Nat.{ℕ, zero, suc, _+_, _*_, _^_, _≤_, _<_}
-use native.Mathlib.Nat.{pow-suc, zero-add, add-zero, le-trans}
+use mathlib.Core.Path.{_≡_, refl, sym, ap, _∙_}
+use mathlib.Core.List.{[], _∷_, _++_}
+use Prim.Native.Nat.{ℕ, zero, suc, _+_, _*_, _^_, _≤_}
+use native.Mathlib.Nat.{zero-add, le-trans}
 use native.Mathlib.Numerals.{add-one}
 use native.Mathlib.Omega.{arith}
 use lib.Dec.{lit≤}
 use lib.IntN.{ℤ, pos, _+ℤ_, _-ℤ_, _*ℤ_}
-use Rattle.whole.proofs.Ring.{Ex, var, lit, _⊕_, _⊖_, _⊗_, ev, Same, solve}
+use Rattle.whole.proofs.Ring.{Ex, var, lit, _⊕_, _⊖_, _⊗_, solve}
 use Rattle.whole.proofs.Fit.{Bounded, ev-size}
 use Rattle.curve.specs.declared.Four.{Four}
 use Rattle.curve.specs.declared.Differences.{Differences}
@@ -21,7 +21,7 @@ use Rattle.curve.proofs.Tab.{tab-append, tab-same}
 use Rattle.curve.proofs.Powers.{cube, doubled, eights}
 use Rattle.curve.proofs.Span.{weighted-start, weighted-end}
 use Rattle.curve.proofs.Reflect as R
-use Rattle.curve.proofs.Reflect.{Fourᵉ, num, p, i, h, litᵉ, dotᵉ, weightedᵉ, leftᵉ, rightᵉ}
+use Rattle.curve.proofs.Reflect.{num, p, i, h, litᵉ, dotᵉ, weightedᵉ, leftᵉ, rightᵉ}
 
 -- ---- halving
 

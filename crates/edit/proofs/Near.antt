@@ -1,6 +1,6 @@
 -- Row 16 is never given: where rows 1 to 9 do not hold, the controls asked for are inside the limits, so every point of their outline lies within 5,000,000 and the edit is
 -- done.
-use mathlib.Core.Path.{_≡_, sym, ap, subst}
+use mathlib.Core.Path.{_≡_, sym, subst}
 use mathlib.Core.Bool.{false}
 use mathlib.Core.List.{List, _++_}
 use Prim.Native.Nat.{ℕ, max}

@@ -1,13 +1,13 @@
 -- What the rows of an edit that passed give: a sound new shape, its plan, and controls and points that it can be worked from.
 use mathlib.Core.Path.{_≡_, refl, sym, ap, _∙_, subst}
-use mathlib.Core.Bool.{Bool, true, false, not, cond, _||_}
+use mathlib.Core.Bool.{Bool, true, false, cond, _||_}
 use mathlib.Core.Logic.{⊎-elim}
 use mathlib.Core.List.{List, [], _∷_, _++_}
-use Prim.Native.Nat.{ℕ, suc, _+_, _*_, _-_, _/_, _%_, _≤_, _<_, max, min}
-use native.Mathlib.Nat.{le-trans, le-max-left, le-max-right, suc-mul}
+use Prim.Native.Nat.{ℕ, suc, _+_, _*_, _-_, _/_, _%_, _≤_, _<_, max}
+use native.Mathlib.Nat.{le-max-left, le-max-right, suc-mul}
 use native.Mathlib.Omega.{arith}
 use borrow.Author.Tests.{not-false, ltb-true, ltb-false, leb-true, leb-false, eqb-true, eqb-false, lt-ltb, le-ltb}
-use lib.Dec.{ltb, leb, eqb}
+use lib.Dec.{ltb, eqb}
 use lib.IntN.{ℤ, pos, natAbs}
 use lib.ListN.{drop, getD, length, take}
 use lib.Seq.{sets, sets-eq, take-at}
@@ -24,19 +24,18 @@ use Rattle.shape.specs.declared.Judged.the-variants.{Sound, Unsound}
 use Rattle.shape.specs.declared.Listed.the-variants.{Fine, Bad}
 use Rattle.shape.specs.Good.{Good, Lent}
 use Rattle.shape.specs.Shape.{spansOf, recordsOf, mostRecords}
-use Rattle.shape.specs.Refusals.{Row, NoRow, judge, judgeShape, judgeLists, listRows, planOf, outside}
+use Rattle.shape.specs.Refusals.{Row, NoRow, judge, judgeShape, planOf}
 use Rattle.shape.proofs.Tests.{passes, true-is-not-false, or-false, either}
 use Rattle.shape.proofs.Refusals.{sound, unsound, sound-plan, rows-none, rows-bad, rows-fine, none-fine, fine-facts}
 use Rattle.shape.proofs.Spans.{spans-records, spans-below}
 use Rattle.spans.specs.Numbers.{perSpan}
-use Rattle.spans.specs.Ready.{Drawable}
 use Rattle.outline.specs.Outline.{points, firstFar, reachRow}
 use Rattle.outline.proofs.Draws.{all-numbers, drawable}
 use Rattle.asked.specs.declared.Edit.{Edit}
 use Rattle.asked.specs.declared.Edit.the-variants.{Move, Insert, Remove}
 use Rattle.asked.specs.Edits.{countAfter, spansAfter, offered, inRange, atTheEnd, newOutside, choose, controlAt, asked, pastFresh}
 use Rattle.edit.specs.Carried.{Carriable}
-use Rattle.edit.specs.Reading.{shapeAfter, planAfter, askRows, judgeAsk, roomRows, judgeRoom, editRows, Outcome, refuses, accepts, editsPlan, editsRoom, editsLists, edits}
+use Rattle.edit.specs.Reading.{shapeAfter, planAfter, askRows, judgeAsk, roomRows, judgeRoom, editRows, refuses, accepts, editsPlan, editsRoom, editsLists, edits}
 use Rattle.edit.specs.Ready.{Editable, Workable}
 
 -- ---- the new shape

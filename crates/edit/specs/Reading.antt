@@ -1,6 +1,6 @@
 -- What an edit comes to (document 01): the refusals in the order 1 to 9, then 16 over the outline asked for; or the new controls, the new points and the answer, with
 -- every number past the last control and past the last point as it was. For any contents of the lent points.
-use mathlib.Core.Bool.{Bool, not}
+use mathlib.Core.Bool.{not}
 use mathlib.Core.List.{List, [], _∷_, _++_}
 use Prim.Native.Nat.{ℕ, _*_, max}
 use lib.IntN.{ℤ}

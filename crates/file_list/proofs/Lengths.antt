@@ -1,11 +1,11 @@
 -- The text of a file is never longer than 113,257 characters: a heading has at most 12, each of at most 3,905 points a line of at most 23, since its number has four digits and
 -- its coordinates seven and a sign; and the line of a refusal has at most 14.
-use mathlib.Core.Path.{_≡_, sym, ap, _∙_, subst}
+use mathlib.Core.Path.{_≡_, subst}
 use mathlib.Core.List.{List, [], _∷_, _++_}
 use Prim.Native.Nat.{ℕ, zero, suc, _+_, _*_, _/_, _^_, _≤_, _<_}
 use native.Mathlib.Omega.{arith}
 use lib.IntN.{ℤ, pos, negsuc, natAbs}
-use lib.ListN.{length, length-append, take}
+use lib.ListN.{length, length-append}
 use Rattle.curve.specs.Numbers.{tab}
 use Rattle.listing.specs.Decimal.{natural, decimal}
 use Rattle.listing.specs.Listing.{space, newline, heading, pointLine, pointLines, outlineText, refusalText}

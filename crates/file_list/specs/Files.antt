@@ -9,11 +9,9 @@ use Rattle.shape.specs.declared.Refusal.{Refusal}
 use Rattle.shape.specs.Refusals.{planOf}
 use Rattle.outline.specs.declared.Drawn.{Drawn}
 use Rattle.outline.specs.declared.Drawn.the-variants as drawn
-use Rattle.outline.specs.Outline as outline
 use Rattle.outline.specs.Outline.{draws}
 use Rattle.record_file.specs.declared.Reading.{Reading}
 use Rattle.record_file.specs.declared.Reading.the-variants as read
-use Rattle.record_file.specs.Rows as records
 use Rattle.record_file.specs.Rows.{reading}
 use Rattle.listing.specs.declared.Put.{Put}
 use Rattle.listing.specs.declared.Put.the-variants.{End, Full}

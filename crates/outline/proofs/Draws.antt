@@ -1,12 +1,11 @@
 -- A drawing call's reading, taken row by row: the checks that passed drop their rows, and the first that did not is the refusal.
-use mathlib.Core.Path.{_≡_, refl, sym, ap, _∙_, subst}
-use mathlib.Core.Bool.{true, false, cond}
-use mathlib.Core.List.{List, [], _∷_, _++_}
+use mathlib.Core.Path.{_≡_, sym, ap, _∙_, subst}
+use mathlib.Core.Bool.{cond}
+use mathlib.Core.List.{List, [], _∷_}
 use Prim.Native.Nat.{ℕ, _+_, _*_, _^_, _≤_, _<_}
 use native.Mathlib.Nat.{mul-left-comm}
 use native.Mathlib.Omega.{arith}
 use borrow.Author.Tests.{lt-ltb, le-ltb}
-use lib.Dec.{ltb}
 use lib.IntN.{ℤ}
 use lib.ListN.{length}
 use Rattle.shape.specs.declared.Shape.{Shape}
@@ -20,7 +19,7 @@ use Rattle.shape.proofs.Refusals.{sound, unsound, sound-plan, bad, fine, good-r
 use Rattle.shape.specs.Shape.{pointsOf}
 use Rattle.spans.specs.Numbers.{perSpan}
 use Rattle.spans.specs.Ready.{Drawable}
-use Rattle.outline.specs.Outline.{Outcome, points, firstFar, reachRow, planRows, refuses, accepts, drawsPlan, draws}
+use Rattle.outline.specs.Outline.{points, firstFar, reachRow, planRows, refuses, accepts, drawsPlan, draws}
 
 -- all points are the spans' numbers and the last end's
 pub all-numbers : (k m : ℕ) → 2 * pointsOf k m ≡ m * perSpan k + 2

@@ -1,6 +1,6 @@
 -- Row 16 is never given: every point of records inside the limits lies within 5,000,000, so where no earlier row holds the outline is drawn.
 use mathlib.Core.Path.{_≡_, sym, ap, _∙_, subst}
-use mathlib.Core.Bool.{false, _||_}
+use mathlib.Core.Bool.{false}
 use mathlib.Core.List.{List, _++_}
 use mathlib.Core.Logic.{⊎-elim}
 use Prim.Native.Nat.{ℕ, suc, _+_, _*_, _-_, _/_, _%_, _^_, min, _≤_, _<_}
@@ -11,8 +11,8 @@ use lib.Dec.{ltb}
 use lib.IntN.{ℤ, natAbs}
 use lib.ListN.{length}
 use lib.Pow.{pow-pos}
-use Rattle.curve.specs.Limits.{limit, reach, Inside}
-use Rattle.curve.specs.Span.{firstRecord, coordinate, records, point}
+use Rattle.curve.specs.Limits.{reach}
+use Rattle.curve.specs.Span.{firstRecord, coordinate, records}
 use Rattle.curve.proofs.Limits.{point-size}
 use Rattle.shape.specs.declared.Shape.{Shape}
 use Rattle.shape.specs.declared.Plan.{Plan}

@@ -1,7 +1,7 @@
 -- The view of a span (document 01, "Preview and drawing"): the part of the lent points that is span s, 2^k + 1 points; the empty part for a shape that 1, 2 or 3
 -- would refuse, s not below m, or a list shorter than all points.
 use mathlib.Core.Bool.{Bool, cond, _||_}
-use mathlib.Core.List.{List, []}
+use mathlib.Core.List.{List}
 use Prim.Native.Nat.{ℕ, _+_, _*_}
 use lib.Dec.{ltb, leb}
 use lib.IntN.{ℤ}

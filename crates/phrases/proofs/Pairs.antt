@@ -1,7 +1,7 @@
 -- How many x the first n pairs of a list have, and where each stands.
-use Prim.Native.Nat.{ℕ, zero, suc, _+_, _*_, _/_, _<_, min}
+use Prim.Native.Nat.{ℕ, zero, suc, _*_, _/_, _<_, min}
 use mathlib.Core.List.{List, [], _∷_}
-use mathlib.Core.Path.{_≡_, refl, ap, _∙_}
+use mathlib.Core.Path.{_≡_, refl}
 use native.Mathlib.Omega.{arith}
 use lib.IntN.{ℤ}
 use lib.ListN.{length, getD}

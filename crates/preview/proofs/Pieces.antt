@@ -1,14 +1,12 @@
 -- One cut in doubles: a piece that is not cut on is one point, and the numbers of any other are those of its left half and then those of its right half, so halves written
 -- one after the other are the whole.
 use mathlib.Core.Path.{_≡_, refl, sym, ap, _∙_}
-use mathlib.Core.List.{List, [], _∷_, _++_}
-use Prim.Native.Nat.{ℕ, zero, suc, _+_, _*_, _-_, _%_, _^_, _<_}
-use native.Mathlib.Nat.{add-suc, suc-add, add-zero, one-mul, mod-eq-of-lt, pow-suc}
+use mathlib.Core.List.{List}
+use Prim.Native.Nat.{ℕ, zero, suc, _+_, _*_, _-_, _^_, _<_}
 use native.Mathlib.Numerals.{add-one}
 use native.Mathlib.Omega.{arith}
 use lib.Ieee.{Float}
 use lib.ListN.{length, set, length-append}
-use lib.Pow.{pow-lt}
 use lib.Seq.{sets}
 use Rattle.whole.proofs.Writes.{sets-append}
 use Rattle.curve.proofs.Powers.{doubled, half-width}

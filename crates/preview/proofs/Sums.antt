@@ -4,13 +4,12 @@ use mathlib.Core.Path.{_≡_, refl, sym, ap, _∙_, subst}
 use mathlib.Core.Bool.{Bool, true, false, cond}
 use mathlib.Core.List.{[], _∷_, _++_}
 use Prim.Native.Nat.{ℕ, zero, suc, _+_, _*_, _/_, _%_, _^_, _≤_, _<_}
-use native.Mathlib.Nat.{pow-suc, le-trans, mul-assoc, le-mul-of-pos-right, one-le-pow}
+use native.Mathlib.Nat.{pow-suc, mul-assoc, le-mul-of-pos-right, one-le-pow}
 use native.Mathlib.Omega.{arith}
 use lib.Dec.{eqb, lit<}
 use lib.IntN.{ℤ, pos}
 use lib.Ieee.{Float}
 use Rattle.whole.proofs.Ring.{var, lit, _⊗_, solve}
-use Rattle.whole.proofs.Fit.{Bounded, ev-size}
 use Rattle.curve.specs.declared.Four.{Four}
 use Rattle.curve.specs.Numbers.{tab}
 use Rattle.curve.specs.Limits.{Inside}
@@ -19,7 +18,6 @@ use Rattle.curve.specs.Ways.{leftHalf, rightHalf}
 use Rattle.curve.proofs.Tab.{tab-append, tab-same}
 use Rattle.curve.proofs.Span.{weighted-start}
 use Rattle.curve.proofs.Ways.{eightfold, left-half, right-half}
-use Rattle.curve.proofs.Reflect.{p, leftᵉ, rightᵉ}
 use Rattle.doubles.specs.Exact.{dyadic}
 use Rattle.doubles.specs.Midpoint.{midPair}
 use Rattle.doubles.specs.declared.Pair.{Pair}

@@ -4,7 +4,6 @@ use Rattle.whole.specs.Nearest.{floor, nearest}
 use Rattle.curve.specs.Numbers.{dot, tab}
 use Rattle.curve.specs.Published.{weights}
 use Rattle.curve.specs.Span.{firstRecord, coordinate, recordsFrom, sixfoldControls, weighted, point}
-use Rattle.curve.specs.Limits.{beyond}
 use Rattle.curve.specs.Cases.{alike}
 use Rattle.shape.specs.Shape.{basisOf, recordsOf, spansOf, allowed, pointsOf}
 use Rattle.shape.specs.Refusals.{judge, seek, planOf, outside}

@@ -6,7 +6,6 @@ use Rattle.shape.specs.declared.Refusal.{Refusal}
 use Rattle.outline.specs.declared.Drawn.{Drawn}
 use Rattle.outline.specs.declared.Drawn.the-variants.{Points}
 use Rattle.outline.specs.declared.Drawn.the-variants as drawn
-use Rattle.edit.specs.declared.Change.{Change}
 use Rattle.edit.specs.declared.Edited.{Edited}
 use Rattle.edit.specs.declared.Edited.the-variants.{Done}
 use Rattle.edit.specs.declared.Edited.the-variants as edited

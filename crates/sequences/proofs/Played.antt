@@ -10,7 +10,7 @@ use lib.IntN.{ℤ, pos}
 use lib.ListN.{getD, length}
 use lib.Seq.{sets, length-sets}
 use Rattle.curve.specs.Numbers.{tab}
-use Rattle.curve.specs.Span.{firstRecord, coordinate, records, point}
+use Rattle.curve.specs.Span.{firstRecord, coordinate, point}
 use Rattle.shape.specs.declared.Shape.{Shape}
 use Rattle.shape.specs.declared.Plan.{Plan}
 use Rattle.shape.specs.declared.Refusal.{Refusal}

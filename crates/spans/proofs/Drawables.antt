@@ -1,7 +1,7 @@
 -- What a list of controls that spans can be drawn from gives: each span's sixfold controls are ready on both axes, and its end is within the reach.
-use mathlib.Core.Path.{_≡_, sym, ap, _∙_, subst}
+use mathlib.Core.Path.{ap, _∙_, subst}
 use mathlib.Core.List.{List, [], _∷_}
-use Prim.Native.Nat.{ℕ, _+_, _*_, _^_, _≤_, _<_}
+use Prim.Native.Nat.{ℕ, _+_, _*_, _≤_, _<_}
 use native.Mathlib.Nat.{le-trans, le-refl}
 use native.Mathlib.Omega.{arith}
 use lib.Dec.{T, leb, lit≤}
@@ -13,7 +13,7 @@ use Rattle.curve.specs.declared.Basis.{Basis}
 use Rattle.curve.specs.declared.Basis.the-variants.{Bezier, BSpline, Cardinal, Hermite}
 use Rattle.curve.specs.Numbers.{four}
 use Rattle.curve.specs.Limits.{Inside, limit, widest, reach}
-use Rattle.curve.specs.Span.{coordinate, records, sixfoldControls, weighted, divisor}
+use Rattle.curve.specs.Span.{coordinate, records, sixfoldControls, divisor}
 use Rattle.curve.proofs.Limits.{sum-size}
 use Rattle.curve.proofs.Reflect.{Fourᵉ, p, sixfoldᵉ}
 use Rattle.curve.proofs.Span.{weighted-end}

@@ -1,15 +1,15 @@
 -- The look for a point beyond the reach goes span by span: a span's own steps tell of the outline's points there, and a search over both parts is one after the other.
-use mathlib.Core.Path.{_≡_, refl, sym, ap, _∙_, subst}
-use mathlib.Core.Bool.{Bool, true, false, _||_}
+use mathlib.Core.Path.{_≡_, sym, ap, _∙_}
+use mathlib.Core.Bool.{Bool, false, _||_}
 use mathlib.Core.List.{List}
 use Prim.Native.Nat.{ℕ, zero, suc, _+_, _*_, _-_, _^_, _≤_, _<_}
-use native.Mathlib.Nat.{zero-add, suc-add, add-suc, le-trans}
+use native.Mathlib.Nat.{zero-add, suc-add, add-suc}
 use native.Mathlib.Omega.{arith}
 use lib.Dec.{lit<}
-use lib.IntN.{ℤ, pos}
+use lib.IntN.{ℤ}
 use Rattle.curve.specs.declared.Basis.{Basis}
 use Rattle.curve.specs.Limits.{reach, beyond}
-use Rattle.curve.specs.Span.{coordinate, records, point}
+use Rattle.curve.specs.Span.{point}
 use Rattle.shape.specs.Refusals.{seek}
 use Rattle.shape.proofs.Seek.{seek-on, seek-is, seek-fails, seek-passes}
 use Rattle.spans.specs.Numbers.{farOff, number, paired, perSpan}

@@ -2,12 +2,12 @@
 use mathlib.Core.Path.{_≡_, refl, sym, ap, _∙_, subst}
 use mathlib.Core.Bool.{Bool, true, false, cond}
 use mathlib.Core.List.{List, [], _∷_, _++_}
-use Prim.Native.Nat.{ℕ, zero, suc, _+_, _*_, _-_, _/_, _%_, _^_, _≤_, _<_}
+use Prim.Native.Nat.{ℕ, suc, _+_, _*_, _-_, _/_, _%_, _^_, _≤_, _<_}
 use native.Mathlib.Nat.{pow-suc, le-refl, le-trans, le-mul-of-pos-right, one-le-pow, pow-le-pow-right, mul-le-mul-left}
 use native.Mathlib.Numerals.{add-one}
 use native.Mathlib.Omega.{arith}
 use lib.Dec.{eqb, lit≤, lit<}
-use lib.IntN.{ℤ, pos, natAbs, _+ℤ_, _*ℤ_}
+use lib.IntN.{ℤ, pos, natAbs}
 use lib.ListN.{length, set}
 use lib.Pow.{pow-pos}
 use lib.Seq.{sets}
@@ -15,8 +15,8 @@ use mir.Syntax.{w64}
 use mir.Val.{SFits}
 use Rattle.whole.specs.Nearest.{nearest}
 use Rattle.whole.proofs.Writes.{sets-append}
-use Rattle.whole.proofs.Ring.{Ex, var, lit, _⊕_, _⊗_, ev, solve}
-use Rattle.whole.proofs.Fit.{Bounded, size, ev-size, sfits}
+use Rattle.whole.proofs.Ring.{var, lit, _⊗_, solve}
+use Rattle.whole.proofs.Fit.{sfits}
 use Rattle.curve.specs.declared.Four.{Four}
 use Rattle.curve.specs.Numbers.{tab}
 use Rattle.curve.specs.Limits.{Inside, widest, reach}
@@ -26,7 +26,6 @@ use Rattle.curve.proofs.Tab.{tab-append, tab-same, length-tab}
 use Rattle.curve.proofs.Span.{weighted-start}
 use Rattle.curve.proofs.Powers.{doubled, half-width}
 use Rattle.curve.proofs.Ways.{eightfold, left-half, right-half}
-use Rattle.curve.proofs.Reflect.{Fourᵉ, p, leftᵉ, rightᵉ}
 use Rattle.spans.specs.Numbers.{onAxis, paired, perSpan}
 use Rattle.spans.specs.Ready.{Ready, Cuttable}
 use Rattle.spans.proofs.Pairs.{paired-x, paired-y}

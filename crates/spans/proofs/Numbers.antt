@@ -1,26 +1,23 @@
 -- The numbers of an outline, span by span: those of span s from its start on are the span's own pairs, and the last two are the last span's end.
-use mathlib.Core.Path.{_≡_, refl, sym, ap, _∙_, subst}
-use mathlib.Core.Bool.{Bool, true, false, cond}
+use mathlib.Core.Path.{_≡_, refl, ap, _∙_}
+use mathlib.Core.Bool.{cond}
 use mathlib.Core.List.{List, [], _∷_, _++_}
-use Prim.Native.Nat.{ℕ, zero, suc, _+_, _*_, _-_, _/_, _%_, _^_, min, _≤_, _<_}
+use Prim.Native.Nat.{ℕ, zero, suc, _+_, _*_, _-_, _/_, _%_, _^_, min, _<_}
 use native.Mathlib.Nat.{mul-left-comm, mul-comm, suc-mul, zero-mul, sub-self, mod-lt, min-eq-left, min-eq-right}
 use native.Mathlib.Numerals.{add-one}
 use native.Mathlib.Omega.{arith}
-use borrow.Author.Tests.{eq-eqb}
 use lib.Arith.{digits-div}
 use lib.Dec.{eqb, lit<}
-use lib.IntN.{ℤ, pos, natAbs, _*ℤ_}
+use lib.IntN.{ℤ, pos, _*ℤ_}
 use lib.Pow.{pow-pos}
-use lib.ListN.{length}
 use Rattle.whole.specs.Nearest.{nearest, sixfold}
 use Rattle.whole.proofs.Nearest.{nearest-scale}
 use Rattle.curve.specs.declared.Four.{Four}
 use Rattle.curve.specs.declared.Basis.{Basis}
 use Rattle.curve.specs.Numbers.{tab}
-use Rattle.curve.specs.Limits.{Inside, limit, reach}
 use Rattle.curve.specs.Span.{coordinate, records, sixfoldControls, weighted, divisor, point}
 use Rattle.curve.proofs.Tab.{tab-append, tab-same}
-use Rattle.curve.proofs.Span.{weighted-end, joint}
+use Rattle.curve.proofs.Span.{weighted-end}
 use Rattle.curve.proofs.Powers.{cube, cube-pos, thrice}
 use Rattle.spans.specs.Numbers.{number, paired, onAxis, perSpan}
 

@@ -1,21 +1,17 @@
 -- Pairs of numbers written one after another: what is left to write, written to the present list, is the whole; so a loop's step only takes the next pair off.
 use mathlib.Core.Path.{_≡_, refl, sym, ap, _∙_}
-use mathlib.Core.Bool.{true, false, cond}
-use mathlib.Core.List.{List, [], _∷_, _++_}
-use Prim.Native.Nat.{ℕ, zero, suc, _+_, _*_, _-_, _/_, _%_, _^_, _≤_, _<_}
-use native.Mathlib.Nat.{add-suc, suc-add, add-zero, one-mul, mod-eq-of-lt}
+use mathlib.Core.List.{List, _∷_}
+use Prim.Native.Nat.{ℕ, suc, _+_, _*_, _-_, _/_, _%_, _^_, _≤_, _<_}
 use native.Mathlib.Numerals.{add-one, add-two}
 use native.Mathlib.Omega.{arith}
-use lib.Dec.{eqb}
-use lib.IntN.{ℤ, pos}
-use lib.ListN.{length, set}
-use lib.Pow.{pow-lt}
+use lib.IntN.{pos}
+use lib.ListN.{set}
 use lib.Seq.{sets}
 use Rattle.whole.specs.Nearest.{nearest}
 use Rattle.curve.specs.declared.Four.{Four}
 use Rattle.curve.specs.Numbers.{tab}
 use Rattle.curve.specs.Span.{weighted, divisor}
-use Rattle.spans.specs.Numbers.{onAxis, paired}
+use Rattle.spans.specs.Numbers.{paired}
 
 -- the next pair
 tab-pair : {A : Type 0} (f : ℕ → A) (i n : ℕ) → tab f i (suc (suc n)) ≡ f i ∷ f (suc i) ∷ tab f (suc (suc i)) n

@@ -1,11 +1,11 @@
 -- The state after n steps from a span's start holds the sum at step n, so the numbers by differences are the span's.
-use mathlib.Core.Path.{_≡_, refl, sym, ap, _∙_, subst}
+use mathlib.Core.Path.{_≡_, sym, ap, _∙_, subst}
 use mathlib.Core.Bool.{Bool, true, false, cond}
 use Prim.Native.Nat.{ℕ, zero, suc, _+_, _*_, _/_, _%_, _^_, _≤_, _<_}
 use native.Mathlib.Numerals.{add-one}
 use native.Mathlib.Omega.{arith}
 use lib.Dec.{eqb}
-use lib.IntN.{ℤ, pos, natAbs}
+use lib.IntN.{pos, natAbs}
 use lib.Pow.{pow-mono}
 use mir.Syntax.{w64}
 use mir.Val.{SFits}
@@ -17,7 +17,7 @@ use Rattle.curve.specs.Limits.{Small, reach}
 use Rattle.curve.specs.Span.{weighted, divisor}
 use Rattle.curve.specs.Ways.{deepest, differences, advance}
 use Rattle.curve.proofs.Ways.{state, begins, advances, state-small}
-use Rattle.spans.specs.Numbers.{onAxis, paired, after, stepped}
+use Rattle.spans.specs.Numbers.{paired, after, stepped}
 use Rattle.spans.specs.Ready.{Ready, Steady}
 
 after-state : (q : Four) (m n : ℕ) → after n (differences q (pos m)) ≡ state q (pos n) (pos m)

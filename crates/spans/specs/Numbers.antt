@@ -1,5 +1,5 @@
 -- The numbers of an outline, x then y (document 01, "What it draws"): point s·2^k + i is span s at t = i / 2^k, and the last is the last span at t = 1.
-use mathlib.Core.Bool.{Bool, true, false, cond, _||_}
+use mathlib.Core.Bool.{Bool, cond, _||_}
 use mathlib.Core.List.{List}
 use Prim.Native.Nat.{ℕ, zero, suc, _+_, _*_, _-_, _/_, _%_, _^_, min}
 use lib.Dec.{eqb}
@@ -10,7 +10,7 @@ use Rattle.curve.specs.declared.Four.{Four}
 use Rattle.curve.specs.declared.Basis.{Basis}
 use Rattle.curve.specs.declared.Differences.{Differences}
 use Rattle.curve.specs.Numbers.{tab}
-use Rattle.curve.specs.Span.{coordinate, records, sixfoldControls, weighted, divisor, point}
+use Rattle.curve.specs.Span.{coordinate, records, weighted, divisor, point}
 use Rattle.curve.specs.Limits.{reach, beyond}
 use Rattle.curve.specs.Ways.{advance}
 

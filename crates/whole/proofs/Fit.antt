@@ -2,7 +2,7 @@
 -- result goes through its bits (`raw`), a bound that computes from bounds of the variables (`size`), and the test that every bound is in the width's range (`safe`).
 -- Where the test passes, each operation's need holds (`need`) and the machine's value is the value (`exact`).
 use mathlib.Core.Path.{_≡_, refl, sym, ap, _∙_, subst}
-use mathlib.Core.Bool.{Bool, true, false, _&&_}
+use mathlib.Core.Bool.{Bool, _&&_}
 use mathlib.Core.List.{List, [], _∷_}
 use Prim.Native.Nat.{ℕ, zero, suc, _+_, _*_, _-_, _^_, _≤_, _<_}
 use native.Mathlib.Omega.{arith}

@@ -1,11 +1,11 @@
 -- Floor division by a positive number: z is d times its floor and a remainder below d, and no other quotient leaves such a remainder (`floor-unique`).
 use mathlib.Core.Path.{_≡_, refl, sym, ap, _∙_}
-use mathlib.Core.List.{List, [], _∷_}
+use mathlib.Core.List.{[], _∷_}
 use Prim.Native.Nat.{ℕ, zero, suc, _+_, _*_, _-_, _/_, _%_, _≤_, _<_}
 use native.Mathlib.Omega.{arith}
 use native.Mathlib.Nat.{mod-lt, div-add-mod, mul-suc, mul-lt-mul-of-pos-left, le-div-iff-mul-le, le-trans, div-mul-le-self, div-div-eq-div-mul}
 use lib.Dec.{T, leb→le, le→leb}
-use lib.IntN.{ℤ, pos, negsuc, negℤ, _+ℤ_, _-ℤ_, _*ℤ_, +ℤ-idl, +ℤ-idr, *ℤ-zero}
+use lib.IntN.{ℤ, pos, negsuc, negℤ, _+ℤ_, _-ℤ_, _*ℤ_, +ℤ-idl}
 use lib.Signed.{_≤ℤ_, leZ}
 use Rattle.whole.specs.Nearest.{floor}
 use Rattle.whole.proofs.Ring.{var, lit, _⊕_, _⊖_, _⊗_, solve, equal-of-sub}

@@ -5,7 +5,7 @@ use mathlib.Core.Bool.{Bool, true, false, not, _&&_, cond}
 use mathlib.Core.List.{List, [], _∷_}
 use Prim.Native.Nat.{ℕ, zero, suc}
 use lib.Dec.{T, leb, eqb, eqb→eq}
-use lib.IntN.{ℤ, pos, negsuc, negℤ, sucℤ, predℤ, _+ℤ_, _-ℤ_, _*ℤ_, +ℤ-idl, +ℤ-idr, +ℤ-assoc, +ℤ-comm, +ℤ-invr, +ℤ-sucℤ, +ℤ-predℤ, zero-*ℤ, *ℤ-zero, *ℤ-comm, sucℤ-*ℤ, predℤ-*ℤ, -ℤ-+ℤ-cancel, negℤ-+ℤ, *ℤ-negsuc, one, *ℤ-one}
+use lib.IntN.{ℤ, pos, negsuc, negℤ, predℤ, _+ℤ_, _-ℤ_, _*ℤ_, +ℤ-idl, +ℤ-idr, +ℤ-assoc, +ℤ-comm, +ℤ-invr, +ℤ-sucℤ, +ℤ-predℤ, zero-*ℤ, *ℤ-zero, *ℤ-comm, sucℤ-*ℤ, predℤ-*ℤ, -ℤ-+ℤ-cancel, one, *ℤ-one}
 
 -- ---- the ring laws that the library lacks
 

@@ -1,11 +1,10 @@
 -- Each number of the answer is its function's.
-use mathlib.Core.Path.{_≡_, refl, sym, ap, _∙_, subst}
+use mathlib.Core.Path.{ap, _∙_}
 use Prim.Native.Nat.{ℕ, _-_}
 use mathlib.Core.Bool.{cond}
 use lib.Dec.{ltb}
 use Rattle.edit.specs.declared.Change.{Change}
 use Rattle.asked.specs.Edits.{freshFirst, freshCount, firstFresh, pastFresh}
-use Rattle.edit.specs.Reading.{change}
 use borrow.Author.Needs.{needs}
 use Rattle.edit.proofs.change_of.Statement.{statement}
 use Rattle.edit.proofs.change_of.Tie as tie

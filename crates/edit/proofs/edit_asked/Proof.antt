@@ -1,7 +1,7 @@
 -- The look finds the first far point of the outline asked for; where there is none the lists hold the new controls and points.
-use mathlib.Core.Path.{_≡_, refl, sym, ap, _∙_, subst}
+use mathlib.Core.Path.{sym, ap, _∙_, subst}
 use mathlib.Core.List.{List}
-use Prim.Native.Nat.{ℕ, _+_, _*_, _≤_, _<_}
+use Prim.Native.Nat.{ℕ, _+_, _*_, _<_}
 use native.Mathlib.Omega.{arith}
 use lib.IntN.{ℤ}
 use lib.ListN.{length}
@@ -13,7 +13,7 @@ use Rattle.outline.proofs.Draws.{all-numbers}
 use Rattle.edit.specs.declared.Edited.{Edited}
 use Rattle.edit.specs.declared.Edited.the-variants.{Done, Refused}
 use Rattle.asked.specs.Edits.{asked, countAfter, pointAt}
-use Rattle.edit.specs.Reading.{outcome, change}
+use Rattle.edit.specs.Reading.{outcome}
 use Rattle.edit.proofs.Rows.{length-asked, lists-far, lists-near}
 use borrow.Author.Needs.{needs}
 use Rattle.edit.proofs.edit_asked.Statement.{statement}

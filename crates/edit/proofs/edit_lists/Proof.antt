@@ -1,8 +1,8 @@
 -- The front of the list is the controls asked for.
-use mathlib.Core.Path.{_≡_, refl, sym, ap, _∙_, subst}
-use Prim.Native.Nat.{ℕ, _*_, _-_, _≤_}
+use mathlib.Core.Path.{ap, _∙_}
+use Prim.Native.Nat.{_*_, _-_, _≤_}
 use native.Mathlib.Omega.{arith}
-use lib.ListN.{length, take}
+use lib.ListN.{take}
 use Rattle.asked.specs.Edits.{asked}
 use Rattle.edit.proofs.Rows.{front-asked}
 use borrow.Author.Needs.{needs}

@@ -1,5 +1,5 @@
 -- The checks' answer is the rows' own, and the plan of the new shape is the old one's with its spans.
-use mathlib.Core.Path.{_≡_, refl, sym, ap, _∙_, subst}
+use mathlib.Core.Path.{sym, ap, _∙_}
 use Rattle.shape.specs.Refusals.{planOf}
 use Rattle.edit.specs.Reading.{editsRoom, shapeAfter}
 use Rattle.edit.specs.Ready.{Editable}

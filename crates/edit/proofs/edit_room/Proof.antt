@@ -1,13 +1,9 @@
 -- The checks' answer is the rows' own, over the greater of the two numbers of points.
-use mathlib.Core.Path.{_≡_, refl, sym, ap, _∙_, subst}
-use mathlib.Core.List.{List}
-use Prim.Native.Nat.{ℕ, _+_, _*_, _≤_, max}
+use mathlib.Core.Path.{_≡_, sym, ap, _∙_, subst}
+use Prim.Native.Nat.{ℕ, _≤_, max}
 use native.Mathlib.Nat.{max-le}
 use native.Mathlib.Omega.{arith}
-use lib.IntN.{ℤ}
 use lib.ListN.{length}
-use Rattle.shape.specs.declared.Plan.{Plan}
-use Rattle.shape.specs.declared.Listed.the-variants.{Fine, Bad}
 use Rattle.shape.specs.Shape.{mostPoints, mostRecords, pointsOf}
 use Rattle.shape.proofs.Spans.{points-at-most}
 use Rattle.outline.specs.Outline.{points}

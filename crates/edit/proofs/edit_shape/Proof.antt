@@ -1,5 +1,5 @@
 -- The shape's checks are rows 1 to 3.
-use mathlib.Core.Path.{_≡_, refl, sym, ap, _∙_, subst}
+use mathlib.Core.Path.{sym, _∙_}
 use Rattle.shape.proofs.Refusals.{sound-facts}
 use Rattle.edit.proofs.Rows.{edits-sound, edits-unsound}
 use borrow.Author.Needs.{needs}

@@ -1,5 +1,5 @@
 -- The edit is the one that was named, with the record's two numbers.
-use mathlib.Core.Path.{_≡_, refl, sym, ap, _∙_}
+use mathlib.Core.Path.{_∙_}
 use mir.Syntax.{w32}
 use Rattle.whole.proofs.Fit.{kept-is}
 use Rattle.asked.specs.declared.Edit.the-variants.{Insert}

@@ -1,5 +1,5 @@
 -- The test's value is the arm's.
-use mathlib.Core.Path.{_≡_, refl, sym, ap, _∙_, subst}
+use mathlib.Core.Path.{sym, ap}
 use mathlib.Core.Bool.{cond}
 use Prim.Native.Nat.{ℕ}
 use borrow.Author.Tests.{lt-ltb, le-ltb}

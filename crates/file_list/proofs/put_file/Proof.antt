@@ -6,11 +6,6 @@ use Rattle.file_list.proofs.Texts.{unread-text, read-text}
 use borrow.Author.Needs.{needs}
 use Rattle.file_list.proofs.put_file.Statement.{statement}
 use Rattle.file_list.proofs.put_file.Tie as tie
-use Rattle.file_list.proofs.put_file.Reads as reads
-use Rattle.file_list.proofs.put_file.Lts as lts
-use Rattle.file_list.proofs.put_refusal.Reads as put-refusal-reads
-use Rattle.file_list.proofs.put_shape.Reads as put-shape-reads
-use Rattle.record_file.proofs.read.Reads as read-reads
 
 slice-aggregate-read : tie.Need-slice-aggregate-read
 slice-aggregate-read c = search needs

@@ -8,11 +8,6 @@ use Rattle.file_list.proofs.Texts.{refused-text, listed-text}
 use borrow.Author.Needs.{needs}
 use Rattle.file_list.proofs.put_outline.Statement.{statement}
 use Rattle.file_list.proofs.put_outline.Tie as tie
-use Rattle.file_list.proofs.put_outline.Reads as reads
-use Rattle.file_list.proofs.put_outline.Lts as lts
-use Rattle.file_list.proofs.put_refusal.Reads as put-refusal-reads
-use Rattle.listing.proofs.list_outline.Reads as list-outline-reads
-use Rattle.outline.proofs.by_weights.Reads as by-weights-reads
 
 slice-aggregate-by-weights : tie.Need-slice-aggregate-by-weights
 slice-aggregate-by-weights c = search needs

@@ -7,11 +7,6 @@ use Rattle.file_list.proofs.Texts.{unsound-text}
 use borrow.Author.Needs.{needs}
 use Rattle.file_list.proofs.put_shape.Statement.{statement}
 use Rattle.file_list.proofs.put_shape.Tie as tie
-use Rattle.file_list.proofs.put_shape.Reads as reads
-use Rattle.file_list.proofs.put_shape.Lts as lts
-use Rattle.file_list.proofs.put_outline.Reads as put-outline-reads
-use Rattle.file_list.proofs.put_refusal.Reads as put-refusal-reads
-use Rattle.shape.proofs.check_shape.Reads as check-shape-reads
 
 check-shape-requires : tie.Need-check-shape-requires
 check-shape-requires c κs = search needs

@@ -1,8 +1,6 @@
 -- A shape that is not sound is refused at once; of a sound one the rest is the plan's.
-use mathlib.Core.Path.{_≡_, sym, ap, _∙_}
+use mathlib.Core.Path.{sym, ap, _∙_}
 use borrow.Author.Needs.{needs}
-use Rattle.shape.specs.Refusals.{judgeShape}
-use Rattle.shape.specs.declared.Judged.the-variants.{Sound, Unsound}
 use Rattle.shape.proofs.Refusals.{sound-facts}
 use Rattle.outline.proofs.Draws.{draws-sound, draws-unsound}
 use Rattle.outline.proofs.draw.Statement.{statement}

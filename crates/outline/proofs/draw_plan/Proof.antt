@@ -1,16 +1,15 @@
 -- Each check that passes drops its rows from the reading; where none is left the run from span 0 to the last is the outline.
-use mathlib.Core.Path.{_≡_, refl, sym, ap, _∙_, subst}
+use mathlib.Core.Path.{_≡_, sym, ap, _∙_, subst}
 use mathlib.Core.List.{List}
-use Prim.Native.Nat.{ℕ, _+_, _*_, _-_, _^_, _≤_, _<_}
+use Prim.Native.Nat.{ℕ, _+_, _*_, _-_, _≤_, _<_}
 use native.Mathlib.Nat.{zero-mul}
 use native.Mathlib.Omega.{arith}
 use borrow.Author.Needs.{needs}
 use lib.IntN.{ℤ}
 use lib.ListN.{length}
-use Rattle.curve.specs.Ways.{deepest}
 use Rattle.shape.specs.declared.Plan.{Plan}
-use Rattle.shape.specs.declared.Listed.the-variants.{Fine, Bad}
-use Rattle.shape.specs.Shape.{mostPoints, mostRecords}
+use Rattle.shape.specs.declared.Listed.the-variants.{Fine}
+use Rattle.shape.specs.Shape.{mostPoints}
 use Rattle.shape.specs.Refusals.{judgeLists}
 use Rattle.shape.specs.Good.{Lent}
 use Rattle.shape.proofs.Refusals.{fine-facts}
@@ -18,7 +17,7 @@ use Rattle.shape.proofs.Spans.{points-at-most}
 use Rattle.spans.specs.Numbers.{number, filled, perSpan}
 use Rattle.spans.specs.Ready.{Drawable}
 use Rattle.outline.specs.declared.Drawn.the-variants.{Points, Refused}
-use Rattle.outline.specs.Outline.{Outcome, outcome, numbers, points, firstFar, drawn}
+use Rattle.outline.specs.Outline.{outcome, numbers, points, drawn}
 use Rattle.outline.proofs.Draws.{all-numbers, plan-bad, plan-far, plan-drawn, drawable}
 use Rattle.outline.proofs.draw_plan.Statement.{statement}
 use Rattle.outline.proofs.draw_plan.Tie as tie

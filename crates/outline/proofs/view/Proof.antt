@@ -1,15 +1,12 @@
 -- Each way out is one case of which part the view is; the part that is handed back starts where the span does, four bytes a number.
-use mathlib.Core.Path.{_≡_, refl, sym, ap, _∙_, subst}
+use mathlib.Core.Path.{_≡_, sym, ap, _∙_, subst}
 use mathlib.Core.List.{List, []}
-use Prim.Native.Nat.{ℕ, _+_, _*_, _-_, _^_, _≤_, _<_}
-use native.Mathlib.Nat.{mul-le-mul, le-refl, le-trans}
+use Prim.Native.Nat.{ℕ, _+_, _*_, _-_, _≤_, _<_}
+use native.Mathlib.Nat.{le-trans}
 use native.Mathlib.Omega.{arith}
 use borrow.Author.Needs.{needs}
 use lib.IntN.{ℤ}
 use lib.ListN.{length, take, drop}
-use lib.Pow.{pow-mono}
-use Rattle.curve.specs.Ways.{deepest}
-use Rattle.shape.specs.declared.Shape.{Shape}
 use Rattle.shape.specs.declared.Plan.{Plan}
 use Rattle.shape.specs.declared.Judged.the-variants.{Sound, Unsound}
 use Rattle.shape.specs.Good.{Good}
@@ -19,7 +16,7 @@ use Rattle.shape.proofs.Refusals.{sound-facts}
 use Rattle.shape.proofs.Spans.{points-at-most}
 use Rattle.spans.specs.Numbers.{perSpan}
 use Rattle.outline.specs.View.{Part, emptyPart, partOf, viewed}
-use Rattle.outline.proofs.Views.{spanPart, part-unsound, part-past, part-short, part-good, span-within}
+use Rattle.outline.proofs.Views.{part-unsound, part-past, part-short, part-good, span-within}
 use Rattle.outline.proofs.view.Statement.{statement}
 use Rattle.outline.proofs.view.Tie as tie
 

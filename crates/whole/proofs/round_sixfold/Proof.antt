@@ -1,7 +1,7 @@
 -- The shift is the floor over 2^bits, and adding half of six before the floor over six rounds to the nearest (`nearest-by-steps`).
 use mathlib.Core.Path.{_≡_, refl, sym, ap, _∙_, subst}
-use Prim.Native.Nat.{ℕ, _+_, _*_, _/_, _^_, _≤_, _<_}
-use native.Mathlib.Nat.{le-trans, le-refl, div-le-self, lt-of-le-of-lt}
+use Prim.Native.Nat.{ℕ, _+_, _/_, _^_, _<_}
+use native.Mathlib.Nat.{lt-of-le-of-lt}
 use native.Mathlib.Omega.{arith}
 use borrow.Author.Needs.{needs}
 use lib.Dec.{lit<}
@@ -10,7 +10,7 @@ use lib.IntN.{ℤ, pos, negsuc, _+ℤ_}
 use lib.Signed.{mag, shrZ, mag-shr}
 use mir.Syntax.{w64}
 use mir.Val.{SFits}
-use Rattle.whole.specs.Nearest.{floor, nearest}
+use Rattle.whole.specs.Nearest.{floor}
 use Rattle.whole.proofs.Nearest.{nearest-by-steps}
 use Rattle.whole.proofs.Fit.{kept, kept-is, mag-add-pos}
 use Rattle.whole.proofs.round_sixfold.Statement.{statement}

@@ -1,9 +1,9 @@
 -- In each arm the edit is that arm's.
-use mathlib.Core.Path.{_≡_, refl, sym, ap, _∙_}
+use mathlib.Core.Path.{sym, ap, _∙_}
 use mir.Syntax.{w32}
 use borrow.Author.Needs.{needs}
 use Rattle.whole.proofs.Fit.{kept, kept-is}
-use Rattle.asked.specs.declared.Edit.the-variants.{Move, Insert, Remove}
+use Rattle.asked.specs.declared.Edit.the-variants.{Move, Insert}
 use Rattle.asked.specs.Edits.{controlAt}
 use Rattle.asked.proofs.asking.control_at.Statement.{statement}
 use Rattle.asked.proofs.asking.control_at.Tie as tie

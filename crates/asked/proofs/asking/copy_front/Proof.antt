@@ -1,9 +1,9 @@
 -- Upwards: the numbers still to be copied, written to the present list, make the whole.
 use mathlib.Core.Path.{_≡_, refl, sym, ap, _∙_}
-use Prim.Native.Nat.{ℕ, _+_, _-_, _*_, _≤_, _<_}
+use Prim.Native.Nat.{_+_, _-_, _≤_, _<_}
 use native.Mathlib.Omega.{arith}
 use borrow.Author.Needs.{needs}
-use lib.IntN.{ℤ, pos}
+use lib.IntN.{pos}
 use lib.ListN.{drop, getD, length, set, length-set}
 use lib.Seq.{sets}
 use Rattle.curve.proofs.Fills.{as-read, copy-next, copy-done}

@@ -1,6 +1,6 @@
 -- Past its end a list has the default.
-use mathlib.Core.Path.{_≡_, refl, sym, ap, _∙_}
-use lib.IntN.{ℤ, pos}
+use mathlib.Core.Path.{sym}
+use lib.IntN.{pos}
 use lib.ListN.{List·getD-eq-default}
 use borrow.Author.Needs.{needs}
 use Rattle.asked.proofs.asking.number_of.Statement.{statement}

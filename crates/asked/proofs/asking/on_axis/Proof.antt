@@ -1,9 +1,9 @@
 -- The axis decides.
-use mathlib.Core.Path.{_≡_, refl, sym, ap, _∙_}
+use mathlib.Core.Path.{sym, ap, _∙_}
 use mathlib.Core.Bool.{cond}
 use borrow.Author.Tests.{eq-eqb, ne-eqb}
 use mir.Syntax.{w32}
-use Rattle.whole.proofs.Fit.{kept, kept-is}
+use Rattle.whole.proofs.Fit.{kept-is}
 use Rattle.asked.proofs.asking.on_axis.Statement.{statement}
 use Rattle.asked.proofs.asking.on_axis.Tie as tie
 

@@ -1,13 +1,13 @@
 -- The record decides: an old number before the place, and from it on the number one record on.
-use mathlib.Core.Path.{_≡_, refl, sym, ap, _∙_}
+use mathlib.Core.Path.{sym, ap, _∙_}
 use mathlib.Core.Bool.{cond}
-use Prim.Native.Nat.{ℕ, _+_, _-_, _/_, _%_}
+use Prim.Native.Nat.{_+_, _-_, _/_}
 use borrow.Author.Tests.{lt-ltb, le-ltb}
-use lib.IntN.{ℤ, pos}
+use lib.IntN.{pos}
 use lib.ListN.{getD}
 use mir.Syntax.{w32}
 use borrow.Author.Needs.{needs}
-use Rattle.whole.proofs.Fit.{kept, kept-is}
+use Rattle.whole.proofs.Fit.{kept-is}
 use Rattle.asked.proofs.asking.removed.Statement.{statement}
 use Rattle.asked.proofs.asking.removed.Tie as tie
 

@@ -1,7 +1,7 @@
 -- In each arm the case is that arm's, and the definition has the arm's answer there.
-use mathlib.Core.Path.{_≡_, refl, sym, ap, _∙_, subst}
+use mathlib.Core.Path.{sym, ap, _∙_}
 use Prim.Native.Nat.{ℕ, _+_, _≤_, min}
-use native.Mathlib.Nat.{div-le-self, le-trans, le-refl}
+use native.Mathlib.Nat.{div-le-self, le-refl}
 use native.Mathlib.Omega.{arith}
 use borrow.Author.Needs.{needs}
 use Rattle.curve.specs.declared.Basis.{Basis}

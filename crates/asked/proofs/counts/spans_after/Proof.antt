@@ -1,5 +1,5 @@
 -- In each arm the case is that arm's, and the definition has the arm's answer there.
-use mathlib.Core.Path.{_≡_, refl, sym, ap, _∙_, subst}
+use mathlib.Core.Path.{sym, ap}
 use Rattle.asked.specs.Edits.{spansAfter}
 use borrow.Author.Needs.{needs}
 use Rattle.asked.proofs.counts.spans_after.Statement.{statement}

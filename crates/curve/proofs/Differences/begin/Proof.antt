@@ -1,6 +1,5 @@
 -- Every sum fits by the bounds of controls and steps, and the four are those of the definition: identities in the controls and the steps, here the variable i.
 use mathlib.Core.Path.{_≡_, _∙_}
-use mathlib.Core.List.{[], _∷_}
 use Prim.Native.Nat.{_^_}
 use lib.Dec.{T}
 use mir.Syntax.{w64}

@@ -1,13 +1,10 @@
 -- Record r + n stands 2n numbers after record r; a 32-bit coordinate keeps its value at 64 bits.
-use mathlib.Core.Path.{_≡_, refl, ap, _∙_}
-use mathlib.Core.List.{List}
+use mathlib.Core.Path.{_≡_, ap, _∙_}
 use Prim.Native.Nat.{ℕ, _+_, _*_}
 use native.Mathlib.Omega.{arith}
 use borrow.Author.Needs.{needs}
 use lib.IntN.{ℤ, pos}
 use lib.ListN.{getD}
-use mir.Syntax.{w32}
-use mir.Val.{SFits}
 use Rattle.whole.proofs.Fit.{widened, widened-fits}
 use Rattle.curve.specs.Span.{coordinate, recordsFrom}
 use Rattle.curve.proofs.records.four_records.Statement.{statement}

@@ -1,5 +1,5 @@
 -- In each arm the edit is that arm's; where no span is left nothing is carried.
-use mathlib.Core.Path.{_≡_, refl, sym, ap, _∙_, subst}
+use mathlib.Core.Path.{_≡_, sym, ap, _∙_, subst}
 use mathlib.Core.List.{List}
 use Prim.Native.Nat.{ℕ, _+_, _-_, _*_, _≤_, _<_}
 use native.Mathlib.Nat.{mul-le-mul, mul-le-mul-right, one-mul}
@@ -9,7 +9,7 @@ use lib.IntN.{ℤ, pos}
 use lib.ListN.{getD, length}
 use Rattle.spans.specs.Numbers.{filled}
 use Rattle.asked.specs.declared.Edit.{Edit}
-use Rattle.asked.specs.declared.Edit.the-variants.{Move, Insert, Remove}
+use Rattle.asked.specs.declared.Edit.the-variants.{Insert, Remove}
 use Rattle.asked.specs.Edits.{carriedFrom}
 use Rattle.edit.specs.Carried.{Carriable, runLength}
 use Rattle.edit.proofs.Worked.{none-filled, same-filled, run-none, run-end}

@@ -1,5 +1,5 @@
 -- The tests made so far are the rows passed, and the one that holds is the row given.
-use mathlib.Core.Path.{_≡_, refl, sym, ap, _∙_, subst}
+use mathlib.Core.Path.{refl, sym, ap, _∙_}
 use mathlib.Core.Bool.{not}
 use mathlib.Core.Logic.{inl, inr}
 use Rattle.shape.specs.declared.Listed.the-variants.{Fine, Bad}

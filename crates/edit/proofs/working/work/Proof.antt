@@ -1,7 +1,7 @@
 -- What was carried and what was worked afresh are the new points.
-use mathlib.Core.Path.{_≡_, refl, sym, ap, _∙_, subst}
+use mathlib.Core.Path.{_≡_, sym, ap, _∙_, subst}
 use mathlib.Core.List.{List}
-use Prim.Native.Nat.{ℕ, _+_, _*_, _^_, _≤_, _<_}
+use Prim.Native.Nat.{ℕ, _*_, _≤_, _<_}
 use native.Mathlib.Nat.{mul-le-mul, le-refl, mul-le-mul-right}
 use native.Mathlib.Omega.{arith}
 use borrow.Author.Needs.{needs}
@@ -10,9 +10,8 @@ use lib.ListN.{getD, length}
 use lib.Pow.{pow-mono}
 use Rattle.curve.specs.Ways.{deepest}
 use Rattle.spans.specs.Numbers.{filled, number, perSpan}
-use Rattle.spans.specs.Ready.{Drawable}
 use Rattle.spans.proofs.Drawables.{fewer}
-use Rattle.asked.specs.Edits.{firstFresh, pastFresh, carriedFrom}
+use Rattle.asked.specs.Edits.{firstFresh, carriedFrom}
 use Rattle.edit.specs.Carried.{Carriable, runLength}
 use Rattle.edit.proofs.Worked.{past-most, worked}
 use Rattle.edit.proofs.working.work.Statement.{statement}

@@ -1,5 +1,5 @@
 -- The plan of a sound shape has a depth and spans in range.
-use mathlib.Core.Path.{_≡_, sym, _∙_}
+use mathlib.Core.Path.{sym, _∙_}
 use native.Mathlib.Omega.{arith}
 use borrow.Author.Needs.{needs}
 use Rattle.shape.proofs.Refusals.{sound-facts}

@@ -1,30 +1,27 @@
 -- An induction on the cuts left. None left: the piece's first controls, rounded, are its one point. Else the left half's numbers and then the right half's are the
 -- piece's (`cut-numbers`), written one after the other (`sets-append`).
-use mathlib.Core.Path.{_≡_, refl, sym, ap, _∙_, subst}
+use mathlib.Core.Path.{_≡_, sym, ap, _∙_, subst}
 use mathlib.Core.List.{List}
-use Prim.Native.Nat.{ℕ, suc, _+_, _*_, _-_, _^_, _≤_, _<_}
-use native.Mathlib.Numerals.{add-one}
+use Prim.Native.Nat.{ℕ, _+_, _*_, _-_, _^_, _≤_, _<_}
 use native.Mathlib.Omega.{arith}
 use borrow.Fn.Kinds.{In}
 use borrow.Fn.PlainCycle.{Measures, is, falls, and}
-use lib.IntN.{ℤ, pos, natAbs}
-use lib.ListN.{length, set, length-set}
-use lib.Seq.{sets, length-sets}
+use lib.IntN.{ℤ, natAbs}
+use lib.ListN.{set}
+use lib.Seq.{sets}
 use mir.Syntax.{w64}
 use Rattle.whole.specs.Nearest.{nearest}
 use Rattle.whole.proofs.Fit.{kept, kept-is}
 use Rattle.curve.specs.declared.Four.{Four}
 use Rattle.curve.specs.Numbers.{tab}
 use Rattle.curve.specs.Limits.{reach}
-use Rattle.curve.specs.Span.{weighted, divisor}
-use Rattle.curve.specs.Ways.{deepest, leftHalf, rightHalf}
-use Rattle.curve.proofs.Tab.{length-tab}
+use Rattle.curve.specs.Span.{divisor}
+use Rattle.curve.specs.Ways.{leftHalf, rightHalf}
 use Rattle.curve.proofs.Four.left_half.Reads as left-half-reads
 use Rattle.curve.proofs.Four.right_half.Reads as right-half-reads
 use Rattle.spans.specs.Numbers.{paired, perSpan}
 use Rattle.spans.specs.Ready.{Cuttable}
 use Rattle.curve.proofs.Powers.{shift-one}
-use Rattle.spans.proofs.Pairs.{paired-x, paired-y}
 use Rattle.spans.proofs.Halves.{cut-on, cuttable-small, leaf-fits, leaf-near, leaf-numbers, halves-written, halved}
 use Rattle.spans.proofs.halving.fill_pieces.Reads as reads
 use Rattle.spans.proofs.halving.fill_pieces.Kinds as kinds

@@ -1,6 +1,6 @@
 -- What is left to seek from the present step is the whole.
-use mathlib.Core.Path.{_≡_, refl, sym, ap, _∙_}
-use Prim.Native.Nat.{ℕ, _*_, _-_, _%_, _^_, _≤_, _<_}
+use mathlib.Core.Path.{_≡_, sym, ap, _∙_}
+use Prim.Native.Nat.{_*_, _-_, _%_, _^_, _≤_, _<_}
 use native.Mathlib.Omega.{arith}
 use Rattle.shape.specs.Refusals.{seek}
 use Rattle.shape.proofs.Seek.{seek-here, seek-step, seek-end}

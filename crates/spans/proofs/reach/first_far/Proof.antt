@@ -1,9 +1,8 @@
 -- What is left to seek from the present span on is the whole: a span whose own search ends early ends it, any other is passed over, and the end is looked at last.
-use mathlib.Core.Path.{_≡_, refl, sym, ap, _∙_, subst}
-use mathlib.Core.Bool.{Bool, true, false}
-use mathlib.Core.List.{List}
-use Prim.Native.Nat.{ℕ, suc, _+_, _*_, _-_, _%_, _^_, _≤_, _<_}
-use native.Mathlib.Nat.{suc-mul, sub-self, zero-mul, mul-le-mul, le-refl, le-trans}
+use mathlib.Core.Path.{_≡_, sym, ap, _∙_, subst}
+use mathlib.Core.Bool.{Bool}
+use Prim.Native.Nat.{ℕ, suc, _+_, _*_, _-_, _^_, _≤_, _<_}
+use native.Mathlib.Nat.{suc-mul, sub-self, zero-mul, mul-le-mul}
 use native.Mathlib.Numerals.{add-one}
 use native.Mathlib.Omega.{arith}
 use lib.Dec.{lit<}
@@ -12,7 +11,7 @@ use Rattle.curve.specs.declared.Four.{Four}
 use Rattle.curve.specs.Ways.{deepest}
 use Rattle.shape.specs.Refusals.{seek}
 use Rattle.shape.specs.Shape.{pointsOf}
-use Rattle.shape.proofs.Seek.{seek-here, seek-on, seek-end, seek-fails}
+use Rattle.shape.proofs.Seek.{seek-here, seek-on, seek-fails}
 use Rattle.spans.specs.Numbers.{farOff, number, paired}
 use Rattle.spans.specs.Ready.{Ready}
 use Rattle.curve.proofs.Powers.{shift-one}

@@ -1,9 +1,8 @@
 -- The two numbers of a step are the rule's, and each is looked at in turn.
 use mathlib.Core.Path.{_≡_, sym, ap, _∙_}
-use mathlib.Core.Bool.{Bool, true, false, _||_}
-use Prim.Native.Nat.{ℕ, _+_, _*_}
+use mathlib.Core.Bool.{_||_}
+use Prim.Native.Nat.{_+_, _*_}
 use borrow.Author.Needs.{needs}
-use lib.IntN.{ℤ}
 use mir.Syntax.{w32}
 use Rattle.whole.proofs.Fit.{kept, kept-is}
 use Rattle.curve.specs.Limits.{reach, beyond}

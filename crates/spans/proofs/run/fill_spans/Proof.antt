@@ -1,11 +1,11 @@
 -- At each turn the numbers of the spans still to be drawn, written to the present list, make the whole; a turn takes the next span's off, and the end is left.
 use mathlib.Core.Path.{_≡_, refl, sym, ap, _∙_, subst}
-use mathlib.Core.List.{List, [], _∷_}
+use mathlib.Core.List.{List}
 use Prim.Native.Nat.{ℕ, suc, _+_, _*_, _-_, _%_, _^_, _≤_, _<_}
-use native.Mathlib.Nat.{mul-le-mul, mul-le-mul-right, le-trans, le-refl, mod-eq-of-lt, lt-of-le-of-lt, suc-mul}
+use native.Mathlib.Nat.{mul-le-mul, mul-le-mul-right, le-refl, mod-eq-of-lt, lt-of-le-of-lt, suc-mul}
 use native.Mathlib.Numerals.{add-one}
 use native.Mathlib.Omega.{arith}
-use lib.Dec.{lit<, lit≤}
+use lib.Dec.{lit<}
 use lib.IntN.{ℤ}
 use lib.ListN.{length, set}
 use lib.Pow.{pow-mono}
@@ -17,7 +17,7 @@ use Rattle.curve.specs.Span.{divisor}
 use Rattle.curve.specs.Ways.{deepest}
 use Rattle.curve.proofs.Tab.{length-tab}
 use Rattle.spans.specs.Numbers.{number, paired, perSpan, filled}
-use Rattle.spans.specs.Ready.{Ready, Closable, Drawable}
+use Rattle.spans.specs.Ready.{Ready, Closable}
 use Rattle.whole.proofs.Writes.{sets-append}
 use Rattle.spans.proofs.Numbers.{spanControls, span-numbers, next-span, last-two}
 use Rattle.spans.proofs.Drawables.{fewer, span-ready, span-closable}

@@ -1,13 +1,12 @@
 -- A last control is within the reach at depth 0, where it is the sum.
 use mathlib.Core.Path.{_≡_, sym, ap, _∙_, subst}
-use Prim.Native.Nat.{ℕ, _+_, _*_, _≤_}
+use Prim.Native.Nat.{_+_, _*_, _≤_}
 use native.Mathlib.Omega.{arith}
 use borrow.Author.Needs.{needs}
 use lib.Dec.{lit≤}
 use lib.IntN.{natAbs}
 use lib.ListN.{set}
 use mir.Syntax.{w64}
-use mir.Val.{SFits}
 use Rattle.whole.specs.Nearest.{nearest}
 use Rattle.whole.proofs.Fit.{kept, kept-is, sfits}
 use Rattle.curve.specs.declared.Four.{Four}

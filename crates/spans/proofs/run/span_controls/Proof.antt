@@ -2,7 +2,6 @@
 use mathlib.Core.Path.{_≡_, sym, ap, _∙_, subst}
 use Prim.Native.Nat.{ℕ}
 use native.Mathlib.Omega.{arith}
-use Rattle.curve.specs.declared.Four.{Four}
 use Rattle.curve.specs.Limits.{Inside, limit}
 use Rattle.curve.specs.Span.{coordinate, recordsFrom, records, sixfoldControls}
 use Rattle.spans.proofs.run.span_controls.Statement.{statement}

@@ -1,16 +1,12 @@
 -- At each turn the pairs still to be written, written to the present list, make the whole; a turn writes the next pair.
-use mathlib.Core.Path.{_≡_, refl, sym, ap, _∙_, subst}
+use mathlib.Core.Path.{_≡_, refl, sym, ap, _∙_}
 use Prim.Native.Nat.{ℕ, _+_, _*_, _-_, _^_, _≤_, _<_}
-use native.Mathlib.Nat.{one-mul, mod-eq-of-lt}
 use native.Mathlib.Omega.{arith}
-use lib.IntN.{ℤ}
 use lib.ListN.{length, set, length-set}
-use lib.Pow.{pow-mono, pow-lt}
 use lib.Seq.{sets}
 use mir.Syntax.{w32}
 use Rattle.whole.proofs.Fit.{kept, kept-is}
 use Rattle.curve.specs.Numbers.{tab}
-use Rattle.curve.specs.Ways.{deepest}
 use Rattle.spans.specs.Numbers.{paired, perSpan}
 use Rattle.spans.proofs.Pairs.{pair-step, pair-done, paired-x, paired-y}
 use Rattle.curve.proofs.Powers.{shift-one}

@@ -4,7 +4,7 @@ use Prim.Native.Nat.{ℕ, _*_, _-_, _%_, _^_, _≤_}
 use native.Mathlib.Nat.{lt-of-le-of-lt, le-refl, mod-eq-of-lt}
 use borrow.Author.Needs.{needs}
 use lib.Dec.{lit<}
-use lib.IntN.{ℤ, pos, natAbs}
+use lib.IntN.{pos, natAbs}
 use mir.Syntax.{w32, w64}
 use Rattle.whole.specs.Nearest.{nearest}
 use Rattle.whole.proofs.Fit.{kept, kept-is}
