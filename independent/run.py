@@ -1,4 +1,4 @@
-"""The command line: `python3 run.py list|trials|sums|make-trials`, standard input to standard output."""
+"""The command line: `python3 run.py list|trials|sums|make-trials [SEED]`, standard input to standard output."""
 
 import sys
 
@@ -23,9 +23,12 @@ COMMANDS = {
 
 
 def main() -> None:
-    if len(sys.argv) != 2 or sys.argv[1] not in COMMANDS:
-        sys.exit(f"usage: run.py {'|'.join(COMMANDS)}")
-    sys.stdout.buffer.write(COMMANDS[sys.argv[1]]())
+    """A seed is for make-trials alone: another file of the same kind for each number from 1 to 2^64 - 1."""
+    words = sys.argv[1:]
+    seeded = len(words) == 2 and words[0] == "make-trials" and words[1].isdecimal() and 0 < int(words[1]) < 2 ** 64
+    if not seeded and (len(words) != 1 or words[0] not in COMMANDS):
+        sys.exit(f"usage: run.py {'|'.join(COMMANDS)} [SEED]")
+    sys.stdout.buffer.write(make_trials(int(words[1])) if seeded else COMMANDS[words[0]]())
 
 
 if __name__ == "__main__":

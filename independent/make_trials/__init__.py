@@ -1,4 +1,4 @@
-"""Makes the trials file: every kind of call from one fixed seed, weighted to edges."""
+"""Makes a trials file: every kind of call from one seed, weighted to edges.  The stored file's seed is fixed."""
 
 from collections import Counter
 
@@ -19,9 +19,9 @@ SECTIONS = (
 )
 
 
-def make_trials() -> bytes:
+def make_trials(seed: int = SEED) -> bytes:
     """The file.  16 is the one refusal that no call can be brought to give."""
-    script = Script(SEED)
+    script = Script(seed)
     for section in SECTIONS:
         section(script)
     given: Counter = Counter()
