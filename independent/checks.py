@@ -11,7 +11,6 @@ from refusal import Refusal
 from shape import DEEPEST, STRIDE, Shape, count_allowed, point_count
 
 CONTROL_LIMIT = 4_000_000
-POINT_LIMIT = 5_000_000
 
 Record = Tuple[int, int]
 
@@ -65,10 +64,3 @@ def check_points_room(points: Sequence, *shapes: Shape) -> None:
     """9: the points or preview list is shorter than one of the outlines needs."""
     if len(points) < 2 * max(point_count(shape) for shape in shapes):
         raise Refusal(refusal.POINTS_SHORT)
-
-
-def check_overshoot(outline: Sequence[int]) -> None:
-    """16: the first point beyond the bound.  No good controls give one."""
-    for point in range(len(outline) // 2):
-        if not within(POINT_LIMIT, outline[2 * point:2 * point + 2]):
-            raise Refusal(refusal.OVERSHOOT, point)

@@ -2,18 +2,15 @@
 
 from typing import List, Sequence
 
-from checks import (check_controls_room, check_limits, check_offered, check_overshoot, check_points_room,
-                    check_shape)
+from checks import check_controls_room, check_limits, check_offered, check_points_room, check_shape
 from curve import exact_outline, nearest
 from refusal import Refusal
 from shape import BEZIER, Shape, numbers_of, point_count, span_points, spans
 
 
 def formula_points(shape: Shape, controls: Sequence[int]) -> List[int]:
-    """The numbers of the outline that the formulas give; 16 where a point is too far out."""
-    outline = [nearest(value) for value in exact_outline(shape, controls)]
-    check_overshoot(outline)
-    return outline
+    """The numbers of the outline that the formulas give."""
+    return [nearest(value) for value in exact_outline(shape, controls)]
 
 
 def draw(shape: Shape, controls: Sequence[int], points: List[int]) -> int:

@@ -15,7 +15,6 @@ STEP_ORDER = 12
 FILE_LENGTH = 13
 SPARE_BYTES = 14
 UNLIKE_FIRST = 15
-OVERSHOOT = 16
 
 
 class Refusal(Exception):

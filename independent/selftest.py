@@ -12,7 +12,7 @@ from typing import List, Sequence
 sys.dont_write_bytecode = True
 
 import trials  # noqa: E402
-from checks import CONTROL_LIMIT, POINT_LIMIT  # noqa: E402
+from checks import CONTROL_LIMIT  # noqa: E402
 from curve import cubic, nearest, powers, product  # noqa: E402
 from drawing import NOTHING_DRAWN, Step, micrometres, take  # noqa: E402
 from edits import BASES_THAT_GROW, insert, move, remove  # noqa: E402
@@ -53,6 +53,7 @@ Bezier 0 0 0 4000001 depth 1: refused 8 3
 
 SEED = 2024
 JUNK = 77
+POINT_LIMIT = 5_000_000
 
 
 def de_casteljau(four: Sequence[Fraction], t: Fraction) -> Fraction:

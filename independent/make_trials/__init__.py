@@ -20,7 +20,7 @@ SECTIONS = (
 
 
 def make_trials(seed: int = SEED) -> bytes:
-    """The file.  16 is the one refusal that no call can be brought to give."""
+    """The file, with every refusal of the table given at least a few times."""
     script = Script(seed)
     for section in SECTIONS:
         section(script)
@@ -28,5 +28,5 @@ def make_trials(seed: int = SEED) -> bytes:
     for (_, number), times in script.tally.items():
         given[number] += times
     assert sum(given.values()) >= FEWEST_CALLS
-    assert all(given[number] >= FEWEST_OF_EACH_REFUSAL for number in range(refusal.BASIS, refusal.OVERSHOOT))
+    assert all(given[number] >= FEWEST_OF_EACH_REFUSAL for number in range(refusal.BASIS, refusal.UNLIKE_FIRST + 1))
     return b"".join(script.records)

@@ -7,10 +7,9 @@ use lib.IntN.{ℤ, pos}
 use lib.ListN.{getD}
 use Rattle.curve.specs.declared.Basis.{Basis}
 use Rattle.curve.specs.declared.Basis.the-variants.{Bezier, BSpline, Cardinal, Hermite}
-use Rattle.curve.specs.Numbers.{tab}
 use Rattle.curve.specs.Limits.{beyond, limit}
 use Rattle.shape.specs.Shape.{mostRecords}
-use Rattle.spans.specs.Numbers.{number, perSpan}
+use Rattle.spans.specs.Numbers.{number, perSpan, filled}
 use Rattle.asked.specs.declared.Edit.{Edit}
 use Rattle.asked.specs.declared.Edit.the-variants.{Move, Insert, Remove}
 
@@ -72,9 +71,9 @@ controlAt (Move x y) j old q = cond (eqb (q / 2) j) (choose (q % 2) x y) (getD o
 controlAt (Insert x y) j old q = cond (ltb (q / 2) j) (getD old q (pos 0)) (cond (eqb (q / 2) j) (choose (q % 2) x y) (getD old (q - 2) (pos 0)))
 controlAt Remove j old q = cond (ltb (q / 2) j) (getD old q (pos 0)) (getD old (q + 2) (pos 0))
 
--- The numbers of the new controls, and no more: n is the new count.
+-- The lent list with the new controls in front, n of them, and every number past the last as it was.
 unfoldable pub asked : Edit → ℕ → List ℤ → ℕ → List ℤ
-asked e j old n = tab (controlAt e j old) 0 (2 * n)
+asked e j old n = filled (controlAt e j old) 0 (2 * n) old
 
 -- ---- the spans worked afresh: from `first` up to, and not with, `past`
 

@@ -1,101 +1,47 @@
-// The controls that an edit asks for.
+// The controls that an edit asks for, made in the lent list itself.
 ghost use mathlib.Core.Path.{_≡_};
-ghost use Prim.Native.Nat.{_*_, _≤_, _<_};
-ghost use lib.IntN.{pos};
-ghost use lib.ListN.{getD, length};
-ghost use lib.Seq.{sets};
-ghost use Rattle.asked.specs.Edits.{asked, choose, controlAt};
+ghost use Prim.Native.Nat.{_+_, _*_, _-_, _≤_, _<_};
+ghost use lib.ListN.{length, set};
+ghost use Rattle.asked.specs.Edits.{asked, countAfter};
+ghost use Rattle.asked.specs.Ready.{Askable};
 use crate::Edit;
+use crate::carrying::carry_back;
+use crate::carrying::carry_on;
 
-// A number of a list, and 0 past its end.
-fn number_of(list: &[i32], q: usize) -> i32
-    ensures { λ r. ⌜ r ≡ getD (now (list .entry)) q (pos 0) ⌝ }
+// Record `place` becomes (x, y).
+fn put_record(controls: &mut [i32], place: usize, x: i32, y: i32)
+    requires { ⌜ 2 * place + 2 ≤ length (now controls) ⌝ }
+    ensures { λ _. ⌜ now (controls .exit) ≡ set (set (now (controls .entry)) (2 * place) x) (2 * place + 1) y ⌝ }
 {
-    if q < list.len() {
-        return list[q];
-    }
-    0
+    controls[2 * place] = x;
+    controls[2 * place + 1] = y;
 }
 
-// x on axis 0, else y.
-fn on_axis(axis: usize, x: i32, y: i32) -> i32
-    ensures { λ r. ⌜ r ≡ choose axis x y ⌝ }
+// A new record (x, y) stands before record `place` of `count`, and the rest one record on.
+fn put_in(controls: &mut [i32], place: usize, count: usize, x: i32, y: i32)
+    requires { ⌜ (place ≤ count) × (2 * count + 2 ≤ length (now controls)) ⌝ }
+    ensures { λ _. ⌜ now (controls .exit) ≡ asked (Edit.Insert x y) place (now (controls .entry)) (count + 1) ⌝ }
 {
-    if axis == 0 {
-        return x;
-    }
-    y
+    carry_on(controls, 2 * place + 2, 2 * count + 2, 2);
+    put_record(controls, place, x, y);
 }
 
-// Number q of the controls with a record replaced.
-fn moved(x: i32, y: i32, place: usize, controls: &[i32], q: usize) -> i32
-    ensures { λ r. ⌜ r ≡ controlAt (Edit.Move x y) place (now (controls .entry)) q ⌝ }
+// Record `place` of `count` is taken out, and the rest one record back.
+fn take_out(controls: &mut [i32], place: usize, count: usize)
+    requires { ⌜ (place < count) × (2 * count ≤ length (now controls)) ⌝ }
+    ensures { λ _. ⌜ now (controls .exit) ≡ asked Edit.Remove place (now (controls .entry)) (count - 1) ⌝ }
 {
-    if q / 2 == place {
-        return on_axis(q % 2, x, y);
-    }
-    number_of(controls, q)
+    carry_back(controls, 2 * place, 2 * count - 2, 2);
 }
 
-// Number q of the controls with a new record before one.
-fn inserted(x: i32, y: i32, place: usize, controls: &[i32], q: usize) -> i32
-    ensures { λ r. ⌜ r ≡ controlAt (Edit.Insert x y) place (now (controls .entry)) q ⌝ }
-{
-    let record = q / 2;
-    if record < place {
-        return number_of(controls, q);
-    }
-    if record == place {
-        return on_axis(q % 2, x, y);
-    }
-    number_of(controls, q - 2)
-}
-
-// Number q of the controls with a record taken out.
-fn removed(place: usize, controls: &[i32], q: usize) -> i32
-    requires { ⌜ q < 1000 ⌝ }
-    ensures { λ r. ⌜ r ≡ controlAt Edit.Remove place (now (controls .entry)) q ⌝ }
-{
-    let record = q / 2;
-    if record < place {
-        return number_of(controls, q);
-    }
-    number_of(controls, q + 2)
-}
-
-// Number q of the new controls.
-fn control_at(edit: Edit, place: usize, controls: &[i32], q: usize) -> i32
-    requires { ⌜ q < 1000 ⌝ }
-    ensures { λ r. ⌜ r ≡ controlAt edit place (now (controls .entry)) q ⌝ }
+// The lent controls, of which there are `count`, become those that the edit asks for. Every number past the last of them keeps what it held.
+pub fn ask(edit: Edit, place: usize, count: usize, controls: &mut [i32])
+    requires { ⌜ Askable edit place count (length (now controls)) ⌝ }
+    ensures { λ _. ⌜ now (controls .exit) ≡ asked edit place (now (controls .entry)) (countAfter edit count) ⌝ }
 {
     match edit {
-        Edit::Move(x, y) => moved(x, y, place, controls, q),
-        Edit::Insert(x, y) => inserted(x, y, place, controls, q),
-        Edit::Remove => removed(place, controls, q),
-    }
-}
-
-// The numbers of the new controls, from the start of `next` on.
-pub fn ask(edit: Edit, place: usize, controls: &[i32], count: usize, next: &mut [i32])
-    requires { ⌜ count ≤ 64 ⌝ }
-    requires { ⌜ 2 * count ≤ length (now next) ⌝ }
-    ensures { λ _. ⌜ now (next .exit) ≡ sets (now (next .entry)) 0 (asked edit place (now (controls .entry)) count) ⌝ }
-{
-    let mut q = 0;
-    while q < 2 * count {
-        next[q] = control_at(edit, place, controls, q);
-        q += 1;
-    }
-}
-
-// A list's numbers, from the start of another on.
-pub fn copy_front(from: &[i32], to: &mut [i32])
-    requires { ⌜ length (now from) ≤ length (now to) ⌝ }
-    ensures { λ _. ⌜ now (to .exit) ≡ sets (now (to .entry)) 0 (now (from .entry)) ⌝ }
-{
-    let mut q = 0;
-    while q < from.len() {
-        to[q] = from[q];
-        q += 1;
+        Edit::Move(x, y) => put_record(controls, place, x, y),
+        Edit::Insert(x, y) => put_in(controls, place, count, x, y),
+        Edit::Remove => take_out(controls, place, count),
     }
 }

@@ -1,5 +1,6 @@
 // What an edit asks for: its controls, its counts and the spans that it works afresh. The calls are for crates of this project: some require what those have checked.
 pub mod asking;
+pub mod carrying;
 pub mod counts;
 
 // What an edit does at its place: a new record there, a new one before it, or the record taken out.

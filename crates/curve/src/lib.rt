@@ -33,7 +33,5 @@ pub struct Differences {
 
 // A control coordinate is at most this far from zero, in micrometres.
 pub const LIMIT: i32 = 4_000_000;
-// No point of an outline is further than this from zero.
-pub const REACH: i32 = 5_000_000;
 // The deepest outline: a span has at most 2^6 steps.
 pub const DEEPEST: usize = 6;

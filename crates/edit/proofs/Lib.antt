@@ -2,5 +2,5 @@ pub mod Worked
 pub mod Rows
 pub mod Unique
 pub mod Exactly
-pub mod Near
+pub mod Passed
 pub mod Cases

@@ -2,21 +2,18 @@
 use mathlib.Core.Path.{_≡_, refl, sym, ap, _∙_, subst}
 use mathlib.Core.Bool.{Bool, true, false, cond, _||_}
 use mathlib.Core.Logic.{⊎-elim}
-use mathlib.Core.List.{List, [], _∷_, _++_}
+use mathlib.Core.List.{List}
 use Prim.Native.Nat.{ℕ, suc, _+_, _*_, _-_, _/_, _%_, _≤_, _<_, max}
 use native.Mathlib.Nat.{le-max-left, le-max-right, suc-mul}
 use native.Mathlib.Omega.{arith}
-use borrow.Author.Tests.{not-false, ltb-true, ltb-false, leb-true, leb-false, eqb-true, eqb-false, lt-ltb, le-ltb}
+use borrow.Author.Tests.{not-false, ltb-true, ltb-false, leb-true, leb-false, eqb-true, eqb-false, le-ltb}
 use lib.Dec.{ltb, eqb}
 use lib.IntN.{ℤ, pos, natAbs}
-use lib.ListN.{drop, getD, length, take}
-use lib.Seq.{sets, sets-eq, take-at}
+use lib.ListN.{getD, length}
 use Rattle.curve.specs.declared.Basis.{Basis}
 use Rattle.curve.specs.declared.Basis.the-variants.{Bezier, BSpline, Cardinal, Hermite}
-use Rattle.curve.specs.Numbers.{tab}
 use Rattle.curve.specs.Limits.{beyond, limit}
 use Rattle.curve.specs.Span.{coordinate}
-use Rattle.curve.proofs.Tab.{length-tab, getD-tab}
 use Rattle.shape.specs.declared.Shape.{Shape}
 use Rattle.shape.specs.declared.Plan.{Plan}
 use Rattle.shape.specs.declared.Refusal.{Refusal}
@@ -24,18 +21,20 @@ use Rattle.shape.specs.declared.Judged.the-variants.{Sound, Unsound}
 use Rattle.shape.specs.declared.Listed.the-variants.{Fine, Bad}
 use Rattle.shape.specs.Good.{Good, Lent}
 use Rattle.shape.specs.Shape.{spansOf, recordsOf, mostRecords}
-use Rattle.shape.specs.Refusals.{Row, NoRow, judge, judgeShape, planOf}
+use Rattle.shape.specs.Refusals.{NoRow, judgeShape, planOf}
 use Rattle.shape.proofs.Tests.{passes, true-is-not-false, or-false, either}
-use Rattle.shape.proofs.Refusals.{sound, unsound, sound-plan, rows-none, rows-bad, rows-fine, none-fine, fine-facts}
+use Rattle.shape.proofs.Refusals.{judge-first, judge-none, sound, unsound, sound-plan, rows-first, rows-none, rows-bad, rows-fine, none-fine, fine-facts}
 use Rattle.shape.proofs.Spans.{spans-records, spans-below}
-use Rattle.spans.specs.Numbers.{perSpan}
-use Rattle.outline.specs.Outline.{points, firstFar, reachRow}
+use Rattle.spans.specs.Numbers.{perSpan, filled}
+use Rattle.spans.proofs.Filled.{length-filled, in-filled}
+use Rattle.outline.specs.Outline.{points}
 use Rattle.outline.proofs.Draws.{all-numbers, drawable}
 use Rattle.asked.specs.declared.Edit.{Edit}
 use Rattle.asked.specs.declared.Edit.the-variants.{Move, Insert, Remove}
 use Rattle.asked.specs.Edits.{countAfter, spansAfter, offered, inRange, atTheEnd, newOutside, choose, controlAt, asked, pastFresh}
+use Rattle.asked.specs.Ready.{Askable}
 use Rattle.edit.specs.Carried.{Carriable}
-use Rattle.edit.specs.Reading.{shapeAfter, planAfter, askRows, judgeAsk, roomRows, judgeRoom, editRows, refuses, accepts, editsPlan, editsRoom, editsLists, edits}
+use Rattle.edit.specs.Reading.{shapeAfter, planAfter, askRows, judgeAsk, roomRows, judgeRoom, editRows, refuses, accepts, editsPlan, editsRoom, edits}
 use Rattle.edit.specs.Ready.{Editable, Workable}
 
 -- ---- the new shape
@@ -172,17 +171,11 @@ number-small n controls k len lent q h = ⊎-elim (λ t. even (eqb-true (q % 2) 
     odd : (q % 2 ≡ 0 → ⊥) → Small (getD controls q (pos 0))
     odd t = let e : 2 * (q / 2) + 1 ≡ q = ⊎-elim (λ (g : q % 2 < 1). absurd (t (omega arith))) (λ (g : 1 ≤ q % 2). omega arith) (either (q % 2) 1) in subst (λ (i : ℕ). Small (getD controls i (pos 0))) e (lent .y (q / 2) (omega arith))
 
-pub length-asked : (e : Edit) (j : ℕ) (old : List ℤ) (n : ℕ) → length (asked e j old n) ≡ 2 * n
-unfolding asked
-length-asked e j old n = length-tab (controlAt e j old) 0 (2 * n)
-
--- a list's front that was written with them is them
-pub front-asked : (e : Edit) (j : ℕ) (old : List ℤ) (n : ℕ) (l : List ℤ) → 2 * n ≤ length l → take (2 * n - 0) (sets l 0 (asked e j old n)) ≡ asked e j old n
-front-asked e j old n l h =
-    let vs = asked e j old n in
-    let fits : 0 + length vs ≤ length l = omega (arith, length-asked e j old n) in
-    let all : length vs ≡ 2 * n - 0 = omega (arith, length-asked e j old n) in
-    ap (take (2 * n - 0)) (sets-eq vs l 0 fits) ∙ take-at vs (drop (0 + length vs) l) (2 * n - 0) all
+-- the list holds the records that an edit reads and writes
+askable-by : (e : Edit) (j n len : ℕ) → inRange e j n ≡ true → 2 * max n (countAfter e n) ≤ len → Askable e j n len
+askable-by (Move x y) j n len range room = (ltb-true j n range, omega (arith, room, le-max-left n n))
+askable-by (Insert x y) j n len range room = (leb-true j n range, omega (arith, room, le-max-right n (n + 1)))
+askable-by Remove j n len range room = (ltb-true j n range, omega (arith, room, le-max-left n (n - 1)))
 
 -- each carried span has its neighbour in the list
 carriable-by : (e : Edit) (b : Basis) (j m w len : ℕ) → 1 ≤ m → 1 ≤ spansAfter e m → m * w + 2 ≤ len → spansAfter e m * w + 2 ≤ len → Carriable e (pastFresh e b j (spansAfter e m)) (spansAfter e m) w len
@@ -209,21 +202,28 @@ module _ (e : Edit) (s : Shape) (p : Plan) (j : ℕ) (ok : Editable e s p j) (co
   unfolding judgeRoom
   none = rows-none (roomRows e n controls most len) fine
 
+  room : 2 * max n (countAfter e n) ≤ length controls
+  room = ltb-false (length controls) (2 * max n (countAfter e n)) (none .0)
+
+  pub new-room : 2 * countAfter e n ≤ length controls
+  new-room = omega (arith, room, le-max-right n (countAfter e n))
+
   -- the old records, by the shared rows
   old : Lent n controls 0 len
   old =
       fine-facts n controls 0 len
-      (none-fine n controls 0 len (le-ltb (length controls) (2 * n) (omega (arith, ltb-false (length controls) (2 * max n (countAfter e n)) (none .0), le-max-left n (countAfter e n))), (none .1 .0, (le-ltb len (2 * 0) (omega arith), tt))))
+      (none-fine n controls 0 len (le-ltb (length controls) (2 * n) (omega (arith, room, le-max-left n (countAfter e n))), (none .1 .0, (le-ltb len (2 * 0) (omega arith), tt))))
 
   -- the new ones
   pub new-lent : Lent (countAfter e n) (asked e j controls (countAfter e n)) 0 len
   unfolding asked coordinate
   new-lent =
       let after = countAfter e n in
-      let at : (i : ℕ) → i < 2 * after → Small (getD (tab (controlAt e j controls) 0 (2 * after)) i (pos 0)) =
-      λ i h. subst Small (sym (getD-tab (controlAt e j controls) 0 (2 * after) i h (pos 0))) (control-small e j n controls (number-small n controls 0 len old) (none .1 .1 .0) (ok .inRange) (0 + i) (omega arith)) in
+      let f = controlAt e j controls in
+      let at : (i : ℕ) → i < 2 * after → Small (getD (filled f 0 (2 * after) controls) i (pos 0)) =
+      λ i h. subst Small (sym (in-filled f 0 (2 * after) controls i (omega arith) (omega arith) (omega (arith, new-room)))) (control-small e j n controls (number-small n controls 0 len old) (none .1 .1 .0) (ok .inRange) i h) in
       record {
-        room = omega (arith, length-tab (controlAt e j controls) 0 (2 * after));
+        room = omega (arith, new-room, length-filled f 0 (2 * after) controls);
         x = λ r h. at (2 * r + 0) (omega arith);
         y = λ r h. at (2 * r + 1) (omega arith);
         points-room = omega arith;
@@ -245,7 +245,7 @@ module _ (e : Edit) (s : Shape) (p : Plan) (j : ℕ) (ok : Editable e s p j) (co
         least = omega (arith, ok .good .spans-most);
         most = ok .good .records-most;
         place = place-most e j n (ok .good .records-most) (ok .inRange);
-        room = omega (arith, ltb-false (length controls) (2 * max n (countAfter e n)) (none .0), le-max-right n (countAfter e n));
+        askable = askable-by e j n (length controls) (ok .inRange) room;
         drawable = drawable (shapeAfter e s) q (good-after e s p j ok) (asked e j controls (countAfter e n)) 0 len new-lent;
         points-room = new-fits;
         carriable = carriable-by e (p .basis) j (p .spans) (perSpan (p .depth)) len (ok .good .spans-least) (good-after e s p j ok .spans-least) old-fits new-fits;
@@ -267,14 +267,11 @@ edits-sound e s p t j controls lent =
     ∙ ap (λ r. editsPlan e s r q j controls lent) (sym (sound-plan s p t))
 
 module _ (e : Edit) (s : Shape) (p : Plan) (j : ℕ) (controls lent : List ℤ) where
-  abbrev reach : Plan → List Row
-  reach q = reachRow q (asked e j controls (countAfter e (s .count))) ∷ []
-
   -- rows 4, 5, 6
   pub plan-bad : (q : Plan) (r : Refusal) → judgeAsk e (p .basis) j (s .count) ≡ Bad r → editsPlan e s p q j controls lent ≡ refuses controls lent r
   unfolding editsPlan judgeAsk
   plan-bad q r t =
-      rows-bad (askRows e (p .basis) j (s .count)) r t (roomRows e (s .count) controls (max (points p) (points q)) (length lent) ++ reach q) (refuses controls lent) (accepts e s q j controls lent)
+      rows-bad (askRows e (p .basis) j (s .count)) r t (roomRows e (s .count) controls (max (points p) (points q)) (length lent)) (refuses controls lent) (accepts e s q j controls lent)
 
   pub editable : Good s p → judgeAsk e (p .basis) j (s .count) ≡ Fine → Editable e s p j
   unfolding judgeAsk
@@ -285,26 +282,17 @@ module _ (e : Edit) (s : Shape) (p : Plan) (j : ℕ) (controls lent : List ℤ) 
   pub plan-fine : (q : Plan) → judgeAsk e (p .basis) j (s .count) ≡ Fine → editsPlan e s p q j controls lent ≡ editsRoom e s p q j controls lent
   unfolding editsPlan judgeAsk editsRoom
   plan-fine q t =
-      rows-fine (askRows e (p .basis) j (s .count)) t (roomRows e (s .count) controls (max (points p) (points q)) (length lent) ++ reach q) (refuses controls lent) (accepts e s q j controls lent)
+      rows-fine (askRows e (p .basis) j (s .count)) t (roomRows e (s .count) controls (max (points p) (points q)) (length lent)) (refuses controls lent) (accepts e s q j controls lent)
 
   -- rows 7, 8, 9
   pub room-bad : (q : Plan) (r : Refusal) → judgeRoom e (s .count) controls (max (points p) (points q)) (length lent) ≡ Bad r → editsRoom e s p q j controls lent ≡ refuses controls lent r
   unfolding editsRoom judgeRoom
-  room-bad q r t = rows-bad (roomRows e (s .count) controls (max (points p) (points q)) (length lent)) r t (reach q) (refuses controls lent) (accepts e s q j controls lent)
+  room-bad q r t =
+      let rows = roomRows e (s .count) controls (max (points p) (points q)) (length lent) in
+      judge-first rows (refuses controls lent) (accepts e s q j controls lent) r (rows-first rows r t)
 
-  pub room-fine : (q : Plan) → judgeRoom e (s .count) controls (max (points p) (points q)) (length lent) ≡ Fine → editsRoom e s p q j controls lent ≡ editsLists e s q j controls lent
-  unfolding editsRoom judgeRoom editsLists
-  room-fine q t = rows-fine (roomRows e (s .count) controls (max (points p) (points q)) (length lent)) t (reach q) (refuses controls lent) (accepts e s q j controls lent)
-
--- row 16
-module _ (e : Edit) (s : Shape) (q : Plan) (j : ℕ) (controls lent : List ℤ) where
-  abbrev far : ℕ
-  far = firstFar q (asked e j controls (countAfter e (s .count)))
-
-  pub lists-far : far < points q → editsLists e s q j controls lent ≡ refuses controls lent (record { number = 16; place = far })
-  unfolding editsLists judge
-  lists-far h = ap (λ b. cond b (refuses controls lent (record { number = 16; place = far })) (accepts e s q j controls lent)) (lt-ltb far (points q) h)
-
-  pub lists-near : points q ≤ far → editsLists e s q j controls lent ≡ accepts e s q j controls lent
-  unfolding editsLists judge
-  lists-near h = ap (λ b. cond b (refuses controls lent (record { number = 16; place = far })) (accepts e s q j controls lent)) (le-ltb far (points q) h)
+  pub room-fine : (q : Plan) → judgeRoom e (s .count) controls (max (points p) (points q)) (length lent) ≡ Fine → editsRoom e s p q j controls lent ≡ accepts e s q j controls lent
+  unfolding editsRoom judgeRoom
+  room-fine q t =
+      let rows = roomRows e (s .count) controls (max (points p) (points q)) (length lent) in
+      judge-none rows (refuses controls lent) (accepts e s q j controls lent) (rows-none rows t)

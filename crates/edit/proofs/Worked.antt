@@ -1,9 +1,9 @@
 -- The numbers past the fresh spans carried and the fresh spans worked leave every point as the reading has it.
-use mathlib.Core.Path.{_≡_, refl, sym, ap, _∙_}
+use mathlib.Core.Path.{_≡_, sym, ap, _∙_}
 use mathlib.Core.Bool.{true, false, cond, _&&_}
 use mathlib.Core.Logic.{_⊎_, ⊎-elim}
 use mathlib.Core.List.{List}
-use Prim.Native.Nat.{ℕ, zero, suc, _+_, _*_, _-_, _/_, _%_, _^_, min, _≤_, _<_}
+use Prim.Native.Nat.{ℕ, suc, _+_, _*_, _-_, _/_, _%_, _^_, min, _≤_, _<_}
 use native.Mathlib.Nat.{add-mul, mul-le-mul-right, div-lt-iff-lt-mul, le-div-iff-mul-le, min-eq-left, min-le-left, min-le-right, zero-mul}
 use native.Mathlib.Omega.{arith}
 use borrow.Author.Tests.{ltb-true, leb-true, lt-ltb, le-ltb, le-leb}
@@ -12,48 +12,18 @@ use lib.Dec.{leb, ltb}
 use lib.IntN.{ℤ, pos}
 use lib.ListN.{getD, length}
 use lib.Pow.{pow-pos}
-use lib.Seq.{sets, set-getD, ext-getD, length-sets}
 use Rattle.curve.specs.declared.Basis.{Basis}
 use Rattle.curve.specs.declared.Basis.the-variants.{Bezier, BSpline, Cardinal, Hermite}
-use Rattle.curve.specs.Numbers.{tab}
 use Rattle.curve.specs.Span.{coordinate, records, point}
 use Rattle.curve.proofs.Span.{joint}
-use Rattle.curve.proofs.Tab.{length-tab, getD-tab}
 use Rattle.shape.proofs.Tests.{passes, either, and-true}
 use Rattle.spans.specs.Numbers.{number, perSpan, filled}
+use Rattle.spans.proofs.Filled.{length-filled, in-filled, before-filled, past-filled, none-filled, is-filled}
 use Rattle.spans.proofs.Numbers.{per-span, located, end-number}
 use Rattle.asked.specs.declared.Edit.{Edit}
 use Rattle.asked.specs.declared.Edit.the-variants.{Move, Insert, Remove}
 use Rattle.asked.specs.Edits.{firstUsing, lastUsing, firstFresh, pastFresh, carriedFrom, isFresh, pointAt}
 use Rattle.edit.specs.Carried.{runLength}
-use Rattle.curve.proofs.Fills.{before-sets, past-sets, in-sets}
-
--- ---- what stands at a place of a list that was filled
-
-module _ (f : ℕ → ℤ) (q n : ℕ) (l : List ℤ) (i : ℕ) where
-  pub in-filled : q ≤ i → i < q + n → q + n ≤ length l → getD (filled f q n l) i (pos 0) ≡ f i
-  in-filled low high room =
-      let e : q + (i - q) ≡ i = omega arith in
-      ap (λ (p : ℕ). getD (filled f q n l) p (pos 0)) (sym e)
-      ∙ in-sets (tab f q n) l q (i - q) (pos 0) (omega (arith, length-tab f q n)) (omega arith)
-      ∙ getD-tab f q n (i - q) (omega arith) (pos 0)
-      ∙ ap f e
-
-  pub before-filled : i < q → getD (filled f q n l) i (pos 0) ≡ getD l i (pos 0)
-  before-filled h = before-sets (tab f q n) l q i (pos 0) h
-
-  pub past-filled : q + n ≤ i → getD (filled f q n l) i (pos 0) ≡ getD l i (pos 0)
-  past-filled h = past-sets (tab f q n) l q i (pos 0) (omega (arith, length-tab f q n))
-
-pub none-filled : (f : ℕ → ℤ) (q n : ℕ) (l : List ℤ) → n ≡ 0 → filled f q n l ≡ l
-unfolding tab
-none-filled f q n l e = ap (λ (m : ℕ). filled f q m l) e
-
--- a list filled with its own numbers is as it was
-pub same-filled : (l : List ℤ) (q n : ℕ) → filled (λ (i : ℕ). getD l i (pos 0)) q n l ≡ l
-unfolding tab
-same-filled l q zero = refl
-same-filled l q (suc n) = ap (λ v. sets v (suc q) (tab (λ (i : ℕ). getD l i (pos 0)) (suc q) n)) (set-getD l q (pos 0)) ∙ same-filled l (suc q) n
 
 -- ---- runs of spans
 
@@ -194,7 +164,7 @@ module _ (ed : Edit) (b : Basis) (k j m : ℕ) (c lent : List ℤ) (some : 1 ≤
     where
       inside : a * w ≤ i → i < e * w + 2 → getD done i (pos 0) ≡ wanted i
       inside low high =
-          in-filled (number b k e c) (a * w) (runLength a e w) moved i low (omega (arith, run-end a e w first)) (omega (arith, run-end a e w first, length-sets lent (e * w) (tab carried (e * w) (runLength e m w)), mul-le-mul-right {m = e} {n = m} w (past-most ed b j m)))
+          in-filled (number b k e c) (a * w) (runLength a e w) moved i low (omega (arith, run-end a e w first)) (omega (arith, run-end a e w first, length-filled carried (e * w) (runLength e m w) lent, mul-le-mul-right {m = e} {n = m} w (past-most ed b j m)))
           ∙ fewer-numbers b k e m c i (omega arith) (past-most ed b j m) high
           ∙ sym (fresh-at i first low high)
 
@@ -234,15 +204,7 @@ module _ (ed : Edit) (b : Basis) (k j m : ℕ) (c lent : List ℤ) (some : 1 ≤
 
   pub worked : done ≡ filled wanted 0 (m * w + 2) lent
   worked =
-      ext-getD (pos 0) done (filled wanted 0 (m * w + 2) lent) same-length
-      (λ i h.
-      ⊎-elim
-      (λ within. ⊎-elim (some-fresh i within) (none-fresh i within) (either a e) ∙ sym (in-filled wanted 0 (m * w + 2) lent i (omega arith) (omega arith) (omega arith)))
-      (λ beyond. past-all i beyond ∙ sym (past-filled wanted 0 (m * w + 2) lent i (omega arith)))
-      (either i (m * w + 2)))
-    where
-      same-length : length done ≡ length (filled wanted 0 (m * w + 2) lent)
-      same-length =
-          length-sets moved (a * w) (tab (number b k e c) (a * w) (runLength a e w))
-          ∙ length-sets lent (e * w) (tab carried (e * w) (runLength e m w))
-          ∙ sym (length-sets lent 0 (tab wanted 0 (m * w + 2)))
+      is-filled wanted (m * w + 2) lent done room
+      (length-filled (number b k e c) (a * w) (runLength a e w) moved ∙ length-filled carried (e * w) (runLength e m w) lent)
+      (λ i within. ⊎-elim (some-fresh i within) (none-fresh i within) (either a e))
+      past-all

@@ -1,11 +1,10 @@
--- What an edit comes to (document 01): the refusals in the order 1 to 9, then 16 over the outline asked for; or the new controls, the new points and the answer, with
--- every number past the last control and past the last point as it was. For any contents of the lent points.
+-- What an edit comes to (document 01): the refusals in the order 1 to 9; or the new controls, the new points and the answer, with every number past the last control and
+-- past the last point as it was. For any contents of the lent points.
 use mathlib.Core.Bool.{not}
 use mathlib.Core.List.{List, [], _∷_, _++_}
 use Prim.Native.Nat.{ℕ, _*_, max}
 use lib.IntN.{ℤ}
 use lib.ListN.{length}
-use lib.Seq.{sets}
 use Rattle.shape.specs.declared.Shape.{Shape}
 use Rattle.shape.specs.declared.Plan.{Plan}
 use Rattle.shape.specs.declared.Refusal.{Refusal}
@@ -14,7 +13,7 @@ use Rattle.shape.specs.declared.Listed.the-variants.{Fine, Bad}
 use Rattle.curve.specs.declared.Basis.{Basis}
 use Rattle.shape.specs.Refusals.{Row, row, judge, shapeRows, controlsRow, limitsRow, pointsRow, planOf}
 use Rattle.spans.specs.Numbers.{filled}
-use Rattle.outline.specs.Outline.{points, reachRow}
+use Rattle.outline.specs.Outline.{points}
 use Rattle.asked.specs.declared.Edit.{Edit}
 use Rattle.edit.specs.declared.Change.{Change}
 use Rattle.edit.specs.declared.Edited.{Edited}
@@ -44,11 +43,10 @@ roomRows e n controls most len =
 unfoldable pub judgeRoom : Edit → ℕ → List ℤ → ℕ → ℕ → Listed
 judgeRoom e n controls most len = judge (roomRows e n controls most len) Bad Fine
 
--- Rows 4 to 9 and 16, for a sound shape with its plan p, and q the plan of the new shape.
+-- Rows 4 to 9, for a sound shape with its plan p, and q the plan of the new shape.
 abbrev pub editRows : Edit → Shape → Plan → Plan → ℕ → List ℤ → List ℤ → List Row
 editRows e s p q j controls lent =
-    askRows e (p .basis) j (s .count)
-    ++ (roomRows e (s .count) controls (max (points p) (points q)) (length lent) ++ (reachRow q (asked e j controls (countAfter e (s .count))) ∷ []))
+    askRows e (p .basis) j (s .count) ++ roomRows e (s .count) controls (max (points p) (points q)) (length lent)
 
 -- The answer, and both lent lists as the call leaves them.
 pub record Outcome : Type 0 where
@@ -67,10 +65,11 @@ abbrev pub change : Edit → Shape → Basis → ℕ → ℕ → Change
 change e s b j m = record { shape = shapeAfter e s; first = freshFirst e b j m; fresh = freshCount e b j m }
 
 abbrev pub controlsAfter : Edit → Shape → ℕ → List ℤ → List ℤ
-controlsAfter e s j controls = sets controls 0 (asked e j controls (countAfter e (s .count)))
+controlsAfter e s j controls = asked e j controls (countAfter e (s .count))
 
+-- The points, of the controls as they then stand.
 abbrev pub pointsAfter : Edit → Shape → Plan → ℕ → List ℤ → List ℤ → List ℤ
-pointsAfter e s q j controls lent = filled (pointAt e (q .basis) (q .depth) j (q .spans) (asked e j controls (countAfter e (s .count))) lent) 0 (2 * points q) lent
+pointsAfter e s q j controls lent = filled (pointAt e (q .basis) (q .depth) j (q .spans) (controlsAfter e s j controls) lent) 0 (2 * points q) lent
 
 abbrev pub accepts : Edit → Shape → Plan → ℕ → List ℤ → List ℤ → Outcome
 accepts e s q j controls lent = outcome (Done (change e s (q .basis) j (q .spans))) (controlsAfter e s j controls) (pointsAfter e s q j controls lent)
@@ -78,15 +77,10 @@ accepts e s q j controls lent = outcome (Done (change e s (q .basis) j (q .spans
 unfoldable pub editsPlan : Edit → Shape → Plan → Plan → ℕ → List ℤ → List ℤ → Outcome
 editsPlan e s p q j controls lent = judge (editRows e s p q j controls lent) (refuses controls lent) (accepts e s q j controls lent)
 
--- The same from row 7 on, and for row 16 alone.
+-- The same from row 7 on.
 unfoldable pub editsRoom : Edit → Shape → Plan → Plan → ℕ → List ℤ → List ℤ → Outcome
 editsRoom e s p q j controls lent =
-    judge (roomRows e (s .count) controls (max (points p) (points q)) (length lent) ++ (reachRow q (asked e j controls (countAfter e (s .count))) ∷ []))
-    (refuses controls lent)
-    (accepts e s q j controls lent)
-
-unfoldable pub editsLists : Edit → Shape → Plan → ℕ → List ℤ → List ℤ → Outcome
-editsLists e s q j controls lent = judge (reachRow q (asked e j controls (countAfter e (s .count))) ∷ []) (refuses controls lent) (accepts e s q j controls lent)
+    judge (roomRows e (s .count) controls (max (points p) (points q)) (length lent)) (refuses controls lent) (accepts e s q j controls lent)
 
 unfoldable pub edits : Edit → Shape → ℕ → List ℤ → List ℤ → Outcome
 edits e s j controls lent =

@@ -13,6 +13,7 @@ use Rattle.spans.specs.Numbers.{perSpan}
 use Rattle.spans.specs.Ready.{Drawable}
 use Rattle.asked.specs.declared.Edit.{Edit}
 use Rattle.asked.specs.Edits.{countAfter, offered, inRange, atTheEnd, pastFresh, asked}
+use Rattle.asked.specs.Ready.{Askable}
 use Rattle.edit.specs.Carried.{Carriable}
 use Rattle.edit.specs.Reading.{shapeAfter}
 
@@ -29,7 +30,7 @@ pub record Workable (e : Edit) (s : Shape) (q : Plan) (j : ℕ) (controls : List
   pub least : 1 ≤ s .count
   pub most : s .count ≤ mostRecords
   pub place : j ≤ mostRecords
-  pub room : 2 * countAfter e (s .count) ≤ length controls
+  pub askable : Askable e j (s .count) (length controls)
   pub drawable : Drawable (q .basis) (q .spans) (asked e j controls (countAfter e (s .count)))
   pub points-room : q .spans * perSpan (q .depth) + 2 ≤ len
   pub carriable : Carriable e (pastFresh e (q .basis) j (q .spans)) (q .spans) (perSpan (q .depth)) len

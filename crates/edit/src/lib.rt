@@ -13,11 +13,9 @@ ghost use lib.ListN.{length};
 ghost use Rattle.shape.specs.Good.{Good};
 ghost use Rattle.shape.specs.Refusals.{planOf};
 ghost use Rattle.shape.specs.Shape.{mostRecords};
-ghost use Rattle.asked.specs.Edits.{asked, countAfter};
-ghost use Rattle.edit.specs.Reading.{change, edits, editsLists, editsPlan, editsRoom, outcome, planAfter, shapeAfter};
+ghost use Rattle.edit.specs.Reading.{accepts, change, edits, editsPlan, editsRoom, outcome, planAfter, shapeAfter};
 ghost use Rattle.edit.specs.Ready.{Editable, Workable};
 use asked::asking::ask;
-use asked::asking::copy_front;
 use asked::counts::count_after;
 use asked::counts::first_fresh;
 use asked::counts::greatest;
@@ -33,7 +31,6 @@ use shape::Plan;
 use shape::Refusal;
 use shape::Shape;
 use shape::check_shape;
-use spans::reach::first_far;
 use working::work;
 
 // What an accepted edit answers: the new shape, the first span worked afresh and how many.
@@ -144,7 +141,7 @@ fn edit_room(
     }
 }
 
-// The controls asked for, in a list of their own, and the rest of the call on them.
+// The new controls and the new points, in the lent lists themselves, and the answer: nothing is refused any more.
 fn edit_lists(
     edit: Edit,
     shape: Shape,
@@ -154,48 +151,12 @@ fn edit_lists(
     points: &mut [i32],
 ) -> Edited
     requires { ⌜ Workable edit shape plan place (now controls) (length (now points)) ⌝ }
-    ensures { λ r. ⌜ outcome r (now (controls .exit)) (now (points .exit)) ≡ editsLists edit shape plan place (now (controls .entry)) (now (points .entry)) ⌝ }
-{
-    let count = count_after(edit, shape.count);
-    let mut next = [0i32; 128];
-    ask(edit, place, controls, count, &mut next);
-    edit_asked(
-        edit,
-        shape,
-        plan,
-        place,
-        &next[0..2 * count],
-        controls,
-        points,
-    )
-}
-
-// The look for row 16, and the new controls and points where it passes.
-fn edit_asked(
-    edit: Edit,
-    shape: Shape,
-    plan: Plan,
-    place: usize,
-    next: &[i32],
-    controls: &mut [i32],
-    points: &mut [i32],
-) -> Edited
-    requires { ⌜ Workable edit shape plan place (now controls) (length (now points)) ⌝ }
-    requires { ⌜ now next ≡ asked edit place (now controls) (countAfter edit (shape .count)) ⌝ }
-    ensures { λ r. ⌜ outcome r (now (controls .exit)) (now (points .exit)) ≡ editsLists edit shape plan place (now (controls .entry)) (now (points .entry)) ⌝ }
+    ensures { λ r. ⌜ outcome r (now (controls .exit)) (now (points .exit)) ≡ accepts edit shape plan place (now (controls .entry)) (now (points .entry)) ⌝ }
 {
     let basis = plan.basis;
-    let spans = plan.spans;
-    let far = first_far(next, basis, plan.depth, spans);
-    if far < plan.points() {
-        return Edited::Refused(Refusal {
-            number: 16,
-            place: far,
-        });
-    }
-    copy_front(next, controls);
-    work(edit, plan, place, next, points);
-    Edited::Done(change_of(edit, shape, basis, place, spans))
+    ask(edit, place, shape.count, controls);
+    work(edit, plan, place, controls, points);
+    Edited::Done(change_of(edit, shape, basis, place, plan.spans))
 }
 
 // The answer of an accepted edit: `spans` is the number of the new shape.

@@ -17,7 +17,7 @@ use Rattle.shape.proofs.Refusals.{verdict}
 use Rattle.shape.proofs.Seek.{seek-to}
 use Rattle.shape.proofs.Tests.{or-false}
 use Rattle.outline.specs.Outline as outline
-use Rattle.outline.proofs.Near.{number-near}
+use Rattle.outline.proofs.Within.{number-within}
 use Rattle.record_file.specs.Format.{numbers}
 use Rattle.record_file.specs.Rows.{mostBytes, recordCount, recordRows, laterRows, fileRows}
 use Rattle.record_file.proofs.Readings.{refused-when, read-when}
@@ -90,7 +90,7 @@ drawn-fits file none =
     ∙ ap (outlineText (sh .basis) (sh .depth) (q .spans)) (front points f (2 * m) (omega (arith, few))) in
     let long =
     outline-length (sh .basis) (sh .depth) (q .spans) f m (omega (arith, ok .basis-most)) (omega (arith, ok .depth, ok .depth-most)) (omega (arith, ok .spans-most, ok .records-most)) few
-    (λ i h. omega (arith, number-near sh q ok c m (length points) (lent file none) i h))
+    (λ i h. omega (arith, number-within sh q ok c m (length points) (lent file none) i h))
     (length-tab f 0 (2 * m)) in
     subst (λ t. length t ≤ mostText) (sym text) (omega (arith, long, few))
 

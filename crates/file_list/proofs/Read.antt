@@ -18,7 +18,7 @@ use Rattle.shape.specs.Refusals.{NoRow, listRows, planOf}
 use Rattle.shape.proofs.Refusals.{none-later, none-sound, sound-facts, none-fine, fine-facts}
 use Rattle.outline.specs.Outline as outline
 use Rattle.outline.specs.Outline.{accepts, draws}
-use Rattle.outline.proofs.Near.{never-far}
+use Rattle.outline.proofs.Exactly.{none-drawn}
 use Rattle.record_file.specs.Format as format
 use Rattle.record_file.specs.Format.{numbers}
 use Rattle.record_file.specs.Rows.{recordCount, recordRows, laterRows, shapeOf, fileRows}
@@ -70,4 +70,4 @@ module _ (file : List ℕ) (none : NoRow (fileRows file controls)) where
   lent = fine-facts n held (outline.points p) (length points) (none-fine n held (outline.points p) (length points) lists)
 
   pub read-drawn : draws s held points ≡ accepts p held points
-  read-drawn = never-far s held points (later .0, (later .1 .0, (later .1 .1 .0, lists)))
+  read-drawn = none-drawn s held points (later .0, (later .1 .0, (later .1 .1 .0, lists)))

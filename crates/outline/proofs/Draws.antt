@@ -1,11 +1,9 @@
 -- A drawing call's reading, taken row by row: the checks that passed drop their rows, and the first that did not is the refusal.
-use mathlib.Core.Path.{_≡_, sym, ap, _∙_, subst}
-use mathlib.Core.Bool.{cond}
-use mathlib.Core.List.{List, [], _∷_}
-use Prim.Native.Nat.{ℕ, _+_, _*_, _^_, _≤_, _<_}
+use mathlib.Core.Path.{_≡_, sym, ap, _∙_}
+use mathlib.Core.List.{List}
+use Prim.Native.Nat.{ℕ, _+_, _*_, _^_}
 use native.Mathlib.Nat.{mul-left-comm}
 use native.Mathlib.Omega.{arith}
-use borrow.Author.Tests.{lt-ltb, le-ltb}
 use lib.IntN.{ℤ}
 use lib.ListN.{length}
 use Rattle.shape.specs.declared.Shape.{Shape}
@@ -14,12 +12,12 @@ use Rattle.shape.specs.declared.Refusal.{Refusal}
 use Rattle.shape.specs.declared.Judged.the-variants.{Sound, Unsound}
 use Rattle.shape.specs.declared.Listed.the-variants.{Fine, Bad}
 use Rattle.shape.specs.Good.{Good, Lent}
-use Rattle.shape.specs.Refusals.{judge, judgeShape, judgeLists, planOf}
-use Rattle.shape.proofs.Refusals.{sound, unsound, sound-plan, bad, fine, good-records, lent-inside}
+use Rattle.shape.specs.Refusals.{judgeShape, judgeLists, planOf}
+use Rattle.shape.proofs.Refusals.{judge-first, judge-none, sound, unsound, sound-plan, bad-first, fine-none, good-records, lent-inside}
 use Rattle.shape.specs.Shape.{pointsOf}
 use Rattle.spans.specs.Numbers.{perSpan}
 use Rattle.spans.specs.Ready.{Drawable}
-use Rattle.outline.specs.Outline.{points, firstFar, reachRow, planRows, refuses, accepts, drawsPlan, draws}
+use Rattle.outline.specs.Outline.{points, planRows, refuses, accepts, drawsPlan, draws}
 
 -- all points are the spans' numbers and the last end's
 pub all-numbers : (k m : ℕ) → 2 * pointsOf k m ≡ m * perSpan k + 2
@@ -38,26 +36,16 @@ draws-sound s p e controls lent =
     sound s p e (planRows (s .count) (planOf s) controls lent) (refuses lent) (accepts (planOf s) controls lent)
     ∙ ap (λ q. drawsPlan (s .count) q controls lent) (sym (sound-plan s p e))
 
--- ---- rows 7, 8, 9, 16
+-- ---- rows 7, 8, 9
 
 module _ (n : ℕ) (p : Plan) (controls lent : List ℤ) where
   pub plan-bad : (r : Refusal) → judgeLists n controls (points p) (length lent) ≡ Bad r → drawsPlan n p controls lent ≡ refuses lent r
   unfolding drawsPlan
-  plan-bad r e = bad n controls (points p) (length lent) r e (reachRow p controls ∷ []) (refuses lent) (accepts p controls lent)
+  plan-bad r e = judge-first (planRows n p controls lent) (refuses lent) (accepts p controls lent) r (bad-first n controls (points p) (length lent) r e)
 
-  -- the lists are fine, and row 16 is left
-  last-row : judgeLists n controls (points p) (length lent) ≡ Fine → drawsPlan n p controls lent ≡ judge (reachRow p controls ∷ []) (refuses lent) (accepts p controls lent)
+  pub plan-drawn : judgeLists n controls (points p) (length lent) ≡ Fine → drawsPlan n p controls lent ≡ accepts p controls lent
   unfolding drawsPlan
-  last-row e = fine n controls (points p) (length lent) e (reachRow p controls ∷ []) (refuses lent) (accepts p controls lent)
-
-  pub plan-far : judgeLists n controls (points p) (length lent) ≡ Fine → firstFar p controls < points p
-      → drawsPlan n p controls lent ≡ refuses lent (record { number = 16; place = firstFar p controls })
-  unfolding judge
-  plan-far e far = last-row e ∙ ap (λ b. cond b (refuses lent (record { number = 16; place = firstFar p controls })) (accepts p controls lent)) (lt-ltb (firstFar p controls) (points p) far)
-
-  pub plan-drawn : judgeLists n controls (points p) (length lent) ≡ Fine → points p ≤ firstFar p controls → drawsPlan n p controls lent ≡ accepts p controls lent
-  unfolding judge
-  plan-drawn e near = last-row e ∙ ap (λ b. cond b (refuses lent (record { number = 16; place = firstFar p controls })) (accepts p controls lent)) (le-ltb (firstFar p controls) (points p) near)
+  plan-drawn e = judge-none (planRows n p controls lent) (refuses lent) (accepts p controls lent) (fine-none n controls (points p) (length lent) e)
 
 -- ---- what passed checks give: the spans can be drawn
 

@@ -1,5 +1,5 @@
 pub mod Draws
-pub mod Near
+pub mod Within
 pub mod Views
 pub mod Exactly
 pub mod Unique

@@ -1,15 +1,14 @@
 -- What a drawing call comes to (document 01): the refusals in their order, or all points of the outline in the lent list and everything past them kept.
-use mathlib.Core.List.{List, [], _∷_, _++_}
+use mathlib.Core.List.{List, _++_}
 use Prim.Native.Nat.{ℕ, _*_}
-use lib.Dec.{ltb}
 use lib.IntN.{ℤ}
 use lib.ListN.{length}
 use Rattle.shape.specs.declared.Shape.{Shape}
 use Rattle.shape.specs.declared.Plan.{Plan}
 use Rattle.shape.specs.declared.Refusal.{Refusal}
-use Rattle.shape.specs.Refusals.{Row, row, judge, seek, shapeRows, listRows, planOf}
+use Rattle.shape.specs.Refusals.{Row, judge, shapeRows, listRows, planOf}
 use Rattle.shape.specs.Shape.{pointsOf}
-use Rattle.spans.specs.Numbers.{number, filled, farOff}
+use Rattle.spans.specs.Numbers.{number, filled}
 use Rattle.outline.specs.declared.Drawn.{Drawn}
 use Rattle.outline.specs.declared.Drawn.the-variants.{Points, Refused}
 
@@ -20,17 +19,9 @@ numbers p controls = number (p .basis) (p .depth) (p .spans) controls
 abbrev pub points : Plan → ℕ
 points p = pointsOf (p .depth) (p .spans)
 
--- The first of the outline's points beyond 5,000,000, or their number.
-abbrev pub firstFar : Plan → List ℤ → ℕ
-firstFar p controls = seek (farOff (numbers p controls)) 0 (points p)
-
--- Row 16.
-abbrev pub reachRow : Plan → List ℤ → Row
-reachRow p controls = row (ltb (firstFar p controls) (points p)) 16 (firstFar p controls)
-
--- The checks of a drawing call: 1, 2, 3, then 7, 8, 9, 16 over n records.
+-- The checks of a drawing call: 7, 8, 9 over n records and a plan's points, and 1, 2, 3 before them.
 abbrev pub planRows : ℕ → Plan → List ℤ → List ℤ → List Row
-planRows n p controls lent = listRows n controls (points p) (length lent) ++ (reachRow p controls ∷ [])
+planRows n p controls lent = listRows n controls (points p) (length lent)
 
 abbrev pub drawRows : Shape → List ℤ → List ℤ → List Row
 drawRows s controls lent = shapeRows s ++ planRows (s .count) (planOf s) controls lent

@@ -11,7 +11,6 @@ use shape::Refusal;
 use shape::Shape;
 use shape::check_lists;
 use shape::check_shape;
-use spans::reach::first_far;
 use spans::run::Way;
 use spans::run::fill_spans;
 
@@ -53,7 +52,7 @@ fn draw(way: Way, shape: Shape, controls: &[i32], points: &mut [i32]) -> Drawn
     }
 }
 
-// The checks of the lists and the look for row 16, and the points where they pass.
+// The checks of the lists, rows 7 to 9, and the points where they pass.
 fn draw_plan(way: Way, shape: Shape, plan: Plan, controls: &[i32], points: &mut [i32]) -> Drawn
     requires { ⌜ Good shape plan ⌝ }
     ensures { λ r. ⌜ outcome r (now (points .exit)) ≡ drawsPlan (shape .count) plan (now (controls .entry)) (now (points .entry)) ⌝ }
@@ -63,16 +62,7 @@ fn draw_plan(way: Way, shape: Shape, plan: Plan, controls: &[i32], points: &mut 
         return Drawn::Refused(refusal);
     }
     let basis = plan.basis;
-    let depth = plan.depth;
-    let spans = plan.spans;
-    let far = first_far(controls, basis, depth, spans);
-    if far < count {
-        return Drawn::Refused(Refusal {
-            number: 16,
-            place: far,
-        });
-    }
-    fill_spans(way, points, controls, basis, depth, 0, spans);
+    fill_spans(way, points, controls, basis, plan.depth, 0, plan.spans);
     Drawn::Points(count)
 }
 

@@ -7,7 +7,7 @@ use Rattle.curve.specs.Span.{firstRecord, coordinate, recordsFrom, sixfoldContr
 use Rattle.curve.specs.Cases.{alike}
 use Rattle.shape.specs.Shape.{basisOf, recordsOf, spansOf, allowed, pointsOf}
 use Rattle.shape.specs.Refusals.{judge, seek, planOf, outside}
-use Rattle.spans.specs.Numbers.{number, farOff}
+use Rattle.spans.specs.Numbers.{number}
 use Rattle.doubles.specs.Exact.{dyadic}
 use Rattle.doubles.specs.Number.{within, measure}
 use Rattle.edit.specs.Cases.{flat}
@@ -16,5 +16,5 @@ use Rattle.edit.specs.Reading.{edits}
 use Rattle.promises.specs.Cases.{cases, allHold}
 
 pub cases-hold : T (allHold cases)
-unfolding allHold alike tab point sixfoldControls weighted weights dot nearest floor firstRecord coordinate recordsFrom basisOf recordsOf spansOf allowed pointsOf judge seek planOf outside number farOff dyadic within measure asked freshCount freshFirst isFresh pointAt edits flat
+unfolding allHold alike tab point sixfoldControls weighted weights dot nearest floor firstRecord coordinate recordsFrom basisOf recordsOf spansOf allowed pointsOf judge seek planOf outside number dyadic within measure asked freshCount freshFirst isFresh pointAt edits flat
 cases-hold = tt

@@ -41,7 +41,7 @@ named-exactly e b j m s o h = (touched-named e b j m s o h, named-touched e b j 
 
 -- ---- any contents of the lent points
 
--- Number i of the m spans that an edit leaves: `controls` are those asked for, and `lent` is whatever stood in the lent points.
+-- Number i of the m spans that an edit leaves: `controls` are those that it leaves, and `lent` is whatever stood in the lent points.
 module _ (e : Edit) (b : Basis) (k j m : ℕ) (controls lent : List ℤ) (some : 1 ≤ m) (room : m * perSpan k + 2 ≤ length lent) (i : ℕ) where
   -- from the first named span's start to the last one's end, both included, it is the published curve's
   pub fresh-points : firstFresh e b j < pastFresh e b j m → firstFresh e b j * perSpan k ≤ i → i < pastFresh e b j m * perSpan k + 2
@@ -58,15 +58,15 @@ module _ (e : Edit) (b : Basis) (k j m : ℕ) (controls lent : List ℤ) (some :
 
 -- ---- why the spans that are not named need no work
 
--- `old` are the controls of m spans, and `new` those asked for.
-module _ (e : Edit) (b : Basis) (j m : ℕ) (old : List ℤ) (offer : offered e b ≡ true) (some : 1 ≤ m) where
+-- `old` is the list with the controls of m spans, and `new` what the edit makes of it, where it has room.
+module _ (e : Edit) (b : Basis) (j m : ℕ) (old : List ℤ) (offer : offered e b ≡ true) (some : 1 ≤ m) (room : 2 * countAfter e (recordsOf b m) ≤ length old) where
   abbrev new : List ℤ
   new = asked e j old (countAfter e (recordsOf b m))
 
   -- an earlier span has the four records that it had
   pub kept-records : (s axis : ℕ) → s < spansAfter e m → axis < 2 → s < firstFresh e b j → records b s (coordinate new axis) ≡ records b s (coordinate old axis)
-  kept-records = records-stay e b j m old offer some
+  kept-records = records-stay e b j m old offer some room
 
   -- a later one has those of the span that it is carried from: itself, the one before or the one after
   pub carried-records : (s axis : ℕ) → s < spansAfter e m → axis < 2 → pastFresh e b j (spansAfter e m) ≤ s → records b s (coordinate new axis) ≡ records b (carriedFrom e 1 s) (coordinate old axis)
-  carried-records = records-carried e b j m old offer some
+  carried-records = records-carried e b j m old offer some room

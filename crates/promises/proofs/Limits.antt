@@ -1,11 +1,11 @@
 -- Boxes and limits, the view, the preview and the drawing, in document 01's words.
 use mathlib.Core.Path.{_≡_}
-use mathlib.Core.List.{List, _++_}
+use mathlib.Core.List.{List}
 use mathlib.Core.Bool.{not}
 use Prim.Native.Nat.{ℕ, _+_, _*_, _^_, _≤_, _<_}
 use lib.Dec.{T}
 use lib.Ieee.{Float, nan}
-use lib.IntN.{ℤ, natAbs}
+use lib.IntN.{ℤ, pos, natAbs}
 use lib.ListN.{getD, length}
 use lib.Signed.{_≤ℤ_}
 use Rattle.curve.specs.declared.Four.{Four}
@@ -18,12 +18,12 @@ use Rattle.shape.specs.declared.Shape.{Shape}
 use Rattle.shape.specs.declared.Plan.{Plan}
 use Rattle.shape.specs.declared.Judged.the-variants.{Sound}
 use Rattle.shape.specs.Shape.{pointsOf}
-use Rattle.shape.specs.Refusals.{NoRow, shapeRows, listRows, judgeShape, planOf}
-use Rattle.outline.specs.Outline.{points, accepts, draws}
-use Rattle.outline.proofs.Near as drawing-near
-use Rattle.asked.specs.declared.Edit.{Edit}
-use Rattle.edit.specs.Reading as edit
-use Rattle.edit.proofs.Near as editing-near
+use Rattle.shape.specs.Refusals.{judgeShape, planOf}
+use Rattle.outline.specs.declared.Drawn.the-variants.{Points}
+use Rattle.outline.specs.Outline.{outcome, points, draws}
+use Rattle.outline.proofs.Within as drawing-within
+use Rattle.sequences.specs.Played.{Call, played}
+use Rattle.sequences.proofs.Again as sequences
 use Rattle.outline.specs.View.{partOf, viewed}
 use Rattle.outline.proofs.Views as outline
 use Rattle.doubles.specs.Exact.{Value, minusZero}
@@ -46,13 +46,15 @@ b-spline-in-box = curve.bSpline-box
 pub within-reach : (b : Basis) (k i : ℕ) (q : Four) → i ≤ 2 ^ k → Inside limit q → natAbs (point b k q i) ≤ reach
 within-reach = curve.point-size
 
--- so row 16 is never given: where no earlier row holds, the outline is drawn, and the edit is done
-pub always-drawn : (s : Shape) (controls lent : List ℤ) → NoRow (shapeRows s ++ listRows (s .count) controls (points (planOf s)) (length lent)) → draws s controls lent ≡ accepts (planOf s) controls lent
-always-drawn = drawing-near.never-far
+-- so every number of the outline does, as it stands in the lent list after an accepted drawing
+pub drawn-within : (s : Shape) (controls lent : List ℤ) (n : ℕ) (held : List ℤ) → draws s controls lent ≡ outcome (Points n) held → (q : ℕ) → q < 2 * n → natAbs (getD held q (pos 0)) ≤ reach
+drawn-within = drawing-within.drawn-within
 
-pub always-done : (e : Edit) (s : Shape) (j : ℕ) (controls lent : List ℤ) → NoRow (editing-near.earlyRows e s j controls lent)
-    → edit.edits e s j controls lent ≡ edit.accepts e s (planOf (edit.shapeAfter e s)) j controls lent
-always-done = editing-near.never-far
+-- and after any sequence of edits that follow it, refused ones among them
+pub played-within : (s : Shape) (controls lent : List ℤ) (n : ℕ) (held : List ℤ) (calls : List Call) → draws s controls lent ≡ outcome (Points n) held
+    → (q : ℕ) → q < 2 * points (planOf (played (record { shape = s; controls = controls; held = held }) calls .shape))
+    → natAbs (getD (played (record { shape = s; controls = controls; held = held }) calls .held) q (pos 0)) ≤ reach
+played-within = sequences.drawn-played-within
 
 -- no good view is empty: it is its span's 2^k + 1 points, two numbers each
 pub good-view : (s : Shape) (p : Plan) (t : ℕ) (l : List ℤ) → judgeShape s ≡ Sound p → t < p .spans → 2 * pointsOf (p .depth) (p .spans) ≤ length l

@@ -27,7 +27,7 @@ use Rattle.spans.specs.Numbers.{number}
 use Rattle.outline.specs.declared.Drawn.the-variants.{Points}
 use Rattle.outline.specs.Outline.{Outcome, outcome, numbers, points, drawn, draws}
 use Rattle.outline.proofs.Exactly.{points-none, none-drawn}
-use Rattle.edit.proofs.Worked.{in-filled}
+use Rattle.spans.proofs.Filled.{in-filled}
 use Rattle.promises.specs.Points.{publishedNumber}
 
 denominator-pos : (b : Basis) → 0 < denominator b

@@ -1,5 +1,5 @@
--- Drawing again: where the drawing call would be done and change nothing, so it would be after every list of calls. The shape stays sound, the records inside the limits,
--- the lists long enough, and no point is beyond.
+-- Drawing again: where the drawing call would be done and change nothing, so it would be after every list of calls. The shape stays sound, the records inside the limits
+-- and the lists long enough.
 use mathlib.Core.Path.{_≡_, sym, ap, _∙_, subst}
 use mathlib.Core.Bool.{false}
 use mathlib.Core.Logic.{⊎-elim}
@@ -7,12 +7,10 @@ use mathlib.Core.List.{List, [], _∷_, _++_}
 use Prim.Native.Nat.{ℕ, _+_, _*_, _≤_, _<_}
 use native.Mathlib.Omega.{arith}
 use borrow.Author.Tests.{le-leb, le-ltb, eq-eqb}
-use lib.Dec.{ltb}
 use lib.IntN.{ℤ, pos, natAbs}
 use lib.ListN.{getD, length}
-use lib.Seq.{sets, length-sets}
-use Rattle.curve.specs.Limits.{limit}
-use Rattle.curve.specs.Numbers.{tab}
+use lib.Seq.{sets}
+use Rattle.curve.specs.Limits.{limit, reach}
 use Rattle.curve.specs.Span.{coordinate}
 use Rattle.curve.specs.Ways.{deepest}
 use Rattle.curve.proofs.Tab.{tab-same}
@@ -21,24 +19,23 @@ use Rattle.shape.specs.declared.Plan.{Plan}
 use Rattle.shape.specs.declared.Refusal.{Refusal}
 use Rattle.shape.specs.Good.{Good, Lent}
 use Rattle.shape.specs.Shape.{basisOf, recordsOf, spansOf, allowed, mostRecords}
-use Rattle.shape.specs.Refusals.{First, NoRow, seek, outside, firstOutside, shapeRows, listRows, planOf}
+use Rattle.shape.specs.Refusals.{First, NoRow, outside, firstOutside, shapeRows, listRows, planOf}
 use Rattle.shape.proofs.Refusals.{verdict}
 use Rattle.shape.proofs.Seek.{seek-none}
 use Rattle.shape.proofs.Spans.{spans-records}
-use Rattle.spans.specs.Numbers.{farOff}
+use Rattle.spans.proofs.Filled.{length-filled, same-filled}
 use Rattle.outline.specs.declared.Drawn.the-variants.{Points}
 use Rattle.outline.specs.Outline as outline
-use Rattle.outline.specs.Outline.{numbers, points, firstFar, reachRow, drawn, drawRows, draws}
+use Rattle.outline.specs.Outline.{numbers, points, drawn, drawRows, draws}
 use Rattle.outline.proofs.Exactly.{points-none, none-drawn}
+use Rattle.outline.proofs.Within.{drawn-within}
 use Rattle.asked.specs.declared.Edit.{Edit}
-use Rattle.asked.specs.Edits.{countAfter, asked, pointAt}
+use Rattle.asked.specs.Edits.{countAfter, pointAt}
 use Rattle.edit.specs.Reading.{shapeAfter, accepts, edits}
-use Rattle.edit.proofs.Worked.{same-filled}
-use Rattle.edit.proofs.Rows.{length-asked}
 use Rattle.edit.proofs.Exactly.{callRows, first-refused, none-done}
 use Rattle.sequences.specs.Played.{State, Call, stateThen, called, played, Outlined, Redraws}
-use Rattle.sequences.proofs.Redrawn.{good-then, room-then, controls-room, lent-then, reach-then}
-use Rattle.sequences.proofs.Played.{same-records, front-record, done-outlined, drawn-outlined}
+use Rattle.sequences.proofs.Redrawn.{good-then, room-then, lent-then}
+use Rattle.sequences.proofs.Played.{done-outlined, drawn-outlined}
 
 -- ---- no row holds of a sound shape, nor of lists that have what is needed
 
@@ -84,9 +81,6 @@ module _ (e : Edit) (s : Shape) (j : ℕ) (controls lent : List ℤ) (none : NoR
   abbrev n : ℕ
   n = countAfter e (s .count)
 
-  abbrev new : List ℤ
-  new = asked e j controls n
-
   abbrev p : Plan
   p = planOf (shapeAfter e s)
 
@@ -94,31 +88,18 @@ module _ (e : Edit) (s : Shape) (j : ℕ) (controls lent : List ℤ) (none : NoR
   then = stateThen s (accepts e s p j controls lent)
 
   same-length : length (then .held) ≡ length lent
-  same-length = length-sets lent 0 (tab (pointAt e (p .basis) (p .depth) j (p .spans) new lent) 0 (2 * points p))
-
-  front : (r axis : ℕ) → r < n → axis < 2 → coordinate (then .controls) axis r ≡ coordinate new axis r
-  front r axis h a = front-record controls new n r axis (length-asked e j controls n) (controls-room e s j controls lent none) h a
+  same-length = length-filled (pointAt e (p .basis) (p .depth) j (p .spans) (then .controls) lent) 0 (2 * points p) lent
 
   still-lent : Lent n (then .controls) (points p) (length (then .held))
   still-lent =
-      let was = lent-then e s j controls lent none in
-      record {
-        room = omega (arith, length-sets controls 0 new, controls-room e s j controls lent none);
-        x = λ r h. subst (λ z. natAbs z ≤ limit) (sym (front r 0 h (omega arith))) (was .x r h);
-        y = λ r h. subst (λ z. natAbs z ≤ limit) (sym (front r 1 h (omega arith))) (was .y r h);
-        points-room = omega (arith, same-length, room-then e s j controls lent none);
-      }
-
-  still-near : ltb (firstFar p (then .controls)) (points p) ≡ false
-  still-near =
-      let same : numbers p (then .controls) ≡ numbers p new = λ i q. same-records (shapeAfter e s) p (good-then e s j controls lent none) (then .controls) new front q i in
-      ap (λ f. ltb (seek (farOff f) 0 (points p)) (points p)) same ∙ reach-then e s j controls lent none
+      let new = lent-then e s j controls lent none in
+      record { room = new .room; x = new .x; y = new .y; points-room = omega (arith, same-length, room-then e s j controls lent none) }
 
   none-then : NoRow (drawRows (then .shape) (then .controls) (then .held))
   none-then =
       let sound = good-none (shapeAfter e s) p (good-then e s j controls lent none) in
       let lists = lent-none n (then .controls) (points p) (length (then .held)) still-lent in
-      (sound .0, (sound .1 .0, (sound .1 .1 .0, (lists .0, (lists .1 .0, (lists .1 .1 .0, (still-near, tt)))))))
+      (sound .0, (sound .1 .0, (sound .1 .1 .0, lists)))
 
 edit-redraws : (e : Edit) (s : Shape) (j : ℕ) (controls lent : List ℤ) → Redraws (record { shape = s; controls = controls; held = lent }) → Redraws (stateThen s (edits e s j controls lent))
 edit-redraws e s j controls lent again =
@@ -147,10 +128,18 @@ drawn-redraws s controls lent n held answered =
     let p = planOf s in
     let none = points-none s controls lent n held answered in
     let is : drawn p controls lent ≡ held = ap (λ (o : outline.Outcome). o .held) (sym (none-drawn s controls lent none) ∙ answered) in
-    let long : length lent ≡ length held = sym (length-sets lent 0 (tab (numbers p controls) 0 (2 * points p))) ∙ ap length is in
+    let long : length lent ≡ length held = sym (length-filled (numbers p controls) 0 (2 * points p) lent) ∙ ap length is in
     outlined-redraws (record { shape = s; controls = controls; held = held }) (drawn-outlined s controls lent n held answered)
-    (subst (λ (len : ℕ). NoRow (shapeRows s ++ (listRows (s .count) controls (points p) len ++ (reachRow p controls ∷ [])))) long none)
+    (subst (λ (len : ℕ). NoRow (shapeRows s ++ listRows (s .count) controls (points p) len)) long none)
 
 -- nor does it after any calls more
 pub drawn-played-redraws : (s : Shape) (controls lent : List ℤ) (n : ℕ) (held : List ℤ) (calls : List Call) → draws s controls lent ≡ outline.outcome (Points n) held → Redraws (played (record { shape = s; controls = controls; held = held }) calls)
 drawn-played-redraws s controls lent n held calls answered = played-redraws (record { shape = s; controls = controls; held = held }) calls (drawn-redraws s controls lent n held answered)
+
+-- and every number of the outline is then within 5,000,000 either way
+pub drawn-played-within : (s : Shape) (controls lent : List ℤ) (n : ℕ) (held : List ℤ) (calls : List Call) → draws s controls lent ≡ outline.outcome (Points n) held
+    → (q : ℕ) → q < 2 * points (planOf (played (record { shape = s; controls = controls; held = held }) calls .shape))
+    → natAbs (getD (played (record { shape = s; controls = controls; held = held }) calls .held) q (pos 0)) ≤ reach
+drawn-played-within s controls lent n held calls answered q h =
+    let t = played (record { shape = s; controls = controls; held = held }) calls in
+    drawn-within (t .shape) (t .controls) (t .held) (points (planOf (t .shape))) (t .held) (drawn-played-redraws s controls lent n held calls answered) q h

@@ -1,15 +1,15 @@
 -- Why the spans that an edit does not name need no work: such a span has the four records that its old span had, so each of its numbers is a number of the old outline,
 -- in its place or one span on or back.
 use mathlib.Core.Path.{_≡_, refl, sym, ap, _∙_}
-use mathlib.Core.Bool.{true, false, cond}
+use mathlib.Core.Bool.{true, false}
 use mathlib.Core.Logic.{⊎-elim}
 use mathlib.Core.List.{List}
 use Prim.Native.Nat.{ℕ, suc, _+_, _*_, _-_, _/_, _%_, _^_, min, _≤_, _<_}
-use native.Mathlib.Nat.{add-zero, zero-add, suc-mul, add-div-right, div-div-eq-div-mul, div-lt-iff-lt-mul, le-div-iff-mul-le, mul-le-mul-right, min-le-left, min-le-right}
+use native.Mathlib.Nat.{add-zero, suc-mul, add-div-right, div-div-eq-div-mul, div-lt-iff-lt-mul, le-div-iff-mul-le, mul-le-mul-right, min-le-left, min-le-right}
 use native.Mathlib.Numerals.{add-one}
 use native.Mathlib.Omega.{arith}
-use borrow.Author.Tests.{leb-true, lt-ltb, le-ltb, le-leb, ne-eqb}
-use lib.Dec.{eqb, lit<}
+use borrow.Author.Tests.{leb-true, lt-ltb, le-leb}
+use lib.Dec.{lit<}
 use lib.IntN.{ℤ, pos}
 use lib.ListN.{getD, length}
 use lib.Pow.{pow-pos}
@@ -17,55 +17,39 @@ use Rattle.curve.specs.declared.Basis.{Basis}
 use Rattle.curve.specs.declared.Basis.the-variants.{Bezier, BSpline, Cardinal, Hermite}
 use Rattle.curve.specs.Numbers.{four}
 use Rattle.curve.specs.Span.{firstRecord, coordinate, recordsFrom, records, point}
-use Rattle.curve.proofs.Tab.{getD-tab}
 use Rattle.shape.specs.Shape.{recordsOf}
 use Rattle.shape.proofs.Tests.{passes, either, true-is-not-false}
 use Rattle.shape.proofs.Spans.{last-record}
 use Rattle.spans.specs.Numbers.{number, perSpan}
+use Rattle.spans.proofs.Filled.{in-filled}
 use Rattle.spans.proofs.Numbers.{located}
 use Rattle.asked.specs.declared.Edit.{Edit}
 use Rattle.asked.specs.declared.Edit.the-variants.{Move, Insert, Remove}
-use Rattle.asked.specs.Edits.{countAfter, spansAfter, offered, inRange, choose, controlAt, asked, firstFresh, pastFresh, carriedFrom, isFresh, pointAt}
+use Rattle.asked.specs.Edits.{countAfter, spansAfter, offered, inRange, controlAt, asked, firstFresh, pastFresh, carriedFrom, isFresh, pointAt}
+use Rattle.asked.proofs.Controls.{Beyond, control-before, control-beyond}
 use Rattle.edit.proofs.Worked.{fewer-numbers, fresh-facts, fresh-at, stays-at, carried-at}
 use Rattle.edit.proofs.Rows.{records-then}
 
--- ---- the records of the new controls that were there before
+-- ---- the records of the new controls, by what each of their numbers is
 
--- Record r is past the edit's place.
-abbrev Beyond : Edit → ℕ → ℕ → Type 0
-Beyond (Move x y) j r = j < r
-Beyond (Insert x y) j r = j < r
-Beyond Remove j r = j ≤ r
+module _ (e : Edit) (j : ℕ) (old : List ℤ) (r axis : ℕ) (a : axis < 2) where
+  record-before : r < j → controlAt e j old (2 * r + axis) ≡ coordinate old axis r
+  unfolding coordinate
+  record-before h = control-before j old (2 * r + axis) e (omega arith)
 
-control-before : (e : Edit) (j : ℕ) (old : List ℤ) (r axis : ℕ) → axis < 2 → r < j → controlAt e j old (2 * r + axis) ≡ coordinate old axis r
+  coordinate-asked : (n : ℕ) → 2 * n ≤ length old → r < n → coordinate (asked e j old n) axis r ≡ controlAt e j old (2 * r + axis)
+  unfolding asked coordinate
+  coordinate-asked n fits h = in-filled (controlAt e j old) 0 (2 * n) old (2 * r + axis) (omega arith) (omega arith) (omega arith)
+
+record-beyond : (e : Edit) (j : ℕ) (old : List ℤ) (r axis : ℕ) → axis < 2 → Beyond e j r → controlAt e j old (2 * r + axis) ≡ coordinate old axis (carriedFrom e 1 r)
 unfolding coordinate
-control-before (Move x y) j old r axis a h =
-    ap (λ t. cond t (choose ((2 * r + axis) % 2) x y) (getD old (2 * r + axis) (pos 0))) (ne-eqb ((2 * r + axis) / 2) j (λ g. omega (arith, g)))
-control-before (Insert x y) j old r axis a h =
-    let q = 2 * r + axis in
-    ap (λ t. cond t (getD old q (pos 0)) (cond (eqb (q / 2) j) (choose (q % 2) x y) (getD old (q - 2) (pos 0)))) (lt-ltb (q / 2) j (omega arith))
-control-before Remove j old r axis a h =
-    let q = 2 * r + axis in
-    ap (λ t. cond t (getD old q (pos 0)) (getD old (q + 2) (pos 0))) (lt-ltb (q / 2) j (omega arith))
-
-control-beyond : (e : Edit) (j : ℕ) (old : List ℤ) (r axis : ℕ) → axis < 2 → Beyond e j r → controlAt e j old (2 * r + axis) ≡ coordinate old axis (carriedFrom e 1 r)
-unfolding coordinate
-control-beyond (Move x y) j old r axis a h =
-    ap (λ t. cond t (choose ((2 * r + axis) % 2) x y) (getD old (2 * r + axis) (pos 0))) (ne-eqb ((2 * r + axis) / 2) j (λ g. omega (arith, g)))
-control-beyond (Insert x y) j old r axis a h =
-    let q = 2 * r + axis in
-    let back : q - 2 ≡ 2 * (r - 1) + axis = omega arith in
-    ap (λ t. cond t (getD old q (pos 0)) (cond (eqb (q / 2) j) (choose (q % 2) x y) (getD old (q - 2) (pos 0)))) (le-ltb (q / 2) j (omega arith))
-    ∙ ap (λ t. cond t (choose (q % 2) x y) (getD old (q - 2) (pos 0))) (ne-eqb (q / 2) j (λ g. omega (arith, g)))
-    ∙ ap (λ (i : ℕ). getD old i (pos 0)) back
-control-beyond Remove j old r axis a h =
-    let q = 2 * r + axis in
-    let on : q + 2 ≡ 2 * (r + 1) + axis = omega arith in
-    ap (λ t. cond t (getD old q (pos 0)) (getD old (q + 2) (pos 0))) (le-ltb (q / 2) j (omega arith)) ∙ ap (λ (i : ℕ). getD old i (pos 0)) on
-
-coordinate-asked : (e : Edit) (j : ℕ) (old : List ℤ) (n r axis : ℕ) → axis < 2 → r < n → coordinate (asked e j old n) axis r ≡ controlAt e j old (2 * r + axis)
-unfolding asked coordinate
-coordinate-asked e j old n r axis a h = getD-tab (controlAt e j old) 0 (2 * n) (2 * r + axis) (omega arith) (pos 0) ∙ ap (controlAt e j old) (zero-add (2 * r + axis))
+record-beyond (Move x y) j old r axis a h = control-beyond j old (2 * r + axis) (Move x y) (omega arith)
+record-beyond (Insert x y) j old r axis a h =
+    let back : 2 * r + axis - 2 ≡ 2 * (r - 1) + axis = omega arith in
+    control-beyond j old (2 * r + axis) (Insert x y) (omega arith) ∙ ap (λ (i : ℕ). getD old i (pos 0)) back
+record-beyond Remove j old r axis a h =
+    let on : 2 * r + axis + 2 ≡ 2 * (r + 1) + axis = omega arith in
+    control-beyond j old (2 * r + axis) Remove (omega arith) ∙ ap (λ (i : ℕ). getD old i (pos 0)) on
 
 -- four records that are one by one the same
 pub four-same : (r t : ℕ) (f g : ℕ → ℤ) → ((i : ℕ) → i < 4 → f (r + i) ≡ g (t + i)) → recordsFrom r f ≡ recordsFrom t g
@@ -121,8 +105,8 @@ span-from Remove BSpline j m s i o h p = omega arith
 span-from Remove Cardinal j m s i o h p = omega arith
 span-from Remove Hermite j m s i o h p = absurd (true-is-not-false o refl)
 
-module _ (e : Edit) (b : Basis) (j m : ℕ) (old : List ℤ) (o : offered e b ≡ true) (some : 1 ≤ m) where
-  -- the controls asked for
+module _ (e : Edit) (b : Basis) (j m : ℕ) (old : List ℤ) (o : offered e b ≡ true) (some : 1 ≤ m) (fits : 2 * countAfter e (recordsOf b m) ≤ length old) where
+  -- the controls as the edit leaves them
   abbrev new : List ℤ
   new = asked e j old (countAfter e (recordsOf b m))
 
@@ -133,15 +117,15 @@ module _ (e : Edit) (b : Basis) (j m : ℕ) (old : List ℤ) (o : offered e b �
   pub records-stay : (s axis : ℕ) → s < spansAfter e m → axis < 2 → s < firstFresh e b j → records b s (coordinate new axis) ≡ records b s (coordinate old axis)
   records-stay s axis h a first =
       four-same (firstRecord b s) (firstRecord b s) (coordinate new axis) (coordinate old axis)
-      (λ i few. coordinate-asked e j old (countAfter e (recordsOf b m)) (firstRecord b s + i) axis a (has-records s i h few) ∙ control-before e j old (firstRecord b s + i) axis a (omega (arith, span-before e b j s o first)))
+      (λ i few. coordinate-asked e j old (firstRecord b s + i) axis a (countAfter e (recordsOf b m)) fits (has-records s i h few) ∙ record-before e j old (firstRecord b s + i) axis a (omega (arith, span-before e b j s o first)))
 
   -- a later one has those of the span that it is carried from: itself, the one before or the one after
   pub records-carried : (s axis : ℕ) → s < spansAfter e m → axis < 2 → pastFresh e b j (spansAfter e m) ≤ s → records b s (coordinate new axis) ≡ records b (carriedFrom e 1 s) (coordinate old axis)
   records-carried s axis h a past =
       four-same (firstRecord b s) (firstRecord b (carriedFrom e 1 s)) (coordinate new axis) (coordinate old axis)
       (λ i few.
-      coordinate-asked e j old (countAfter e (recordsOf b m)) (firstRecord b s + i) axis a (has-records s i h few)
-      ∙ control-beyond e j old (firstRecord b s + i) axis a (span-beyond e b j (spansAfter e m) s i o h past)
+      coordinate-asked e j old (firstRecord b s + i) axis a (countAfter e (recordsOf b m)) fits (has-records s i h few)
+      ∙ record-beyond e j old (firstRecord b s + i) axis a (span-beyond e b j (spansAfter e m) s i o h past)
       ∙ ap (coordinate old axis) (span-from e b j (spansAfter e m) s i o h past))
 
 -- ---- the numbers
@@ -222,7 +206,7 @@ stays-same Remove b k m c q some left h g = fewer-numbers b k (m - 1) m c q left
 
 -- Number q of the new outline: of an earlier span, fresh, or of a later span. `old` is the list of the old controls.
 module _ (e : Edit) (b : Basis) (k j m : ℕ) (old : List ℤ) (o : offered e b ≡ true) (range : inRange e j (recordsOf b m) ≡ true) (some : 1 ≤ m) (left : 1 ≤ spansAfter e m)
-    (q : ℕ) (h : q < spansAfter e m * perSpan k + 2) where
+    (fits : 2 * countAfter e (recordsOf b m) ≤ length old) (q : ℕ) (h : q < spansAfter e m * perSpan k + 2) where
   abbrev w : ℕ
   w = perSpan k
 
@@ -239,7 +223,7 @@ module _ (e : Edit) (b : Basis) (k j m : ℕ) (old : List ℤ) (o : offered e b 
   s = min (q / w) (m' - 1)
 
   abbrev now : List ℤ
-  now = new e b j m old o some
+  now = new e b j m old o some fits
 
   wide : 0 < w
   wide = omega (arith, pow-pos k)
@@ -263,7 +247,7 @@ module _ (e : Edit) (b : Basis) (k j m : ℕ) (old : List ℤ) (o : offered e b 
   number-stays first =
       let within = stays-within e b k j m q o range h first in
       let i = q / 2 - s * 2 ^ k in
-      (within, same-number b k m' m' now old q q s s i span-is step span-is step refl (records-stay e b j m old o some s (q % 2) exists two first) ∙ stays-same e b k m old q some left h within)
+      (within, same-number b k m' m' now old q q s s i span-is step span-is step refl (records-stay e b j m old o some fits s (q % 2) exists two first) ∙ stays-same e b k m old q some left h within)
 
   is-fresh : a < z → a * w ≤ q → q < z * w + 2 → isFresh e b k j m' q ≡ true
   unfolding isFresh
@@ -289,7 +273,7 @@ module _ (e : Edit) (b : Basis) (k j m : ℕ) (old : List ℤ) (o : offered e b 
       let past = later stale from in
       let i = q / 2 - s * 2 ^ k in
       let r = source e b k j m q s i some left h span-is step past in
-      (r .within, same-number b k m' m now old q (carriedFrom e w q) s (carriedFrom e 1 s) i span-is step (r .span) (r .at) (r .axis) (records-carried e b j m old o some s (q % 2) exists two past))
+      (r .within, same-number b k m' m now old q (carriedFrom e w q) s (carriedFrom e 1 s) i span-is step (r .span) (r .at) (r .axis) (records-carried e b j m old o some fits s (q % 2) exists two past))
 
   -- So where the lent points are the old outline, what the edit leaves at q is the new outline's number.
   pub point-drawn : (lent : List ℤ) → m' * w + 2 ≤ length lent → ((i : ℕ) → i < m * w + 2 → getD lent i (pos 0) ≡ number b k m old i) → pointAt e b k j m' now lent q ≡ number b k m' now q

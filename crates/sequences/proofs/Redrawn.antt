@@ -1,10 +1,9 @@
 -- An edit that is done leaves the outline of the controls that it leaves, where the lent points were the outline of the old ones.
 use mathlib.Core.Path.{_≡_, sym, ap, subst}
-use mathlib.Core.Bool.{true, false}
+use mathlib.Core.Bool.{true}
 use mathlib.Core.List.{List}
 use Prim.Native.Nat.{ℕ, _+_, _*_, _≤_, _<_}
 use native.Mathlib.Omega.{arith}
-use lib.Dec.{ltb}
 use lib.IntN.{ℤ, pos}
 use lib.ListN.{getD, length}
 use lib.Seq.{sets}
@@ -15,14 +14,14 @@ use Rattle.shape.specs.Good.{Good, Lent}
 use Rattle.shape.specs.Shape.{recordsOf}
 use Rattle.shape.specs.Refusals.{NoRow, planOf}
 use Rattle.spans.specs.Numbers.{perSpan}
-use Rattle.outline.specs.Outline.{numbers, points, firstFar, drawn}
+use Rattle.outline.specs.Outline.{numbers, points, drawn}
 use Rattle.outline.proofs.Draws.{all-numbers}
 use Rattle.asked.specs.declared.Edit.{Edit}
 use Rattle.asked.specs.Edits.{countAfter, inRange, asked, pointAt}
 use Rattle.edit.specs.Reading.{shapeAfter, planAfter, pointsAfter}
 use Rattle.edit.specs.Ready.{Editable, Workable}
-use Rattle.edit.proofs.Rows.{good-after, workable, new-lent}
-use Rattle.edit.proofs.Near.{earlyRows, may-edit, same-plan, room-fine}
+use Rattle.edit.proofs.Rows.{good-after, new-room, new-lent, workable}
+use Rattle.edit.proofs.Passed.{may-edit, same-plan, room-fine}
 use Rattle.edit.proofs.Exactly.{callRows}
 use Rattle.sequences.proofs.Kept.{point-drawn}
 
@@ -34,16 +33,17 @@ module _ (e : Edit) (s : Shape) (p : Plan) (j : ℕ) (ok : Editable e s p j) (co
       (i : ℕ) → i < planAfter e p .spans * perSpan (p .depth) + 2
       → pointAt e (p .basis) (p .depth) j (planAfter e p .spans) (asked e j controls (countAfter e n)) lent i ≡ numbers (planAfter e p) (asked e j controls (countAfter e n)) i
 
-  pub plan-draws : 2 * points (planAfter e p) ≤ length lent → ((i : ℕ) → i < 2 * points p → getD lent i (pos 0) ≡ numbers p controls i)
+  pub plan-draws : 2 * countAfter e (s .count) ≤ length controls → 2 * points (planAfter e p) ≤ length lent → ((i : ℕ) → i < 2 * points p → getD lent i (pos 0) ≡ numbers p controls i)
       → pointsAfter e s (planAfter e p) j controls lent ≡ drawn (planAfter e p) (asked e j controls (countAfter e (s .count))) lent
-  plan-draws room held =
+  plan-draws fits room held =
       let q = planAfter e p in
       let new = asked e j controls (countAfter e (s .count)) in
       ap (sets lent 0) (tab-same (pointAt e (q .basis) (q .depth) j (q .spans) new lent) (numbers q new) 0 0 (2 * points q) (λ i h. at (0 + i) (omega (arith, all-numbers (q .depth) (q .spans)))))
     where
       by-records : Drawn (recordsOf (p .basis) (p .spans))
       by-records i h =
-          point-drawn e (p .basis) (p .depth) j (p .spans) controls (ok .offered) (subst (λ (n : ℕ). inRange e j n ≡ true) (sym (ok .good .records)) (ok .inRange)) (ok .good .spans-least) (good-after e s p j ok .spans-least) i h lent
+          point-drawn e (p .basis) (p .depth) j (p .spans) controls (ok .offered) (subst (λ (n : ℕ). inRange e j n ≡ true) (sym (ok .good .records)) (ok .inRange)) (ok .good .spans-least) (good-after e s p j ok .spans-least)
+          (subst (λ (n : ℕ). 2 * countAfter e n ≤ length controls) (sym (ok .good .records)) fits) i h lent
           (omega (arith, all-numbers (p .depth) (planAfter e p .spans)))
           (λ n g. held n (omega (arith, all-numbers (p .depth) (p .spans))))
 
@@ -59,26 +59,17 @@ module _ (e : Edit) (s : Shape) (j : ℕ) (controls lent : List ℤ) (none : NoR
   abbrev q : Plan
   q = planOf (shapeAfter e s)
 
-  -- rows 1 to 9 among them
-  early : NoRow (earlyRows e s j controls lent)
-  early =
-      let room = none .1 .1 .1 .1 .1 .1 in
-      (none .0, (none .1 .0, (none .1 .1 .0, (none .1 .1 .1 .0, (none .1 .1 .1 .1 .0, (none .1 .1 .1 .1 .1 .0, (room .0, (room .1 .0, (room .1 .1 .0, (room .1 .1 .1 .0, tt))))))))))
-
   allowed : Editable e s p j
-  allowed = may-edit e s j controls lent early
+  allowed = may-edit e s j controls lent none
 
   same : q ≡ planAfter e p
-  same = same-plan e s j controls lent early
+  same = same-plan e s j controls lent none
 
   ready : Workable e s (planAfter e p) j controls (length lent)
-  ready = workable e s p j allowed controls (length lent) (room-fine e s j controls lent early)
+  ready = workable e s p j allowed controls (length lent) (room-fine e s j controls lent none)
 
   pub lent-then : Lent (countAfter e (s .count)) (asked e j controls (countAfter e (s .count))) 0 (length lent)
-  lent-then = new-lent e s p j allowed controls (length lent) (room-fine e s j controls lent early)
-
-  pub reach-then : ltb (firstFar q (asked e j controls (countAfter e (s .count)))) (points q) ≡ false
-  reach-then = none .1 .1 .1 .1 .1 .1 .1 .1 .1 .1 .0
+  lent-then = new-lent e s p j allowed controls (length lent) (room-fine e s j controls lent none)
 
   pub good-then : Good (shapeAfter e s) q
   good-then = subst (λ r. Good (shapeAfter e s) r) (sym same) (ready .good)
@@ -87,11 +78,8 @@ module _ (e : Edit) (s : Shape) (j : ℕ) (controls lent : List ℤ) (none : NoR
   room-then =
       subst (λ r. 2 * points r ≤ length lent) (sym same) (omega (arith, all-numbers (p .depth) (planAfter e p .spans), ready .points-room))
 
-  pub controls-room : 2 * countAfter e (s .count) ≤ length controls
-  controls-room = ready .room
-
   -- The points are those of the outline of the controls asked for, drawn whole.
   pub edit-draws : ((i : ℕ) → i < 2 * points p → getD lent i (pos 0) ≡ numbers p controls i) → pointsAfter e s q j controls lent ≡ drawn q (asked e j controls (countAfter e (s .count))) lent
   edit-draws held =
       subst (λ r. pointsAfter e s r j controls lent ≡ drawn r (asked e j controls (countAfter e (s .count))) lent) (sym same)
-      (plan-draws e s p j allowed controls lent (subst (λ r. 2 * points r ≤ length lent) same room-then) held)
+      (plan-draws e s p j allowed controls lent (new-room e s p j allowed controls (length lent) (room-fine e s j controls lent none)) (subst (λ r. 2 * points r ≤ length lent) same room-then) held)

@@ -52,7 +52,11 @@ unfolding judge
 judge-append [] rest f a = refl
 judge-append (x ∷ rows) rest f a = ap (cond (x .holds) (f (x .refusal))) (judge-append rows rest f a)
 
--- no row of a table holds, so none of its later part
+-- no row of a table holds, so none of its earlier part, and none of its later part
+pub none-earlier : (rows rest : List Row) → NoRow (rows ++ rest) → NoRow rows
+none-earlier [] rest h = tt
+none-earlier (x ∷ rows) rest h = (h .0, none-earlier rows rest (h .1))
+
 pub none-later : (rows rest : List Row) → NoRow (rows ++ rest) → NoRow rest
 none-later [] rest h = h
 none-later (x ∷ rows) rest h = none-later rows rest (h .1)
@@ -182,15 +186,6 @@ module _ (n : ℕ) (controls : List ℤ) (points len : ℕ) where
   pub none-fine : NoRow (listRows n controls points len) → judgeLists n controls points len ≡ Fine
   unfolding judgeLists
   none-fine h = judge-none (listRows n controls points len) Bad Fine h
-
-  -- a call whose table goes on with these rows
-  pub bad {ℓ} : {A : Type ℓ} (r : Refusal) → judgeLists n controls points len ≡ Bad r → (rest : List Row) (f : Refusal → A) (a : A) → judge (listRows n controls points len ++ rest) f a ≡ f r
-  unfolding judgeLists
-  bad r e rest f a = rows-bad (listRows n controls points len) r e rest f a
-
-  pub fine {ℓ} : {A : Type ℓ} → judgeLists n controls points len ≡ Fine → (rest : List Row) (f : Refusal → A) (a : A) → judge (listRows n controls points len ++ rest) f a ≡ judge rest f a
-  unfolding judgeLists
-  fine e rest f a = rows-fine (listRows n controls points len) e rest f a
 
   pub fine-facts : judgeLists n controls points len ≡ Fine → Lent n controls points len
   unfolding outside

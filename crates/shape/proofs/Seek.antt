@@ -67,14 +67,6 @@ module _ (test : ℕ → Bool) where
 
   -- ---- what determines it
 
-  pub seek-is : (i n k : ℕ) → i ≤ k → k < i + n → ((j : ℕ) → i ≤ j → j < k → test j ≡ false) → test k ≡ true → seek test i n ≡ k
-  seek-is i n k h l below e =
-      let early : seek test i n < k → ⊥ = λ d. true-is-not-false (seek-passes i n (omega arith)) (below (seek test i n) (seek-from i n) d) in
-      let late : k < seek test i n → ⊥ = λ d. true-is-not-false e (seek-fails i n k h d) in
-      ⊎-elim (λ t. absurd (early (ltb-true (seek test i n) k t)))
-      (λ t. ⊎-elim (λ d. sym d) (λ d. absurd (late d)) (split k (seek test i n) (ltb-false (seek test i n) k t)))
-      (passes (ltb (seek test i n) k))
-
   pub seek-none : (i n : ℕ) → ((j : ℕ) → i ≤ j → j < i + n → test j ≡ false) → seek test i n ≡ i + n
   seek-none i n fails =
       ⊎-elim (λ d. d) (λ d. absurd (true-is-not-false (seek-passes i n d) (fails (seek test i n) (seek-from i n) d))) (split (seek test i n) (i + n) (seek-to i n))

@@ -3,4 +3,4 @@ pub mod Halves
 pub mod Steps
 pub mod Numbers
 pub mod Drawables
-pub mod Far
+pub mod Filled

@@ -1,5 +1,5 @@
 -- The numbers of an outline, x then y (document 01, "What it draws"): point s·2^k + i is span s at t = i / 2^k, and the last is the last span at t = 1.
-use mathlib.Core.Bool.{Bool, cond, _||_}
+use mathlib.Core.Bool.{cond}
 use mathlib.Core.List.{List}
 use Prim.Native.Nat.{ℕ, zero, suc, _+_, _*_, _-_, _/_, _%_, _^_, min}
 use lib.Dec.{eqb}
@@ -11,7 +11,6 @@ use Rattle.curve.specs.declared.Basis.{Basis}
 use Rattle.curve.specs.declared.Differences.{Differences}
 use Rattle.curve.specs.Numbers.{tab}
 use Rattle.curve.specs.Span.{coordinate, records, weighted, divisor, point}
-use Rattle.curve.specs.Limits.{reach, beyond}
 use Rattle.curve.specs.Ways.{advance}
 
 -- Number q of an outline of m spans at depth k: its point is q / 2, its axis q % 2.
@@ -45,9 +44,3 @@ after (suc n) s = advance (after n s)
 
 unfoldable pub stepped : ℕ → Differences → Differences → ℕ → ℤ
 stepped k x y j = nearest (after (j / 2) (cond (eqb (j % 2) 0) x y) .value) (divisor k)
-
--- ---- the look for a point beyond 5,000,000
-
--- A rule's point g is beyond on either axis.
-unfoldable pub farOff : (ℕ → ℤ) → ℕ → Bool
-farOff f g = beyond reach (f (2 * g)) || beyond reach (f (2 * g + 1))

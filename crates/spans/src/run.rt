@@ -27,7 +27,7 @@ pub enum Way {
 }
 
 // The sixfold controls of a span on an axis: 0 is x, 1 is y.
-pub(crate) fn span_controls(controls: &[i32], basis: Basis, span: usize, axis: usize) -> Four
+fn span_controls(controls: &[i32], basis: Basis, span: usize, axis: usize) -> Four
     requires { ⌜ axis < 2 ⌝ }
     requires { ⌜ Drawable basis (span + 1) (now controls) ⌝ }
     ensures { λ r. ⌜ r ≡ sixfoldControls basis (records basis span (coordinate (now (controls .entry)) axis)) ⌝ }

@@ -16,7 +16,7 @@ use curve::rounding::rounded;
 use curve::weights::weighted_sum;
 
 // The coordinate at a step of a span, by row step · 2^(6 - depth) of the table.
-pub(crate) fn table_point(q: Four, depth: usize, step: usize) -> i32
+fn table_point(q: Four, depth: usize, step: usize) -> i32
     requires { ⌜ depth ≤ deepest ⌝ }
     requires { ⌜ step ≤ 2 ^ depth ⌝ }
     requires { ⌜ Ready depth q ⌝ }

@@ -1,43 +1,30 @@
--- The front of the list is the controls asked for.
-use mathlib.Core.Path.{ap, _∙_}
-use Prim.Native.Nat.{_*_, _-_, _≤_}
-use native.Mathlib.Omega.{arith}
-use lib.ListN.{take}
-use Rattle.asked.specs.Edits.{asked}
-use Rattle.edit.proofs.Rows.{front-asked}
+-- The controls are those asked for, and the points are worked from them.
+use mathlib.Core.Path.{sym, ap, _∙_, subst}
+use mathlib.Core.List.{List}
+use Prim.Native.Nat.{ℕ, _+_, _*_}
 use borrow.Author.Needs.{needs}
+use lib.IntN.{ℤ}
+use Rattle.spans.specs.Numbers.{filled, perSpan}
+use Rattle.spans.specs.Ready.{Drawable}
+use Rattle.outline.proofs.Draws.{all-numbers}
+use Rattle.asked.specs.Edits.{pointAt}
+use Rattle.edit.specs.declared.Edited.the-variants.{Done}
+use Rattle.edit.specs.Reading.{outcome, controlsAfter}
 use Rattle.edit.proofs.edit_lists.Statement.{statement}
 use Rattle.edit.proofs.edit_lists.Tie as tie
-
-count-after-requires : tie.Need-count-after-requires
-count-after-requires c κs = search needs
-
-slice-aggregate-ask : tie.Need-slice-aggregate-ask
-slice-aggregate-ask c = search needs
 
 ask-requires : tie.Need-ask-requires
 ask-requires c κs = search needs
 
-mul-edit-asked : tie.Need-mul-edit-asked
-mul-edit-asked c = search needs
+work-requires : tie.Need-work-requires
+work-requires c κs =
+    let t = c .before .before .before in
+    let s = t .before .before in
+    let w = s .pre in
+    ((w .good .depth-most, w .place, w .good .spans-least), (subst (Drawable (s .args .plan .basis) (s .args .plan .spans)) (sym (t .ask .ensures)) (w .drawable), (w .points-room, w .carriable)))
 
-sub-edit-asked : tie.Need-sub-edit-asked
-sub-edit-asked c = search needs
-
-part-edit-asked-start : tie.Need-part-edit-asked-start
-part-edit-asked-start c = search needs
-
-part-edit-asked-end : tie.Need-part-edit-asked-end
-part-edit-asked-end c = search needs
-
-edit-asked-requires : tie.Need-edit-asked-requires
-edit-asked-requires c κs =
-    let t = c .before .before .before .before .before in
-    let s = t .before .before .before .before in
-    let a = s .args in
-    let count = t .before .before .before .count-after in
-    let short : 2 * count .result ≤ 128 = omega (arith, count .ensures, s .pre .good .records-most) in
-    (s .pre, ap (take (2 * count .result - 0)) (t .ask .ensures) ∙ front-asked (a .edit) (a .place) (a .controls .now) (count .result) _ short ∙ ap (asked (a .edit) (a .place) (a .controls .now)) (count .ensures))
+change-of-requires : tie.Need-change-of-requires
+change-of-requires c κs = search needs
 
 same-length : tie.Need-same-length
 same-length c = search needs
@@ -46,20 +33,18 @@ same-length-2 : tie.Need-same-length-2
 same-length-2 c = search needs
 
 returns : tie.Need-returns
-returns c = search needs
+returns c =
+    let r = c .before .before in
+    let t = r .before .before .before .before in
+    let a = t .before .before .args in
+    let q = a .plan in
+    let lent = a .points .now in
+    let worked : List ℤ → ℕ → List ℤ = λ controls n. filled (pointAt (a .edit) (q .basis) (q .depth) (a .place) (q .spans) controls lent) 0 n lent in
+    let all = q .spans * perSpan (q .depth) + 2 in
+    let points = r .work .ensures ∙ ap (λ l. worked l all) (t .ask .ensures) ∙ ap (worked (controlsAfter (a .edit) (a .shape) (a .place) (a .controls .now))) (sym (all-numbers (q .depth) (q .spans))) in
+    λ i. outcome (Done (c .change-of .ensures i)) (t .ask .ensures i) (points i)
 
 pub edit-lists-spec : {M : Type 1} → statement M
 edit-lists-spec =
     tie.close
-    (tie.spec
-    count-after-requires
-    slice-aggregate-ask
-    ask-requires
-    mul-edit-asked
-    sub-edit-asked
-    part-edit-asked-start
-    part-edit-asked-end
-    edit-asked-requires
-    same-length
-    same-length-2
-    returns)
+    (tie.spec ask-requires work-requires change-of-requires same-length same-length-2 returns)

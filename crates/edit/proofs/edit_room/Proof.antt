@@ -8,7 +8,7 @@ use Rattle.shape.specs.Shape.{mostPoints, mostRecords, pointsOf}
 use Rattle.shape.proofs.Spans.{points-at-most}
 use Rattle.outline.specs.Outline.{points}
 use Rattle.asked.specs.Edits.{spansAfter}
-use Rattle.edit.specs.Reading.{editsLists, judgeRoom, planAfter}
+use Rattle.edit.specs.Reading.{accepts, judgeRoom, planAfter}
 use Rattle.edit.specs.Ready.{Workable}
 use Rattle.edit.proofs.Rows.{good-after, room-bad, room-fine, workable}
 use borrow.Author.Needs.{needs}
@@ -98,7 +98,7 @@ returns-2 c =
     let s = u .before .before .before .before .before .before in
     let a = s .args in
     c .before .before .edit-lists .ensures
-    ∙ ap (λ (m : ℕ). editsLists (a .edit) (a .shape) (record { basis = a .plan .basis; depth = a .plan .depth; spans = m }) (a .place) (a .controls .now) (a .points .now)) (u .before .before .before .before .before .spans-after .ensures)
+    ∙ ap (λ (m : ℕ). accepts (a .edit) (a .shape) (record { basis = a .plan .basis; depth = a .plan .depth; spans = m }) (a .place) (a .controls .now) (a .points .now)) (u .before .before .before .before .before .spans-after .ensures)
     ∙ sym (room-fine (a .edit) (a .shape) (a .plan) (a .place) (a .controls .now) (a .points .now) (planAfter (a .edit) (a .plan)) (sym (judged u) ∙ t .enum-told .given .1))
 
 pub edit-room-spec : {M : Type 1} → statement M

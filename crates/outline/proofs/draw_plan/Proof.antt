@@ -16,9 +16,9 @@ use Rattle.shape.proofs.Refusals.{fine-facts}
 use Rattle.shape.proofs.Spans.{points-at-most}
 use Rattle.spans.specs.Numbers.{number, filled, perSpan}
 use Rattle.spans.specs.Ready.{Drawable}
-use Rattle.outline.specs.declared.Drawn.the-variants.{Points, Refused}
+use Rattle.outline.specs.declared.Drawn.the-variants.{Points}
 use Rattle.outline.specs.Outline.{outcome, numbers, points, drawn}
-use Rattle.outline.proofs.Draws.{all-numbers, plan-bad, plan-far, plan-drawn, drawable}
+use Rattle.outline.proofs.Draws.{all-numbers, plan-bad, plan-drawn, drawable}
 use Rattle.outline.proofs.draw_plan.Statement.{statement}
 use Rattle.outline.proofs.draw_plan.Tie as tie
 
@@ -59,19 +59,9 @@ lent c = let a = c .before .before .before .before .args in fine-facts (a .shape
 spans-drawable : (c : tie.After-enum-told) → Drawable (c .before .before .before .before .args .plan .basis) (c .before .before .before .before .args .plan .spans) (c .before .before .before .before .args .controls .now)
 spans-drawable c = let s = c .before .before .before .before in drawable (s .args .shape) (s .args .plan) (s .pre) (s .args .controls .now) (points (s .args .plan)) (length (s .args .points .now)) (lent c)
 
-first-far-requires : tie.Need-first-far-requires
-first-far-requires c κs = let s = c .before .before .before .before in ((s .pre .depth-most, omega (arith, s .pre .spans-least)), spans-drawable c)
-
-returns-2 : tie.Need-returns-2
-returns-2 c =
-    let a = c .before .before .before .before .before .before .args in
-    let far = c .before .first-far .ensures in
-    ap (λ (n : ℕ). outcome (Refused (record { number = 16; place = n })) (a .points .now)) far
-    ∙ sym (plan-far (a .shape .count) (a .plan) (a .controls .now) (a .points .now) (is-fine (c .before .before)) (omega (arith, far, c .before .before .before .before .before .points .ensures, c .if1 .taken)))
-
 fill-spans-requires : tie.Need-fill-spans-requires
 fill-spans-requires c κs =
-    let t = c .before .before .before in
+    let t = c .before in
     let s = t .before .before .before .before in
     let p = s .args .plan in
     ((s .pre .depth-most, omega (arith, s .pre .spans-least)), (spans-drawable t, omega (arith, all-numbers (p .depth) (p .spans), lent t .points-room)))
@@ -87,16 +77,15 @@ whole-run p controls l =
     ∙ ap (λ (n : ℕ). filled (numbers p controls) 0 (n * perSpan (p .depth) + 2) l) all
     ∙ ap (λ (n : ℕ). filled (numbers p controls) 0 n l) (sym (all-numbers (p .depth) (p .spans)))
 
-returns-3 : tie.Need-returns-3
-returns-3 c =
-    let t = c .before .before .before .before .before in
+returns-2 : tie.Need-returns-2
+returns-2 c =
+    let t = c .before .before .before in
     let a = t .before .before .before .before .args in
     let p = a .plan in
     let count = t .before .before .before .points .ensures in
-    let far = c .before .before .before .before .first-far .ensures in
     ap (λ l. outcome (Points (t .before .before .before .points .result)) l) (c .before .fill-spans .ensures ∙ whole-run p (a .controls .now) (a .points .now))
     ∙ ap (λ (n : ℕ). outcome (Points n) (drawn p (a .controls .now) (a .points .now))) count
-    ∙ sym (plan-drawn (a .shape .count) p (a .controls .now) (a .points .now) (is-fine t) (omega (arith, far, count, c .before .before .before .if1 .left)))
+    ∙ sym (plan-drawn (a .shape .count) p (a .controls .now) (a .points .now) (is-fine t))
 
 pub draw-plan-spec : {M : Type 1} → statement M
-draw-plan-spec = tie.close (tie.spec points-requires check-lists-requires enum-known-refusal returns enum-told first-far-requires returns-2 fill-spans-requires same-length returns-3)
+draw-plan-spec = tie.close (tie.spec points-requires check-lists-requires enum-known-refusal returns enum-told fill-spans-requires same-length returns-2)

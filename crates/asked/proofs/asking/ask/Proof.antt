@@ -1,69 +1,96 @@
--- Upwards: the numbers still to be written, written to the present list, make the whole.
-use mathlib.Core.Path.{_≡_, refl, sym, ap, _∙_}
-use Prim.Native.Nat.{ℕ, _+_, _-_, _*_, _≤_, _<_}
+-- In each arm the edit is that arm's.
+use mathlib.Core.Path.{_≡_, sym, ap, _∙_, subst}
+use Prim.Native.Nat.{_+_}
 use native.Mathlib.Omega.{arith}
 use borrow.Author.Needs.{needs}
-use lib.ListN.{length, set, length-set}
-use lib.Seq.{sets}
-use Rattle.curve.specs.Numbers.{tab}
-use Rattle.asked.specs.Edits.{asked, controlAt}
-use Rattle.curve.proofs.Fills.{as-read, fill-next, fill-done}
+use lib.ListN.{length}
+use mir.Syntax.{w32}
+use Rattle.whole.proofs.Fit.{kept-is}
+use Rattle.asked.specs.declared.Edit.{Edit}
+use Rattle.asked.specs.declared.Edit.the-variants.{Insert}
+use Rattle.asked.specs.Edits.{asked, countAfter}
+use Rattle.asked.specs.Ready.{Askable}
+use Rattle.asked.proofs.InPlace.{put, moved-is}
 use Rattle.asked.proofs.asking.ask.Statement.{statement}
 use Rattle.asked.proofs.asking.ask.Tie as tie
 
-abbrev Inv-loop : tie.InvT-loop
-Inv-loop edit place controls count next₀ q₀ next q =
-    (q ≤ 2 * count)
-    × (length next ≡ length next₀)
-    × (sets next q (tab (controlAt edit place controls) q (2 * count - q)) ≡ sets next₀ 0 (asked edit place controls count))
+-- what is required, for the edit that an arm has told
+told : (s : tie.Start) (e : Edit) → s .args .edit ≡ e → Askable e (s .args .place) (s .args .count) (length (s .args .controls .now))
+told s e is = subst (λ d. Askable d (s .args .place) (s .args .count) (length (s .args .controls .now))) is (s .pre)
 
-abbrev μ-loop : tie.MeasureT-loop
-μ-loop edit place controls count next₀ q₀ next q = 2 * count - q
+enum-known-edit : tie.Need-enum-known-edit
+enum-known-edit c = search needs
 
-loop-holds : tie.Need-loop-holds Inv-loop μ-loop
-unfolding asked
-loop-holds c =
-    let a = c .args in
-    let all : 2 * a .count - 0 ≡ 2 * a .count = omega arith in
-    (omega arith, refl, ap (λ (n : ℕ). sets (a .next .now) 0 (tab (controlAt (a .edit) (a .place) (a .controls .now)) 0 n)) all)
+put-record-requires : tie.Need-put-record-requires
+put-record-requires c κs =
+    let t = c .before .before in
+    let can = told (t .before .before) _ (t .edit .given .1) in
+    omega (arith, can .0, can .1)
 
-mul-loop : tie.Need-mul-loop Inv-loop μ-loop
-mul-loop c = search needs
+enum-known-edit-2 : tie.Need-enum-known-edit-2
+enum-known-edit-2 c = search needs
 
-control-at-requires : tie.Need-control-at-requires Inv-loop μ-loop
-control-at-requires c κs = omega arith
+put-in-requires : tie.Need-put-in-requires
+put-in-requires c κs = let t = c .before .before in told (t .before .before) _ (t .edit2 .given .1)
 
-mul-t7 : tie.Need-mul-t7 Inv-loop μ-loop
-mul-t7 c = search needs
+enum-told : tie.Need-enum-told
+enum-told c = search needs
 
-slice-set-from-next : tie.Need-slice-set-from-next Inv-loop μ-loop
-slice-set-from-next c = omega (arith, c .before .before .loop .inv .1, c .before .before .before .pre .1)
+take-out-requires : tie.Need-take-out-requires
+take-out-requires c κs = let t = c .before in told (t .before .before) _ (t .enum-told .given .1)
 
-add-q : tie.Need-add-q Inv-loop μ-loop
-add-q c = search needs
+same-length : tie.Need-same-length
+same-length c = search needs
 
-loop-less : tie.Need-loop-less Inv-loop μ-loop
-loop-less c = omega arith
-
-loop-again : tie.Need-loop-again Inv-loop μ-loop
-loop-again c =
-    let a = c .before .before .before .args in
-    let l = c .before .before .loop in
-    let f = controlAt (a .edit) (a .place) (a .controls .now) in
-    let here : l .q < 2 * a .count = omega arith in (
-      omega arith,
-      length-set (l .next) (l .q) _ ∙ l .inv .1,
-      ap (λ z. sets (set (l .next) (l .q) z) (l .q + 1) (tab f (l .q + 1) (2 * a .count - (l .q + 1)))) (as-read (c .control-at .result) (c .control-at .ok) ∙ c .control-at .ensures) ∙ sym (fill-next f (l .next) (l .q) (2 * a .count) here) ∙ l .inv .2,
-    )
-
-same-length : tie.Need-same-length Inv-loop μ-loop
-same-length c = c .before .loop .inv .1
-
-returns : tie.Need-returns Inv-loop μ-loop
+returns : tie.Need-returns
 returns c =
-    let a = c .before .before .args in
-    let l = c .before .loop in
-    sym (fill-done (controlAt (a .edit) (a .place) (a .controls .now)) (l .next) (l .q) (2 * a .count) (omega arith)) ∙ l .inv .2
+    let t = c .before .before .before in
+    let s = t .before .before .before in
+    let a = s .args in
+    let x = t .before .edit .given .0 .0 in
+    let y = t .before .edit .given .0 .1 .0 in
+    let is = t .before .edit .given .1 in
+    let can = told s _ is in
+    c .before .put-record .ensures
+    ∙ (λ i. put (a .controls .now) (a .place) (kept-is w32 x (record { sfits = t .known-told .given .0 .1 }) i) (kept-is w32 y (record { sfits = t .known-told .given .1 .0 .1 }) i))
+    ∙ moved-is (a .place) (a .count) (a .controls .now) x y (can .0) (can .1)
+    ∙ sym (ap (λ e. asked e (a .place) (a .controls .now) (countAfter e (a .count))) is)
+
+same-length-2 : tie.Need-same-length-2
+same-length-2 c = search needs
+
+returns-2 : tie.Need-returns-2
+returns-2 c =
+    let t = c .before .before .before in
+    let a = t .before .before .before .args in
+    let x = t .before .edit2 .given .0 .0 in
+    let y = t .before .edit2 .given .0 .1 .0 in
+    c .before .put-in .ensures
+    ∙ (λ i. asked (Insert (kept-is w32 x (record { sfits = t .known-told2 .given .0 .1 }) i) (kept-is w32 y (record { sfits = t .known-told2 .given .1 .0 .1 }) i)) (a .place) (a .controls .now) (a .count + 1))
+    ∙ sym (ap (λ e. asked e (a .place) (a .controls .now) (countAfter e (a .count))) (t .before .edit2 .given .1))
+
+same-length-3 : tie.Need-same-length-3
+same-length-3 c = search needs
+
+returns-3 : tie.Need-returns-3
+returns-3 c =
+    let t = c .before .before .before in
+    let a = t .before .before .args in
+    c .before .take-out .ensures ∙ sym (ap (λ e. asked e (a .place) (a .controls .now) (countAfter e (a .count))) (t .enum-told .given .1))
 
 pub ask-spec : {M : Type 1} → statement M
-ask-spec = tie.close (tie.spec Inv-loop μ-loop loop-holds mul-loop control-at-requires mul-t7 slice-set-from-next add-q loop-less loop-again same-length returns)
+ask-spec =
+    tie.close
+    (tie.spec
+    enum-known-edit
+    put-record-requires
+    enum-known-edit-2
+    put-in-requires
+    enum-told
+    take-out-requires
+    same-length
+    returns
+    same-length-2
+    returns-2
+    same-length-3
+    returns-3)

@@ -12,7 +12,8 @@ use Rattle.asked.specs.declared.Edit.{Edit}
 use Rattle.asked.specs.declared.Edit.the-variants.{Insert, Remove}
 use Rattle.asked.specs.Edits.{carriedFrom}
 use Rattle.edit.specs.Carried.{Carriable, runLength}
-use Rattle.edit.proofs.Worked.{none-filled, same-filled, run-none, run-end}
+use Rattle.spans.proofs.Filled.{none-filled, same-filled}
+use Rattle.edit.proofs.Worked.{run-none, run-end}
 use Rattle.edit.proofs.carrying.carry.Statement.{statement}
 use Rattle.edit.proofs.carrying.carry.Tie as tie
 

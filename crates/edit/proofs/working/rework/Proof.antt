@@ -5,7 +5,8 @@ use native.Mathlib.Omega.{arith}
 use borrow.Author.Needs.{needs}
 use Rattle.spans.specs.Numbers.{filled, number, perSpan}
 use Rattle.edit.specs.Carried.{runLength}
-use Rattle.edit.proofs.Worked.{none-filled, run-none, run-some}
+use Rattle.spans.proofs.Filled.{none-filled}
+use Rattle.edit.proofs.Worked.{run-none, run-some}
 use Rattle.edit.proofs.working.rework.Statement.{statement}
 use Rattle.edit.proofs.working.rework.Tie as tie
 

@@ -1,15 +1,12 @@
--- Row 16 is never given: every point of records inside the limits lies within 5,000,000, so where no earlier row holds the outline is drawn.
+-- Every point of records inside the limits lies within 5,000,000 either way, so every number of an outline that was drawn does.
 use mathlib.Core.Path.{_≡_, sym, ap, _∙_, subst}
-use mathlib.Core.Bool.{false}
-use mathlib.Core.List.{List, _++_}
+use mathlib.Core.List.{List}
 use mathlib.Core.Logic.{⊎-elim}
 use Prim.Native.Nat.{ℕ, suc, _+_, _*_, _-_, _/_, _%_, _^_, min, _≤_, _<_}
 use native.Mathlib.Nat.{min-le-right, suc-mul, mod-lt, div-add-mod'}
 use native.Mathlib.Omega.{arith}
-use borrow.Author.Tests.{le-ltb}
-use lib.Dec.{ltb}
-use lib.IntN.{ℤ, natAbs}
-use lib.ListN.{length}
+use lib.IntN.{ℤ, pos, natAbs}
+use lib.ListN.{getD, length}
 use lib.Pow.{pow-pos}
 use Rattle.curve.specs.Limits.{reach}
 use Rattle.curve.specs.Span.{firstRecord, coordinate, records}
@@ -17,14 +14,15 @@ use Rattle.curve.proofs.Limits.{point-size}
 use Rattle.shape.specs.declared.Shape.{Shape}
 use Rattle.shape.specs.declared.Plan.{Plan}
 use Rattle.shape.specs.Good.{Good, Lent}
-use Rattle.shape.specs.Refusals.{NoRow, shapeRows, listRows, planOf}
+use Rattle.shape.specs.Refusals.{shapeRows, planOf}
 use Rattle.shape.specs.Shape.{pointsOf}
-use Rattle.shape.proofs.Refusals.{none-sound, sound-facts, none-fine, fine-facts, good-records, lent-inside}
-use Rattle.shape.proofs.Seek.{seek-none}
+use Rattle.shape.proofs.Refusals.{none-earlier, none-later, none-sound, sound-facts, none-fine, fine-facts, good-records, lent-inside}
 use Rattle.shape.proofs.Tests.{either}
-use Rattle.spans.specs.Numbers.{number, farOff}
-use Rattle.outline.specs.Outline.{numbers, points, firstFar, accepts, draws}
-use Rattle.outline.proofs.Exactly.{none-drawn}
+use Rattle.spans.specs.Numbers.{number}
+use Rattle.spans.proofs.Filled.{in-filled}
+use Rattle.outline.specs.declared.Drawn.the-variants.{Points}
+use Rattle.outline.specs.Outline.{Outcome, outcome, numbers, points, planRows, draws}
+use Rattle.outline.proofs.Exactly.{points-none, none-drawn}
 
 -- point g of m spans of d steps is at most d steps past its span's start: the last one at the last span's end
 step-within : (g m d : ℕ) → 0 < d → 1 ≤ m → g ≤ m * d → g - min (g / d) (m - 1) * d ≤ d
@@ -42,9 +40,9 @@ step-within g m d some-steps some h =
 
 module _ (s : Shape) (p : Plan) (good : Good s p) (controls : List ℤ) (k len : ℕ) (lent : Lent (s .count) controls k len) where
   -- each number of the outline
-  pub number-near : (q : ℕ) → q < 2 * points p → natAbs (numbers p controls q) ≤ reach
+  pub number-within : (q : ℕ) → q < 2 * points p → natAbs (numbers p controls q) ≤ reach
   unfolding number pointsOf
-  number-near q h =
+  number-within q h =
       let d = 2 ^ p .depth in
       let g = q / 2 in
       let t = min (g / d) (p .spans - 1) in
@@ -53,18 +51,16 @@ module _ (s : Shape) (p : Plan) (good : Good s p) (controls : List ℤ) (k len :
       (step-within g (p .spans) d (pow-pos (p .depth)) (good .spans-least) (omega arith))
       (lent-inside (s .count) controls k len lent (q % 2) (firstRecord (p .basis) t) (omega arith) (good-records s p good t exists))
 
-  point-near : (g : ℕ) → g < points p → farOff (numbers p controls) g ≡ false
-  unfolding farOff
-  point-near g h = simp (le-ltb reach (natAbs (numbers p controls (2 * g))) (number-near (2 * g) (omega arith)), le-ltb reach (natAbs (numbers p controls (2 * g + 1))) (number-near (2 * g + 1) (omega arith)))
-
-  -- so none is the first beyond
-  pub none-far : ltb (firstFar p controls) (points p) ≡ false
-  none-far = le-ltb (firstFar p controls) (points p) (omega (arith, seek-none (farOff (numbers p controls)) 0 (points p) (λ g _ h. point-near g (omega arith))))
-
--- Where rows 1, 2, 3, 7, 8, 9 do not hold, the outline is drawn.
-pub never-far : (s : Shape) (controls lent : List ℤ) → NoRow (shapeRows s ++ listRows (s .count) controls (points (planOf s)) (length lent)) → draws s controls lent ≡ accepts (planOf s) controls lent
-never-far s controls lent (basis, (depth, (count, (held, (inside, (room, done)))))) =
+-- After a drawing call that answers n points, each of their numbers, as it stands in the lent list.
+pub drawn-within : (s : Shape) (controls lent : List ℤ) (n : ℕ) (held : List ℤ) → draws s controls lent ≡ outcome (Points n) held → (q : ℕ) → q < 2 * n → natAbs (getD held q (pos 0)) ≤ reach
+drawn-within s controls lent n held answered q h =
     let p = planOf s in
-    let good = sound-facts s p (none-sound s (basis, (depth, (count, tt)))) in
-    let had = fine-facts (s .count) controls (points p) (length lent) (none-fine (s .count) controls (points p) (length lent) (held, (inside, (room, tt)))) in
-    none-drawn s controls lent (basis, (depth, (count, (held, (inside, (room, (none-far s p good controls (points p) (length lent) had, tt)))))))
+    let none = points-none s controls lent n held answered in
+    let came = sym answered ∙ none-drawn s controls lent none in
+    let all : Points n ≡ Points (points p) = ap (λ (o : Outcome). o .answer) came in
+    let few : n ≡ points p = cc in
+    let good = sound-facts s p (none-sound s (none-earlier (shapeRows s) (planRows (s .count) p controls lent) none)) in
+    let had = fine-facts (s .count) controls (points p) (length lent) (none-fine (s .count) controls (points p) (length lent) (none-later (shapeRows s) (planRows (s .count) p controls lent) none)) in
+    subst (λ z. natAbs z ≤ reach)
+    (sym (in-filled (numbers p controls) 0 (2 * points p) lent q (omega arith) (omega arith) (omega (arith, had .points-room))) ∙ ap (λ l. getD l q (pos 0)) (sym (ap (λ (o : Outcome). o .held) came)))
+    (number-within s p good controls (points p) (length lent) had q (omega (arith, few)))
