@@ -9,9 +9,9 @@ use mir.Facts.{toZ-ofZ}
 use mir.Syntax.{w32}
 use mir.Val.{toZ, ofZ, hbits}
 use lib.IntN.{ℤ}
-use lib.ListN.{length, set, getD, drop, length-set}
+use lib.ListN.{length, set, getD, length-set}
 use lib.Signed.{mag}
-use lib.Seq.{sets, set-comm, getD-set-same, getD-set-other, drop-cons, drop-length}
+use lib.Seq.{sets, set-comm, getD-set-same, getD-set-other}
 use Rattle.curve.specs.Numbers.{tab}
 use Rattle.curve.proofs.Tab.{length-tab, tab-append}
 use Rattle.whole.proofs.Writes.{sets-append}
@@ -34,13 +34,6 @@ module _ {A : Type 0} where
   pub fill-done : (f : ℕ → A) (l : List A) (i n : ℕ) → n ≤ i → sets l i (tab f i (n - i)) ≡ l
   unfolding tab
   fill-done f l i n h = let e : n - i ≡ 0 = omega arith in ap (λ (m : ℕ). sets l i (tab f i m)) e
-
-  -- the same for a list that is copied
-  pub copy-next : (vs l : List A) (i : ℕ) (d : A) → i < length vs → sets l i (drop i vs) ≡ sets (set l i (getD vs i d)) (i + 1) (drop (i + 1) vs)
-  copy-next vs l i d h = ap (sets l i) (drop-cons vs i d h) ∙ ap (λ (m : ℕ). sets (set l i (getD vs i d)) m (drop m vs)) (sym (add-one i))
-
-  pub copy-done : (vs l : List A) (i : ℕ) → i ≡ length vs → sets l i (drop i vs) ≡ l
-  copy-done vs l i e = ap (sets l i) (ap (λ (m : ℕ). drop m vs) e ∙ drop-length vs)
 
   -- a number past the others may be written before them
   set-first : (vs l : List A) (i j : ℕ) (a : A) → j + length vs ≤ i → sets (set l i a) j vs ≡ set (sets l j vs) i a

@@ -52,7 +52,7 @@ record-beyond Remove j old r axis a h =
     control-beyond j old (2 * r + axis) Remove (omega arith) ∙ ap (λ (i : ℕ). getD old i (pos 0)) on
 
 -- four records that are one by one the same
-pub four-same : (r t : ℕ) (f g : ℕ → ℤ) → ((i : ℕ) → i < 4 → f (r + i) ≡ g (t + i)) → recordsFrom r f ≡ recordsFrom t g
+four-same : (r t : ℕ) (f g : ℕ → ℤ) → ((i : ℕ) → i < 4 → f (r + i) ≡ g (t + i)) → recordsFrom r f ≡ recordsFrom t g
 unfolding recordsFrom
 four-same r t f g h =
     let first : f r ≡ g t = ap f (sym (add-zero r)) ∙ h 0 (lit< tt) ∙ ap g (add-zero t) in

@@ -33,13 +33,11 @@ module _ (f : ℕ → ℤ) (q n : ℕ) (l : List ℤ) (i : ℕ) where
   pub past-filled : q + n ≤ i → getD (filled f q n l) i (pos 0) ≡ getD l i (pos 0)
   past-filled h = past-sets (tab f q n) l q i (pos 0) (omega (arith, length-tab f q n))
 
--- ---- nothing to fill
+-- ---- which list it is
 
 pub none-filled : (f : ℕ → ℤ) (q n : ℕ) (l : List ℤ) → n ≡ 0 → filled f q n l ≡ l
 unfolding tab
 none-filled f q n l e = ap (λ (m : ℕ). filled f q m l) e
-
--- ---- which list it is
 
 -- a list filled with its own numbers is as it was
 pub same-filled : (l : List ℤ) (q n : ℕ) → filled (λ (i : ℕ). getD l i (pos 0)) q n l ≡ l

@@ -1,7 +1,7 @@
 -- The numbers of an outline, x then y (document 01, "What it draws"): point s·2^k + i is span s at t = i / 2^k, and the last is the last span at t = 1.
 use mathlib.Core.Bool.{cond}
 use mathlib.Core.List.{List}
-use Prim.Native.Nat.{ℕ, zero, suc, _+_, _*_, _-_, _/_, _%_, _^_, min}
+use Prim.Native.Nat.{ℕ, zero, suc, _*_, _-_, _/_, _%_, _^_, min}
 use lib.Dec.{eqb}
 use lib.IntN.{ℤ, pos}
 use lib.Seq.{sets}

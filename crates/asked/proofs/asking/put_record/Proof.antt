@@ -1,11 +1,7 @@
 -- Two numbers, one after the other.
-use mathlib.Core.Path.{ap, _∙_}
-use Prim.Native.Nat.{_+_, _*_}
 use native.Mathlib.Omega.{arith}
 use borrow.Author.Needs.{needs}
-use lib.ListN.{set, length-set}
-use mir.Syntax.{w32}
-use Rattle.whole.proofs.Fit.{kept, kept-is}
+use lib.ListN.{length-set}
 use Rattle.asked.proofs.asking.put_record.Statement.{statement}
 use Rattle.asked.proofs.asking.put_record.Tie as tie
 
