@@ -1,4 +1,5 @@
-// What an edit asks for: its controls, its counts and the spans that it works afresh. The calls are for crates of this project: some require what those have checked.
+// What an edit asks for: its controls, its counts and the spans that it works afresh; and the carrying of numbers inside one list. The calls are for crates of this
+// project: some require what those have checked.
 pub mod asking;
 pub mod carrying;
 pub mod counts;
