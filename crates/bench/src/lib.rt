@@ -21,7 +21,7 @@ pub struct Bench {
     pub file: usize,
 }
 
-// What playing a record comes to: the bench afterwards, that the record is bad, or that the input has ended.
+// What playing a record comes to: the bench afterwards, that the record is bad, or that the run has ended: with the input, or at a read or a write that failed.
 pub enum Turn {
     Next(Bench),
     Bad,

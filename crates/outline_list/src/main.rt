@@ -1,16 +1,32 @@
 // Reads one record file on standard input, and writes its listing on standard output.
 use file_list::MOST_TEXT;
 use file_list::list_file;
-use libc::STDIN_FILENO;
-use libc::STDOUT_FILENO;
+use streams::Input;
+use streams::read_input;
+use streams::tell;
+use streams::write_output;
 
 // One byte more than the longest file has, so that a longer one is seen.
 const MOST_BYTES: usize = 769;
 
 fn main() {
     let mut file = [0u8; MOST_BYTES];
+    if let Input::Bytes(length) = read_input(&mut file) {
+        list(&file[..length]);
+    }
+}
+
+// Writes the listing of a file. A refusal is told as well.
+fn list(file: &[u8]) {
     let mut text = [0u8; MOST_TEXT];
-    let length = io::read_full(STDIN_FILENO, &mut file);
-    let end = list_file(&file[..length], &mut text);
-    io::write_all(STDOUT_FILENO, &text[..end]);
+    let end = list_file(file, &mut text);
+    let is_written = write_output(&text[..end]);
+    if is_written && is_refusal(&text) {
+        tell(&text[..end]);
+    }
+}
+
+// A refusal's line begins with its word, a listing with a number.
+fn is_refusal(text: &[u8; MOST_TEXT]) -> bool {
+    text[0] == b'r'
 }

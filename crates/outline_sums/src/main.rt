@@ -4,8 +4,8 @@ mod edits;
 mod limits;
 mod outlines;
 
-use libc::STDOUT_FILENO;
 use phrases::length_of;
+use streams::write_output;
 
 // The text of the sums: as many bytes as a buffer has.
 pub(crate) type Text = [u8; 4096];
@@ -24,5 +24,5 @@ fn main() {
 fn send(text: &Text, end: usize) {
     let bytes: &[u8] = text;
     let length = length_of(end, bytes);
-    io::write_all(STDOUT_FILENO, &bytes[..length]);
+    write_output(&bytes[..length]);
 }

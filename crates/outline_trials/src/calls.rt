@@ -11,11 +11,11 @@ use drawing::Stepped;
 use edit::Edited;
 use file_list::MOST_TEXT;
 use file_list::list_file;
-use libc::STDOUT_FILENO;
 use outline::Drawn;
 use preview::Previewed;
 use record_file::Reading;
 use shape::Shape;
+use streams::write_output;
 use trial_record::Placed;
 use trial_record::Record;
 use trial_record::control;
@@ -24,8 +24,17 @@ use trial_record::step_of;
 // A place is below 2^63.
 const HALF: u64 = 9223372036854775808;
 
+// What a call came to once its line is written: the bench afterwards. Where the line was not written the run ends.
+pub(crate) fn go_on(is_written: bool, bench: Bench) -> Turn {
+    if is_written {
+        Turn::Next(bench)
+    } else {
+        Turn::End
+    }
+}
+
 // What drawing answered, said.
-fn say_drawn(answer: Drawn) {
+fn say_drawn(answer: Drawn) -> bool {
     match answer {
         Drawn::Refused(refusal) => say_refusal(refusal),
         Drawn::Points(count) => say(b"drawn", &[count]),
@@ -33,7 +42,7 @@ fn say_drawn(answer: Drawn) {
 }
 
 // The outline, by the way that the operation names.
-pub(crate) fn draw(shape: Shape, op: u8, controls: &[i32], points: &mut [i32]) {
+pub(crate) fn draw(shape: Shape, op: u8, controls: &[i32], points: &mut [i32]) -> bool {
     match op {
         10 => say_drawn(outline::by_weights(shape, controls, points)),
         11 => say_drawn(outline::by_halving(shape, controls, points)),
@@ -44,13 +53,10 @@ pub(crate) fn draw(shape: Shape, op: u8, controls: &[i32], points: &mut [i32]) {
 // What an edit answered, said, and the shape that it leaves.
 fn edited(bench: Bench, answer: Edited) -> Turn {
     match answer {
-        Edited::Refused(refusal) => {
-            say_refusal(refusal);
-            Turn::Next(bench)
-        }
+        Edited::Refused(refusal) => go_on(say_refusal(refusal), bench),
         Edited::Done(change) => {
             let shape = change.shape;
-            say(
+            let is_written = say(
                 b"edited",
                 &[
                     shape.basis,
@@ -60,7 +66,7 @@ fn edited(bench: Bench, answer: Edited) -> Turn {
                     change.fresh,
                 ],
             );
-            Turn::Next(bench.with_shape(shape))
+            go_on(is_written, bench.with_shape(shape))
         }
     }
 }
@@ -119,64 +125,55 @@ pub(crate) fn view(bench: Bench, r: Record, points: &[i32]) -> Turn {
     }
     let shape = bench.shape;
     let part = outline::view(shape, r.a as usize, points);
-    say(b"view", &[part.len()]);
-    if part.len() != 0 {
-        say_numbers(part);
+    let is_written = say(b"view", &[part.len()]);
+    if is_written && part.len() != 0 {
+        return go_on(say_numbers(part), bench);
     }
-    Turn::Next(bench)
+    go_on(is_written, bench)
 }
 
 pub(crate) fn draw_preview(bench: Bench, controls: &[i32], preview: &mut [f64]) -> Turn {
     let shape = bench.shape;
-    match preview::preview(shape, controls, preview) {
+    let is_written = match preview::preview(shape, controls, preview) {
         Previewed::Refused(refusal) => say_refusal(refusal),
         Previewed::Drawn(count) => say(b"previewed", &[count]),
-    }
-    Turn::Next(bench)
+    };
+    go_on(is_written, bench)
 }
 
-fn show_state(state: State) {
+fn show_state(state: State) -> bool {
     let start = state.start;
     let current = state.current;
     let closed = if state.closed { 1 } else { 0 };
     say_state(
         state.count,
         &[start.x, start.y, current.x, current.y, closed],
-    );
+    )
 }
 
 // A step of the drawing.
 pub(crate) fn step(bench: Bench, r: Record, controls: &mut [i32]) -> Turn {
     let state = bench.state;
     match state.step(step_of(r), controls) {
-        Stepped::Refused(refusal) => {
-            say_refusal(refusal);
-            Turn::Next(bench)
-        }
-        Stepped::Next(next) => {
-            show_state(next);
-            Turn::Next(bench.with_state(next))
-        }
+        Stepped::Refused(refusal) => go_on(say_refusal(refusal), bench),
+        Stepped::Next(next) => go_on(show_state(next), bench.with_state(next)),
     }
 }
 
 // The file read into the controls.
 pub(crate) fn read_file(bench: Bench, file: &[u8], controls: &mut [i32]) -> Turn {
     match record_file::read(file, controls) {
-        Reading::Refused(refusal) => {
-            say_refusal(refusal);
-            Turn::Next(bench)
-        }
+        Reading::Refused(refusal) => go_on(say_refusal(refusal), bench),
         Reading::Read(shape) => {
-            say(b"read", &[shape.basis, shape.depth, shape.count]);
-            Turn::Next(bench.with_shape(shape))
+            let is_written = say(b"read", &[shape.basis, shape.depth, shape.count]);
+            go_on(is_written, bench.with_shape(shape))
         }
     }
 }
 
 // The file listed as outline-list does.
-pub(crate) fn show_file(file: &[u8]) {
+pub(crate) fn show_file(file: &[u8]) -> bool {
     let mut text = [0u8; MOST_TEXT];
     let end = list_file(file, &mut text);
-    io::write_all(STDOUT_FILENO, &text[..end]);
+    write_output(&text[..end])
 }

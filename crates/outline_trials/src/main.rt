@@ -10,8 +10,10 @@ use bench::lend;
 use bench::more_file;
 use bench::set_bench;
 use bench::set_number;
-use libc::STDIN_FILENO;
-use text::say;
+use calls::go_on;
+use streams::Input;
+use streams::read_input;
+use text::say_bad;
 use text::say_numbers;
 use text::say_patterns;
 use trial_record::Record;
@@ -70,8 +72,7 @@ fn play_numbers(bench: Bench, r: Record, list: &mut [i32]) -> Turn {
     if r.op < SHOWING {
         return set_number(bench, r, list);
     }
-    say_numbers(list);
-    Turn::Next(bench)
+    go_on(say_numbers(list), bench)
 }
 
 // A record on the outline: the lent controls and points.
@@ -82,8 +83,7 @@ fn play_outline(bench: Bench, r: Record, controls: &mut [i32], points: &mut [i32
         4 | 61 => play_numbers(bench, r, points),
         10..=12 => {
             let shape = bench.shape;
-            calls::draw(shape, op, controls, points);
-            Turn::Next(bench)
+            go_on(calls::draw(shape, op, controls, points), bench)
         }
         20 | 21 => calls::place_record(bench, r, controls, points),
         22 => calls::remove_record(bench, r, controls, points),
@@ -94,13 +94,10 @@ fn play_outline(bench: Bench, r: Record, controls: &mut [i32], points: &mut [i32
 // A record that shows the file or the preview.
 fn show(bench: Bench, op: u8, preview: &[f64], file: &[u8]) -> Turn {
     match op {
-        56 => calls::show_file(file),
-        62 => say_patterns(preview),
-        _ => {
-            return Turn::Bad;
-        }
+        56 => go_on(calls::show_file(file), bench),
+        62 => go_on(say_patterns(preview), bench),
+        _ => Turn::Bad,
     }
-    Turn::Next(bench)
 }
 
 // A record on the drawing: the lent controls and preview, and the file as long as it is.
@@ -179,7 +176,9 @@ fn play_next(
     file: &mut File,
 ) -> Turn {
     let mut bytes = [0u8; RECORD];
-    let got = io::read_full(STDIN_FILENO, &mut bytes);
+    let Input::Bytes(got) = read_input(&mut bytes) else {
+        return Turn::End;
+    };
     if got < RECORD {
         return cut_short(got);
     }
@@ -193,7 +192,7 @@ fn play_next(
 // A bad record is named, and ends the run.
 fn told(turn: Turn, number: usize) -> Turn {
     if let Turn::Bad = turn {
-        say(b"bad record", &[number]);
+        say_bad(number);
     }
     turn
 }

@@ -1,5 +1,4 @@
-// The lines that a trial writes, each built in a text and sent whole.
-use libc::STDOUT_FILENO;
+// The lines that a trial writes, each built in a text and sent whole. Each call answers whether its line was written.
 use phrases::add_naturals;
 use phrases::add_numbers;
 use phrases::add_patterns;
@@ -8,6 +7,8 @@ use phrases::add_word;
 use phrases::end_line;
 use phrases::length_of;
 use shape::Refusal;
+use streams::tell;
+use streams::write_output;
 
 // Room for a line of a few numbers, and for a line of all numbers of the longest list: 8,000 of up to 20 digits, and one character after each.
 const SHORT: usize = 160;
@@ -15,44 +16,55 @@ const SHORT: usize = 160;
 const LONG: usize = 168001;
 
 // Ends the line at a place of the text, and writes it.
-fn send(text: &mut [u8], at: usize) {
+fn send(text: &mut [u8], at: usize) -> bool {
     let end = end_line(text, at);
     let n = length_of(end, text);
-    io::write_all(STDOUT_FILENO, &text[..n]);
+    write_output(&text[..n])
 }
 
 // The line of a word and naturals.
-pub(crate) fn say(name: &[u8], numbers: &[usize]) {
+pub(crate) fn say(name: &[u8], numbers: &[usize]) -> bool {
     let mut text = [0u8; SHORT];
     let start = add_word(&mut text, 0, name);
     let end = add_naturals(&mut text, start, numbers);
-    send(&mut text, end);
+    send(&mut text, end)
 }
 
 // The line of a refusal.
-pub(crate) fn say_refusal(refusal: Refusal) {
-    say(b"refused", &[refusal.number, refusal.place]);
+pub(crate) fn say_refusal(refusal: Refusal) -> bool {
+    say(b"refused", &[refusal.number, refusal.place])
 }
 
 // The line of a list.
-pub(crate) fn say_numbers(numbers: &[i32]) {
+pub(crate) fn say_numbers(numbers: &[i32]) -> bool {
     let mut text = [0u8; LONG];
     let end = add_numbers(&mut text, 0, numbers);
-    send(&mut text, end);
+    send(&mut text, end)
 }
 
 // The line of a drawing state: its count, start and current, and 1 where it is closed.
-pub(crate) fn say_state(count: usize, numbers: &[i32]) {
+pub(crate) fn say_state(count: usize, numbers: &[i32]) -> bool {
     let mut text = [0u8; SHORT];
     let past_count = add_phrase(&mut text, 0, b"state", count);
     let start = add_word(&mut text, past_count, b" ");
     let end = add_numbers(&mut text, start, numbers);
-    send(&mut text, end);
+    send(&mut text, end)
 }
 
 // The line of a list of doubles.
-pub(crate) fn say_patterns(doubles: &[f64]) {
+pub(crate) fn say_patterns(doubles: &[f64]) -> bool {
     let mut text = [0u8; LONG];
     let end = add_patterns(&mut text, 0, doubles);
-    send(&mut text, end);
+    send(&mut text, end)
+}
+
+// The line of a bad record, which is told as well.
+pub(crate) fn say_bad(number: usize) {
+    let mut text = [0u8; SHORT];
+    let past_number = add_phrase(&mut text, 0, b"bad record", number);
+    let end = end_line(&mut text, past_number);
+    let n = length_of(end, &text);
+    if write_output(&text[..n]) {
+        tell(&text[..n]);
+    }
 }
