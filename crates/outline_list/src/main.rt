@@ -1,10 +1,10 @@
 // Reads one record file on standard input, and writes its listing on standard output.
+use console::Input;
+use console::read_input;
+use console::tell;
+use console::write_output;
 use file_list::MOST_TEXT;
 use file_list::list_file;
-use streams::Input;
-use streams::read_input;
-use streams::tell;
-use streams::write_output;
 
 // One byte more than the longest file has, so that a longer one is seen.
 const MOST_BYTES: usize = 769;

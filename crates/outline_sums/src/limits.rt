@@ -4,9 +4,9 @@ use crate::outlines::BEZIER;
 use crate::outlines::ROOM;
 use crate::outlines::put_drawn;
 use crate::outlines::put_outline;
-use phrases::add_phrase;
-use phrases::add_word;
-use phrases::end_line;
+use console::add_phrase;
+use console::add_word;
+use console::end_line;
 
 // Depth 6 and 7; 64 records, 5 and 2^32; a coordinate of 4,000,000 and one more.
 pub(crate) fn put_limits(text: &mut Text, at: usize) -> usize {

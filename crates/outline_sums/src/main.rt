@@ -4,8 +4,8 @@ mod edits;
 mod limits;
 mod outlines;
 
-use phrases::length_of;
-use streams::write_output;
+use console::length_of;
+use console::write_output;
 
 // The text of the sums: as many bytes as a buffer has.
 pub(crate) type Text = [u8; 4096];

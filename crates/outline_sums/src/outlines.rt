@@ -1,13 +1,13 @@
 // The line of an outline's sum: what is drawn, and its points or its refusal. A sum is over one axis: records stand as x then y, and every y is 0.
 ghost use Prim.Native.Nat.{_<_};
 use crate::Text;
+use console::add_phrase;
+use console::add_spaced_natural;
+use console::add_word;
+use console::add_x;
+use console::end_line;
 use outline::Drawn;
 use outline::by_weights;
-use phrases::add_phrase;
-use phrases::add_spaced_natural;
-use phrases::add_word;
-use phrases::add_x;
-use phrases::end_line;
 use shape::Shape;
 
 // The bases by their numbers.

@@ -1,10 +1,15 @@
 // The records that call the library, on the lent parts of the lists, and write what it answers.
+use crate::bench::Bench;
+use crate::bench::Turn;
+use crate::record::Placed;
+use crate::record::Record;
+use crate::record::control;
+use crate::record::step_of;
 use crate::text::say;
 use crate::text::say_numbers;
 use crate::text::say_refusal;
 use crate::text::say_state;
-use bench::Bench;
-use bench::Turn;
+use console::write_output;
 use drawing::Control;
 use drawing::State;
 use drawing::Stepped;
@@ -15,11 +20,6 @@ use outline::Drawn;
 use preview::Previewed;
 use record_file::Reading;
 use shape::Shape;
-use streams::write_output;
-use trial_record::Placed;
-use trial_record::Record;
-use trial_record::control;
-use trial_record::step_of;
 
 // A place is below 2^63.
 const HALF: u64 = 9223372036854775808;

@@ -1,23 +1,26 @@
 // Plays a trials file from standard input: records of 56 bytes, one after the other, each a call of the library, and writes what the calls answer.
 ghost use Prim.Native.Nat.{_≤_};
 
+mod bench;
 mod calls;
+mod record;
+mod setting;
 mod text;
 
 use bench::Bench;
 use bench::Turn;
-use bench::lend;
-use bench::more_file;
-use bench::set_bench;
-use bench::set_number;
 use calls::go_on;
-use streams::Input;
-use streams::read_input;
+use console::Input;
+use console::read_input;
+use record::Record;
+use record::decoded;
+use setting::lend;
+use setting::more_file;
+use setting::set_bench;
+use setting::set_number;
 use text::say_bad;
 use text::say_numbers;
 use text::say_patterns;
-use trial_record::Record;
-use trial_record::decoded;
 
 // The bytes of a record.
 const RECORD: usize = 56;

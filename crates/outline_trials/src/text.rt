@@ -1,14 +1,14 @@
 // The lines that a trial writes, each built in a text and sent whole. Each call answers whether its line was written.
-use phrases::add_naturals;
-use phrases::add_numbers;
-use phrases::add_patterns;
-use phrases::add_phrase;
-use phrases::add_word;
-use phrases::end_line;
-use phrases::length_of;
+use console::add_naturals;
+use console::add_numbers;
+use console::add_patterns;
+use console::add_phrase;
+use console::add_word;
+use console::end_line;
+use console::length_of;
+use console::tell;
+use console::write_output;
 use shape::Refusal;
-use streams::tell;
-use streams::write_output;
 
 // Room for a line of a few numbers, and for a line of all numbers of the longest list: 8,000 of up to 20 digits, and one character after each.
 const SHORT: usize = 160;

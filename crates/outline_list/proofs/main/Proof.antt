@@ -2,8 +2,8 @@
 use mathlib.Core.Path.{subst}
 use borrow.Author.Needs.{needs}
 use Rattle.io.specs.Counts.{Counts}
-use Rattle.streams.specs.declared.Input.{Input}
-use Rattle.streams.specs.Input.{Taken}
+use Rattle.console.specs.declared.input.Input.{Input}
+use Rattle.console.specs.Input.{Taken}
 use Rattle.outline_list.proofs.main.Statement.{statement}
 use Rattle.outline_list.proofs.main.Tie as tie
 

@@ -1,0 +1,17 @@
+// Standard output, and the line on standard error that says how a run ended.
+use libc::STDERR_FILENO;
+use libc::STDOUT_FILENO;
+
+// Writes all of a text, and answers whether that was done.
+pub fn write_output(text: &[u8]) -> bool {
+    let done = io::write_all(STDOUT_FILENO, text);
+    if !done {
+        os::fail(b"writing");
+    }
+    done
+}
+
+// Says on standard error how the run ended, for the script that runs the program.
+pub fn tell(text: &[u8]) {
+    io::write_all(STDERR_FILENO, text);
+}
