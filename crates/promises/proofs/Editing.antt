@@ -13,7 +13,7 @@ use Rattle.shape.specs.Refusals.{planOf}
 use Rattle.spans.specs.Numbers.{perSpan}
 use Rattle.outline.specs.Outline.{points}
 use Rattle.asked.specs.declared.Edit.{Edit}
-use Rattle.asked.specs.Edits.{countAfter, spansAfter, offered, asked, firstFresh, pastFresh, carriedFrom, isFresh, pointAt}
+use Rattle.asked.specs.Edits.{countAfter, spansAfter, offered, asked, firstFresh, pastFresh, runOf, carriedFrom, isFresh, pointAt}
 use Rattle.edit.proofs.Worked.{fresh-at, stays-at, carried-at}
 use Rattle.sequences.specs.Named.{Touched, Named}
 use Rattle.sequences.specs.Played.{State, Call, Outlined, played}
@@ -43,17 +43,16 @@ named-exactly e b j m s o h = (touched-named e b j m s o h, named-touched e b j 
 
 -- Number i of the m spans that an edit leaves: `controls` are those that it leaves, and `lent` is whatever stood in the lent points.
 module _ (e : Edit) (b : Basis) (k j m : ℕ) (controls lent : List ℤ) (some : 1 ≤ m) (room : m * perSpan k + 2 ≤ length lent) (i : ℕ) where
-  -- from the first named span's start to the last one's end, both included, it is the published curve's
-  pub fresh-points : firstFresh e b j < pastFresh e b j m → firstFresh e b j * perSpan k ≤ i → i < pastFresh e b j m * perSpan k + 2
-      → pointAt e b k j m controls lent i ≡ publishedNumber b k m controls i
-  fresh-points some-named low high = fresh-at e b k j m controls lent some room i some-named low high ∙ number-published b k m controls i
+  -- from the start of the run's first span to the end of its last, both included, it is the published curve's
+  pub fresh-points : isFresh (runOf e b j m) k i ≡ true → pointAt e b k j m controls lent i ≡ publishedNumber b k m controls i
+  fresh-points fresh = fresh-at e b k j m controls lent some room i fresh ∙ number-published b k m controls i
 
   -- of an earlier span it stays
-  pub kept-points : isFresh e b k j m i ≡ false → min (i / perSpan k) (m - 1) < firstFresh e b j → pointAt e b k j m controls lent i ≡ getD lent i (pos 0)
+  pub kept-points : isFresh (runOf e b j m) k i ≡ false → min (i / perSpan k) (m - 1) < firstFresh e b j → pointAt e b k j m controls lent i ≡ getD lent i (pos 0)
   kept-points = stays-at e b k j m controls lent some room i
 
   -- of a later one it stays (move) or is carried by one span (insert, remove)
-  pub carried-points : isFresh e b k j m i ≡ false → firstFresh e b j ≤ min (i / perSpan k) (m - 1) → pointAt e b k j m controls lent i ≡ getD lent (carriedFrom e (perSpan k) i) (pos 0)
+  pub carried-points : isFresh (runOf e b j m) k i ≡ false → pastFresh e b j m ≤ min (i / perSpan k) (m - 1) → pointAt e b k j m controls lent i ≡ getD lent (carriedFrom e (perSpan k) i) (pos 0)
   carried-points = carried-at e b k j m controls lent some room i
 
 -- ---- why the spans that are not named need no work

@@ -25,9 +25,10 @@ use Rattle.spans.proofs.Filled.{in-filled}
 use Rattle.spans.proofs.Numbers.{located}
 use Rattle.asked.specs.declared.Edit.{Edit}
 use Rattle.asked.specs.declared.Edit.the-variants.{Move, Insert, Remove}
-use Rattle.asked.specs.Edits.{countAfter, spansAfter, offered, inRange, controlAt, asked, firstFresh, pastFresh, carriedFrom, isFresh, pointAt}
+use Rattle.asked.specs.Edits.{countAfter, spansAfter, offered, inRange, controlAt, asked, firstFresh, pastFresh, runOf, carriedFrom, isFresh, pointAt}
 use Rattle.asked.proofs.Controls.{Beyond, control-before, control-beyond}
-use Rattle.edit.proofs.Worked.{fewer-numbers, fresh-facts, fresh-at, stays-at, carried-at}
+use Rattle.asked.proofs.Run.{bounds-fresh}
+use Rattle.edit.proofs.Worked.{fewer-numbers, fresh-at, stays-at, carried-at}
 use Rattle.edit.proofs.Rows.{records-then}
 
 -- ---- the records of the new controls, by what each of their numbers is
@@ -249,14 +250,10 @@ module _ (e : Edit) (b : Basis) (k j m : ℕ) (old : List ℤ) (o : offered e b 
       let i = q / 2 - s * 2 ^ k in
       (within, same-number b k m' m' now old q q s s i span-is step span-is step refl (records-stay e b j m old o some fits s (q % 2) exists two first) ∙ stays-same e b k m old q some left h within)
 
-  is-fresh : a < z → a * w ≤ q → q < z * w + 2 → isFresh e b k j m' q ≡ true
-  unfolding isFresh
-  is-fresh first low high = simp (lt-ltb a z first, le-leb (a * w) q low, lt-ltb q (z * w + 2) high)
-
   -- a number that is not fresh, and not of an earlier span, is of a later one
-  later : isFresh e b k j m' q ≡ false → a ≤ s → z ≤ s
+  later : isFresh (runOf e b j m') k q ≡ false → a ≤ s → z ≤ s
   later stale from =
-      ⊎-elim (λ (g : s < z). absurd (true-is-not-false (is-fresh (omega arith) low (high g)) stale)) (λ (g : z ≤ s). g) (either s z)
+      ⊎-elim (λ (g : s < z). absurd (true-is-not-false (bounds-fresh e b j m' k q (omega arith) low (high g)) stale)) (λ (g : z ≤ s). g) (either s z)
     where
       low : a * w ≤ q
       low = le-div-iff-mul-le {k = w} {x = a} {y = q} wide .0 (omega (arith, min-le-left (q / w) (m' - 1)))
@@ -268,7 +265,7 @@ module _ (e : Edit) (b : Basis) (k j m : ℕ) (old : List ℤ) (o : offered e b 
           (either (q / w) z)
 
   -- A number of a later span is the old outline's, at the place that it is carried from.
-  pub number-carried : isFresh e b k j m' q ≡ false → a ≤ s → (carriedFrom e w q < m * w + 2) × (number b k m' now q ≡ number b k m old (carriedFrom e w q))
+  pub number-carried : isFresh (runOf e b j m') k q ≡ false → a ≤ s → (carriedFrom e w q < m * w + 2) × (number b k m' now q ≡ number b k m old (carriedFrom e w q))
   number-carried stale from =
       let past = later stale from in
       let i = q / 2 - s * 2 ^ k in
@@ -278,9 +275,9 @@ module _ (e : Edit) (b : Basis) (k j m : ℕ) (old : List ℤ) (o : offered e b 
   -- So where the lent points are the old outline, what the edit leaves at q is the new outline's number.
   pub point-drawn : (lent : List ℤ) → m' * w + 2 ≤ length lent → ((i : ℕ) → i < m * w + 2 → getD lent i (pos 0) ≡ number b k m old i) → pointAt e b k j m' now lent q ≡ number b k m' now q
   point-drawn lent room held =
-      ⊎-elim (λ t. let (first, low, high) = fresh-facts e b k j m' now lent left room q t in fresh-at e b k j m' now lent left room q first low high)
+      ⊎-elim (fresh-at e b k j m' now lent left room q)
       (λ stale.
       ⊎-elim (λ first. let (within, same) = number-stays first in stays-at e b k j m' now lent left room q stale first ∙ held q within ∙ sym same)
-      (λ from. let (within, same) = number-carried stale from in carried-at e b k j m' now lent left room q stale from ∙ held (carriedFrom e w q) within ∙ sym same)
+      (λ from. let (within, same) = number-carried stale from in carried-at e b k j m' now lent left room q stale (later stale from) ∙ held (carriedFrom e w q) within ∙ sym same)
       (either s a))
-      (passes (isFresh e b k j m' q))
+      (passes (isFresh (runOf e b j m') k q))
