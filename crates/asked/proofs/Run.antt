@@ -1,7 +1,8 @@
 -- The run of an edit: where its first span is before its end it is from the one to the other, else both of its numbers are 0; and it lies among the spans of the new
 -- shape, around the place.
 use mathlib.Core.Path.{_≡_, refl, ap}
-use mathlib.Core.Bool.{true, cond, _&&_}
+use mathlib.Core.Bool.{Bool, true, false, cond, _&&_}
+use mathlib.Core.Logic.{⊎-elim, _↔_}
 use Prim.Native.Nat.{ℕ, _+_, _*_, _-_, _≤_, _<_}
 use native.Mathlib.Nat.{min-le-right}
 use native.Mathlib.Omega.{arith}
@@ -9,11 +10,15 @@ use borrow.Author.Tests.{ltb-true, leb-true, lt-ltb, le-ltb, le-leb}
 use lib.Dec.{leb, ltb}
 use Rattle.curve.specs.declared.Basis.{Basis}
 use Rattle.curve.specs.declared.Basis.the-variants.{Bezier, BSpline, Cardinal, Hermite}
-use Rattle.shape.proofs.Tests.{and-true}
+use Rattle.shape.proofs.Tests.{either, and-true}
 use Rattle.spans.specs.Numbers.{perSpan}
 use Rattle.asked.specs.declared.Edit.{Edit}
 use Rattle.asked.specs.declared.Edit.the-variants.{Move, Insert, Remove}
-use Rattle.asked.specs.Edits.{Run, firstUsing, lastUsing, firstFresh, pastFresh, runOf, isFresh}
+use Rattle.asked.specs.Edits.{Run, firstUsing, lastUsing, firstFresh, pastFresh, runOf, carriedFrom, isFresh}
+
+cond-same : {A : Type 0} (t : Bool) (z : A) → cond t z z ≡ z
+cond-same true z = refl
+cond-same false z = refl
 
 -- ---- its two numbers
 
@@ -22,13 +27,20 @@ module _ (e : Edit) (b : Basis) (j m : ℕ) where
   unfolding runOf
   run-count = refl
 
-  pub run-first : firstFresh e b j < pastFresh e b j m → runOf e b j m .first ≡ firstFresh e b j
+  run-first : firstFresh e b j < pastFresh e b j m → runOf e b j m .first ≡ firstFresh e b j
   unfolding runOf
   run-first h = ap (λ t. cond t (firstFresh e b j) 0) (lt-ltb (firstFresh e b j) (pastFresh e b j m) h)
 
   pub run-nought : pastFresh e b j m ≤ firstFresh e b j → runOf e b j m .first ≡ 0
   unfolding runOf
   run-nought h = ap (λ t. cond t (firstFresh e b j) 0) (le-ltb (firstFresh e b j) (pastFresh e b j m) h)
+
+  -- so its spans are those from the one bound up to the other
+  pub run-spans : (t : ℕ) → ((runOf e b j m .first ≤ t) × (t < runOf e b j m .first + runOf e b j m .count)) ↔ ((firstFresh e b j ≤ t) × (t < pastFresh e b j m))
+  run-spans t =
+      ⊎-elim (λ h. ((λ (low, high). (omega (arith, run-first h), omega (arith, run-first h, run-count))), (λ (low, high). (omega (arith, run-first h), omega (arith, run-first h, run-count)))))
+      (λ h. ((λ (low, high). absurd (omega (arith, run-count))), (λ (low, high). absurd (omega arith))))
+      (either (firstFresh e b j) (pastFresh e b j m))
 
 -- ---- where it lies
 
@@ -56,6 +68,13 @@ pub none-first : (e : Edit) (b : Basis) (j m : ℕ) → pastFresh e b j m ≤ fi
 none-first (Move x y) b j m h k = absurd (omega (arith, first-below b j .0))
 none-first (Insert x y) b j m h k = absurd (omega arith)
 none-first Remove b j m h k = omega arith
+
+-- a span past it is not before the place, or the edit is a move, which carries nothing
+pub later-carried : {A : Type 0} (e : Edit) (b : Basis) (j m t w q : ℕ) (f : ℕ → A) → t < m → pastFresh e b j m ≤ t
+    → cond (ltb t j) (f q) (f (carriedFrom e w q)) ≡ f (carriedFrom e w q)
+later-carried (Move x y) b j m t w q f h past = cond-same (ltb t j) (f q)
+later-carried (Insert x y) b j m t w q f h past = ap (λ v. cond v (f q) (f (q - w))) (le-ltb t j (omega arith))
+later-carried Remove b j m t w q f h past = ap (λ v. cond v (f q) (f (q + w))) (le-ltb t j (omega arith))
 
 -- ---- fresh numbers
 

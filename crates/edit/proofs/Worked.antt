@@ -1,7 +1,7 @@
 -- The numbers past the fresh spans carried and the fresh spans worked leave every point as the reading has it.
-use mathlib.Core.Path.{_≡_, refl, sym, ap, _∙_}
-use mathlib.Core.Bool.{Bool, true, false, cond}
-use mathlib.Core.Logic.{_⊎_, ⊎-elim}
+use mathlib.Core.Path.{_≡_, sym, ap, _∙_}
+use mathlib.Core.Bool.{true, false, cond}
+use mathlib.Core.Logic.{⊎-elim}
 use mathlib.Core.List.{List}
 use Prim.Native.Nat.{ℕ, suc, _+_, _*_, _-_, _/_, _%_, _^_, min, _≤_, _<_}
 use native.Mathlib.Nat.{add-mul, mul-le-mul-right, div-lt-iff-lt-mul, le-div-iff-mul-le, min-eq-left, min-le-left, min-le-right, zero-mul}
@@ -20,9 +20,8 @@ use Rattle.spans.specs.Numbers.{number, perSpan, filled}
 use Rattle.spans.proofs.Filled.{length-filled, in-filled, before-filled, past-filled, none-filled, is-filled}
 use Rattle.spans.proofs.Numbers.{per-span, located, end-number}
 use Rattle.asked.specs.declared.Edit.{Edit}
-use Rattle.asked.specs.declared.Edit.the-variants.{Move, Insert, Remove}
 use Rattle.asked.specs.Edits.{Run, firstFresh, pastFresh, runOf, carriedFrom, isFresh, pointAt}
-use Rattle.asked.proofs.Run.{past-most, first-place, none-first, fresh-bounds, bounds-fresh}
+use Rattle.asked.proofs.Run.{past-most, first-place, none-first, later-carried, fresh-bounds, bounds-fresh}
 use Rattle.edit.specs.Carried.{runLength}
 
 -- ---- runs of spans
@@ -75,19 +74,6 @@ fewer-numbers b k e m c i some most within =
         ∙ sym (located b k m c q e 0 span half)
         ∙ ap (number b k m c) at
 
--- ---- a number that is not fresh
-
-cond-same : (t : Bool) (z : ℤ) → cond t z z ≡ z
-cond-same true z = refl
-cond-same false z = refl
-
--- of a span past the run it is carried: such a span is not before the place, or the edit is a move
-later-carried : (ed : Edit) (b : Basis) (j m s w q : ℕ) (lent : List ℤ) → s < m → pastFresh ed b j m ≤ s
-    → cond (ltb s j) (getD lent q (pos 0)) (getD lent (carriedFrom ed w q) (pos 0)) ≡ getD lent (carriedFrom ed w q) (pos 0)
-later-carried (Move x y) b j m s w q lent h past = cond-same (ltb s j) (getD lent q (pos 0))
-later-carried (Insert x y) b j m s w q lent h past = ap (λ t. cond t (getD lent q (pos 0)) (getD lent (q - w) (pos 0))) (le-ltb s j (omega arith))
-later-carried Remove b j m s w q lent h past = ap (λ t. cond t (getD lent q (pos 0)) (getD lent (q + w) (pos 0))) (le-ltb s j (omega arith))
-
 -- ---- the points of an edit
 
 module _ (ed : Edit) (b : Basis) (k j m : ℕ) (c lent : List ℤ) (some : 1 ≤ m) (room : m * perSpan k + 2 ≤ length lent) where
@@ -123,7 +109,7 @@ module _ (ed : Edit) (b : Basis) (k j m : ℕ) (c lent : List ℤ) (some : 1 ≤
   fresh-at i fresh = ap (λ t. cond t (number b k m c i) (cond (ltb (span i) j) (getD lent i (pos 0)) (carried i))) fresh
 
   -- the number of a span before the place
-  pub early-at : (i : ℕ) → isFresh run k i ≡ false → span i < j → wanted i ≡ getD lent i (pos 0)
+  early-at : (i : ℕ) → isFresh run k i ≡ false → span i < j → wanted i ≡ getD lent i (pos 0)
   unfolding pointAt
   early-at i stale h =
       ap (λ t. cond t (number b k m c i) (cond (ltb (span i) j) (getD lent i (pos 0)) (carried i))) stale
@@ -138,7 +124,7 @@ module _ (ed : Edit) (b : Basis) (k j m : ℕ) (c lent : List ℤ) (some : 1 ≤
   unfolding pointAt
   carried-at i stale h =
       ap (λ t. cond t (number b k m c i) (cond (ltb (span i) j) (getD lent i (pos 0)) (carried i))) stale
-      ∙ later-carried ed b j m (span i) w i lent (omega (arith, min-le-right (i / w) (m - 1))) h
+      ∙ later-carried ed b j m (span i) w i (λ (q : ℕ). getD lent q (pos 0)) (omega (arith, min-le-right (i / w) (m - 1))) h
 
   abbrev moved : List ℤ
   moved = filled carried (e * w) (runLength e m w) lent

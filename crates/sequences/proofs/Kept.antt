@@ -8,7 +8,7 @@ use Prim.Native.Nat.{ℕ, suc, _+_, _*_, _-_, _/_, _%_, _^_, min, _≤_, _<_}
 use native.Mathlib.Nat.{add-zero, suc-mul, add-div-right, div-div-eq-div-mul, div-lt-iff-lt-mul, le-div-iff-mul-le, mul-le-mul-right, min-le-left, min-le-right}
 use native.Mathlib.Numerals.{add-one}
 use native.Mathlib.Omega.{arith}
-use borrow.Author.Tests.{leb-true, lt-ltb, le-leb}
+use borrow.Author.Tests.{leb-true}
 use lib.Dec.{lit<}
 use lib.IntN.{ℤ, pos}
 use lib.ListN.{getD, length}

@@ -1,5 +1,6 @@
-pub mod Named
+pub mod Touched
 pub mod Kept
+pub mod Answered
 pub mod Redrawn
 pub mod Played
 pub mod Again

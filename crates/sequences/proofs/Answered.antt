@@ -1,0 +1,274 @@
+-- An edit in terms of its answer: from an outcome that is done, for any contents of the lent points. The reading of an edit that no row refuses has each fact, and what was
+-- answered is that reading.
+use mathlib.Core.Path.{_≡_, refl, sym, ap, _∙_, subst}
+use mathlib.Core.Bool.{false, cond}
+use mathlib.Core.Logic.{⊎-elim, _⊎_, inl, inr, _↔_}
+use mathlib.Core.List.{List}
+use Prim.Native.Nat.{ℕ, _+_, _*_, _-_, _/_, _^_, min, _≤_, _<_}
+use native.Mathlib.Nat.{mul-le-mul-right, div-lt-iff-lt-mul, le-div-iff-mul-le, div-mul-le-self, lt-div-mul-add, min-le-left, min-le-right}
+use native.Mathlib.Omega.{arith}
+use borrow.Author.Tests.{lt-ltb}
+use lib.IntN.{ℤ, pos}
+use lib.ListN.{getD, length}
+use lib.Pow.{pow-pos}
+use Rattle.curve.specs.declared.Basis.{Basis}
+use Rattle.curve.specs.Span.{coordinate, records}
+use Rattle.shape.specs.declared.Shape.{Shape}
+use Rattle.shape.specs.declared.Plan.{Plan}
+use Rattle.shape.specs.Shape.{recordsOf}
+use Rattle.shape.specs.Refusals.{NoRow, planOf}
+use Rattle.shape.proofs.Tests.{passes, either, true-is-not-false}
+use Rattle.spans.specs.Numbers.{perSpan}
+use Rattle.spans.proofs.Filled.{length-filled, in-filled, past-filled}
+use Rattle.spans.proofs.Numbers.{per-span}
+use Rattle.outline.specs.Outline.{numbers, points}
+use Rattle.outline.proofs.Draws.{all-numbers}
+use Rattle.asked.specs.declared.Edit.{Edit}
+use Rattle.asked.specs.declared.Edit.the-variants.{Move, Insert, Remove}
+use Rattle.asked.specs.Edits.{Run, countAfter, controlAt, asked, firstFresh, pastFresh, runOf, carriedFrom, isFresh, pointAt}
+use Rattle.asked.proofs.Run.{run-spans, first-place, none-first, later-carried}
+use Rattle.edit.specs.declared.Change.{Change}
+use Rattle.edit.specs.declared.Edited.the-variants.{Done}
+use Rattle.edit.specs.Reading.{Outcome, outcome, shapeAfter, planAfter, change, controlsAfter, pointsAfter, edits}
+use Rattle.edit.specs.Ready.{Editable, Workable}
+use Rattle.edit.proofs.Exactly.{callRows, done-none, none-done}
+use Rattle.edit.proofs.Passed.{may-edit, same-plan, room-fine}
+use Rattle.edit.proofs.Rows.{new-room, workable}
+use Rattle.edit.proofs.Worked.{fresh-at, stays-at, carried-at}
+use Rattle.sequences.specs.Touched.{Touched, InRun, Among, Fresh, oldSpan}
+use Rattle.sequences.proofs.Touched.{run-touched, nought-touched, held-fresh, next-span}
+use Rattle.sequences.proofs.Kept.{records-stay, records-carried}
+
+-- ---- the old span that a span holds
+
+-- before the run it is the span itself
+old-early : (e : Edit) (b : Basis) (j t : ℕ) → t < firstFresh e b j → oldSpan e j t ≡ t
+old-early e b j t h = ap (λ v. cond v t (carriedFrom e 1 t)) (lt-ltb t j (omega (arith, first-place e b j)))
+
+-- past it, the one that it is carried from
+old-later : (e : Edit) (b : Basis) (j m t : ℕ) → t < m → pastFresh e b j m ≤ t → oldSpan e j t ≡ carriedFrom e 1 t
+old-later e b j m t h past = later-carried e b j m t 1 t (λ (n : ℕ). n) h past
+
+-- number i of a span that is carried comes from number i of that one
+carried-number : (e : Edit) (b : Basis) (j m t w i : ℕ) → t < m → pastFresh e b j m ≤ t → carriedFrom e w (t * w + i) ≡ carriedFrom e 1 t * w + i
+carried-number (Move x y) b j m t w i h past = refl
+carried-number (Insert x y) b j m t w i h past =
+    let one : t - 1 + 1 ≡ t = omega arith in
+    omega (arith, next-span (t - 1) w, ap (λ (n : ℕ). n * w) one)
+carried-number Remove b j m t w i h past = omega (arith, next-span t w)
+
+-- ---- the points of the m spans that an edit leaves, with `lent` whatever stood there
+
+module _ (e : Edit) (b : Basis) (k j m : ℕ) (c lent : List ℤ) (some : 1 ≤ m) (room : m * perSpan k + 2 ≤ length lent) where
+  abbrev w : ℕ
+  w = perSpan k
+
+  abbrev a : ℕ
+  a = firstFresh e b j
+
+  abbrev z : ℕ
+  z = pastFresh e b j m
+
+  abbrev run : Run
+  run = runOf e b j m
+
+  -- the span that a number belongs to has it among its points
+  module _ (q : ℕ) (h : q < m * w + 2) where
+    abbrev owner : ℕ
+    owner = min (q / w) (m - 1)
+
+    wide : 0 < w
+    wide = omega (arith, pow-pos k)
+
+    owns : Among k owner q
+    owns =
+        let start : owner * w ≤ q = omega (arith, mul-le-mul-right {m = owner} {n = q / w} w (min-le-left (q / w) (m - 1)), div-mul-le-self q w) in
+        let end : q < (owner + 1) * w + 2 =
+        ⊎-elim (λ (g : q / w < m). let is : owner ≡ q / w = omega arith in omega (arith, next-span owner w, ap (λ (n : ℕ). n * w) is, lt-div-mul-add {a = q} {b = w} wide))
+        (λ (g : m ≤ q / w). let is : owner + 1 ≡ m = omega arith in omega (arith, ap (λ (n : ℕ). n * w) is))
+        (either (q / w) m) in
+        (omega (arith, per-span owner k), omega (arith, per-span (owner + 1) k))
+
+  -- a span that has a number which is not fresh among its points is before the run or past it
+  outside-run : (q : ℕ) → isFresh run k q ≡ false → (u : ℕ) → Among k u q → (u < a) ⊎ (z ≤ u)
+  outside-run q stale u among =
+      ⊎-elim (λ (l : u < a). inl l)
+      (λ (l : a ≤ u). ⊎-elim (λ (g : u < z). absurd (true-is-not-false (held-fresh run k q .0 (u, run-spans e b j m u .1 (l, g), among)) stale)) (λ (g : z ≤ u). inr g) (either u z))
+      (either u a)
+
+  -- number i of span t, where it is not fresh
+  module _ (t i : ℕ) (h : t < m) (few : i < w + 2) (stale : isFresh run k (t * w + i) ≡ false) where
+    abbrev q : ℕ
+    q = t * w + i
+
+    within : q < m * w + 2
+    within = omega (arith, next-span t w, mul-le-mul-right {m = t + 1} {n = m} w (omega arith))
+
+    -- its span is t, or the next one where it is their joint
+    abbrev o : ℕ
+    o = owner q within
+
+    from : t ≤ o
+    from = let low : t ≤ q / w = le-div-iff-mul-le {k = w} {x = t} {y = q} (wide q within) .1 (omega arith) in omega arith
+
+    to : o ≤ t + 1
+    to =
+        let high : q / w < t + 1 + 1 = div-lt-iff-lt-mul {k = w} {x = q} {y = t + 1 + 1} (wide q within) .1 (omega (arith, next-span t w, next-span (t + 1) w, pow-pos k)) in
+        omega (arith, min-le-left (q / w) (m - 1))
+
+    abbrev Comes : Type 0
+    Comes = pointAt e b k j m c lent q ≡ getD lent (oldSpan e j t * w + i) (pos 0)
+
+    early : t < a → Comes
+    early first =
+        ⊎-elim (λ (g : o < a). stays-at e b k j m c lent some room q stale g)
+        (λ (g : z ≤ o). absurd (omega (arith, to, none-first e b j m (omega (arith, to)) (omega (arith, min-le-right (q / w) (m - 1))))))
+        (outside-run q stale o (owns q within))
+        ∙ ap (λ (n : ℕ). getD lent (n * w + i) (pos 0)) (sym (old-early e b j t first))
+
+    later : z ≤ t → Comes
+    later past =
+        carried-at e b k j m c lent some room q stale (omega (arith, from))
+        ∙ ap (λ (n : ℕ). getD lent n (pos 0)) (carried-number e b j m t w i h past)
+        ∙ ap (λ (n : ℕ). getD lent (n * w + i) (pos 0)) (sym (old-later e b j m t h past))
+
+    -- it is number i of the old span
+    pub stale-at : Comes
+    stale-at = ⊎-elim early later (outside-run q stale t (omega (arith, per-span t k), omega (arith, per-span (t + 1) k, next-span t w)))
+
+-- ---- from an outcome that is done
+
+done-same : (c d : Change) → Done c ≡ Done d → c ≡ d
+done-same c d h = cc
+
+module _ (e : Edit) (s : Shape) (j : ℕ) (controls lent : List ℤ) (c : Change) (new held : List ℤ) (done : edits e s j controls lent ≡ outcome (Done c) new held) where
+  abbrev before : Plan
+  before = planOf s
+
+  abbrev after : Plan
+  after = planAfter e before
+
+  none : NoRow (callRows e s j controls lent)
+  none = done-none e s j controls lent c new held done
+
+  allowed : Editable e s before j
+  allowed = may-edit e s j controls lent none
+
+  ready : Workable e s after j controls (length lent)
+  ready = workable e s before j allowed controls (length lent) (room-fine e s j controls lent none)
+
+  -- A fact of the reading is one of what was answered.
+  by-answer : (P : Change → Plan → List ℤ → List ℤ → Type 0)
+      → P (change e s (after .basis) j (after .spans)) after (controlsAfter e s j controls) (pointsAfter e s after j controls lent) → P c (planOf (c .shape)) new held
+  by-answer P fact =
+      let q = planOf (shapeAfter e s) in
+      let is : _≡_ {A = Outcome} _ (outcome (Done c) new held) = sym (none-done e s j controls lent none) ∙ done in
+      let same = done-same (change e s (q .basis) j (q .spans)) c (ap (λ (o : Outcome). o .answer) is) in
+      subst (λ l. P c (planOf (c .shape)) new l) (ap (λ (o : Outcome). o .held) is)
+      (subst (λ l. P c (planOf (c .shape)) l (pointsAfter e s q j controls lent)) (ap (λ (o : Outcome). o .controls) is)
+      (subst (λ d. P d (planOf (d .shape)) (controlsAfter e s j controls) (pointsAfter e s q j controls lent)) same
+      (subst (λ r. P (change e s (r .basis) j (r .spans)) r (controlsAfter e s j controls) (pointsAfter e s r j controls lent)) (sym (same-plan e s j controls lent none)) fact)))
+
+  -- the run is of the spans of the new shape that are touched
+  pub answered-run : (t : ℕ) → InRun c t ↔ ((t < planOf (c .shape) .spans) × Touched e (planOf (c .shape) .basis) j t)
+  answered-run = by-answer (λ d p _ _. (t : ℕ) → InRun d t ↔ ((t < p .spans) × Touched e (p .basis) j t)) (run-touched e (after .basis) j (after .spans) (allowed .offered))
+
+  pub answered-nought : ((c .first ≡ 0) × (c .fresh ≡ 0)) ↔ ((t : ℕ) → t < planOf (c .shape) .spans → Touched e (planOf (c .shape) .basis) j t → ⊥)
+  answered-nought =
+      by-answer (λ d p _ _. ((d .first ≡ 0) × (d .fresh ≡ 0)) ↔ ((t : ℕ) → t < p .spans → Touched e (p .basis) j t → ⊥)) (nought-touched e (after .basis) j (after .spans) (allowed .offered))
+
+  -- ---- the points
+
+  abbrev b : Basis
+  b = after .basis
+
+  abbrev k : ℕ
+  k = after .depth
+
+  abbrev m : ℕ
+  m = after .spans
+
+  abbrev asks : List ℤ
+  asks = controlsAfter e s j controls
+
+  abbrev left : List ℤ
+  left = pointsAfter e s after j controls lent
+
+  left-at : (q : ℕ) → q < m * perSpan k + 2 → getD left q (pos 0) ≡ pointAt e b k j m asks lent q
+  left-at q h = in-filled (pointAt e b k j m asks lent) 0 (2 * points after) lent q (omega arith) (omega (arith, all-numbers k m)) (omega (arith, all-numbers k m, ready .points-room))
+
+  left-fresh : (q : ℕ) → Fresh (change e s b j m) k q → getD left q (pos 0) ≡ numbers after asks q
+  left-fresh q fresh =
+      let t = fresh .0 in
+      let here = run-touched e b j m (allowed .offered) t .0 (fresh .1) .0 in
+      let within : q < m * perSpan k + 2 = omega (arith, fresh .2 .1, per-span m k, mul-le-mul-right {m = t + 1} {n = m} (2 ^ k) (omega (arith, here))) in
+      left-at q within ∙ fresh-at e b k j m asks lent (ready .good .spans-least) (ready .points-room) q (held-fresh (runOf e b j m) k q .0 fresh)
+
+  left-other : (t i : ℕ) → t < m → i < perSpan k + 2 → (Fresh (change e s b j m) k (t * perSpan k + i) → ⊥)
+      → getD left (t * perSpan k + i) (pos 0) ≡ getD lent (oldSpan e j t * perSpan k + i) (pos 0)
+  left-other t i h few other =
+      let q = t * perSpan k + i in
+      let stale : isFresh (runOf e b j m) k q ≡ false =
+      ⊎-elim (λ fresh. absurd (other (held-fresh (runOf e b j m) k q .1 fresh))) (λ stale. stale) (passes (isFresh (runOf e b j m) k q)) in
+      left-at q (omega (arith, next-span t (perSpan k), mul-le-mul-right {m = t + 1} {n = m} (perSpan k) (omega arith)))
+      ∙ stale-at e b k j m asks lent (ready .good .spans-least) (ready .points-room) t i h few stale
+
+  -- a number that a span of the run has among its points is the outline's of the new controls
+  pub answered-fresh : (q : ℕ) → Fresh c (planOf (c .shape) .depth) q → getD held q (pos 0) ≡ numbers (planOf (c .shape)) new q
+  answered-fresh = by-answer (λ d p l points. (q : ℕ) → Fresh d (p .depth) q → getD points q (pos 0) ≡ numbers p l q) left-fresh
+
+  -- every other one is the lent one of the old span
+  pub answered-other : (t i : ℕ) → t < planOf (c .shape) .spans → i < perSpan (planOf (c .shape) .depth) + 2 → (Fresh c (planOf (c .shape) .depth) (t * perSpan (planOf (c .shape) .depth) + i) → ⊥)
+      → getD held (t * perSpan (planOf (c .shape) .depth) + i) (pos 0) ≡ getD lent (oldSpan e j t * perSpan (planOf (c .shape) .depth) + i) (pos 0)
+  answered-other =
+      by-answer
+      (λ d p _ l.
+      (t i : ℕ) → t < p .spans → i < perSpan (p .depth) + 2 → (Fresh d (p .depth) (t * perSpan (p .depth) + i) → ⊥)
+      → getD l (t * perSpan (p .depth) + i) (pos 0) ≡ getD lent (oldSpan e j t * perSpan (p .depth) + i) (pos 0))
+      left-other
+
+  -- ---- past the last of them
+
+  pub answered-past : (length held ≡ length lent) × ((q : ℕ) → 2 * points (planOf (c .shape)) ≤ q → getD held q (pos 0) ≡ getD lent q (pos 0))
+  answered-past =
+      by-answer (λ _ p _ l. (length l ≡ length lent) × ((q : ℕ) → 2 * points p ≤ q → getD l q (pos 0) ≡ getD lent q (pos 0)))
+      (length-filled (pointAt e b k j m asks lent) 0 (2 * points after) lent, (λ q h. past-filled (pointAt e b k j m asks lent) 0 (2 * points after) lent q (omega arith)))
+
+  pub answered-past-controls : (length new ≡ length controls) × ((q : ℕ) → 2 * c .shape .count ≤ q → getD new q (pos 0) ≡ getD controls q (pos 0))
+  unfolding asked
+  answered-past-controls =
+      let n = countAfter e (s .count) in
+      by-answer (λ d _ l _. (length l ≡ length controls) × ((q : ℕ) → 2 * d .shape .count ≤ q → getD l q (pos 0) ≡ getD controls q (pos 0)))
+      (length-filled (controlAt e j controls) 0 (2 * n) controls, (λ q h. past-filled (controlAt e j controls) 0 (2 * n) controls q (omega arith)))
+
+  -- ---- the records of the other spans
+
+  asks-other : (t axis : ℕ) → t < m → axis < 2 → (InRun (change e s b j m) t → ⊥) → records b t (coordinate asks axis) ≡ records b (oldSpan e j t) (coordinate controls axis)
+  asks-other t axis h two other = ⊎-elim early late (either t (firstFresh e b j))
+    where
+      fits : 2 * countAfter e (recordsOf b (before .spans)) ≤ length controls
+      fits = subst (λ (n : ℕ). 2 * countAfter e n ≤ length controls) (sym (allowed .good .records)) (new-room e s before j allowed controls (length lent) (room-fine e s j controls lent none))
+
+      as-asked : asked e j controls (countAfter e (recordsOf b (before .spans))) ≡ asks
+      as-asked = ap (λ (n : ℕ). asked e j controls (countAfter e n)) (allowed .good .records)
+
+      early : t < firstFresh e b j → records b t (coordinate asks axis) ≡ records b (oldSpan e j t) (coordinate controls axis)
+      early first =
+          ap (λ l. records b t (coordinate l axis)) (sym as-asked)
+          ∙ records-stay e b j (before .spans) controls (allowed .offered) (allowed .good .spans-least) fits t axis h two first
+          ∙ ap (λ (n : ℕ). records b n (coordinate controls axis)) (sym (old-early e b j t first))
+
+      late : firstFresh e b j ≤ t → records b t (coordinate asks axis) ≡ records b (oldSpan e j t) (coordinate controls axis)
+      late from =
+          let past : pastFresh e b j m ≤ t = ⊎-elim (λ (g : t < pastFresh e b j m). absurd (other (run-spans e b j m t .1 (from, g)))) (λ (g : pastFresh e b j m ≤ t). g) (either t (pastFresh e b j m)) in
+          ap (λ l. records b t (coordinate l axis)) (sym as-asked)
+          ∙ records-carried e b j (before .spans) controls (allowed .offered) (allowed .good .spans-least) fits t axis h two past
+          ∙ ap (λ (n : ℕ). records b n (coordinate controls axis)) (sym (old-later e b j m t h past))
+
+  -- a span that is not in the run has the four records of the old span
+  pub answered-records : (t axis : ℕ) → t < planOf (c .shape) .spans → axis < 2 → (InRun c t → ⊥)
+      → records (planOf (c .shape) .basis) t (coordinate new axis) ≡ records (planOf (c .shape) .basis) (oldSpan e j t) (coordinate controls axis)
+  answered-records =
+      by-answer
+      (λ d p l _. (t axis : ℕ) → t < p .spans → axis < 2 → (InRun d t → ⊥) → records (p .basis) t (coordinate l axis) ≡ records (p .basis) (oldSpan e j t) (coordinate controls axis))
+      asks-other
