@@ -13,13 +13,14 @@ use Rattle.shape.specs.Refusals.{planOf}
 use Rattle.spans.specs.Numbers.{perSpan}
 use Rattle.outline.specs.Outline.{points}
 use Rattle.asked.specs.declared.Edit.{Edit}
+use Rattle.asked.specs.Edits.{asked}
 use Rattle.edit.specs.declared.Change.{Change}
 use Rattle.edit.specs.declared.Edited.the-variants.{Done}
 use Rattle.edit.specs.Reading.{outcome, edits}
 use Rattle.sequences.specs.Touched.{Touched, InRun, Fresh, oldSpan}
 use Rattle.sequences.specs.Played.{State, Call, Outlined, played}
 use Rattle.sequences.proofs.Touched.{held-within}
-use Rattle.sequences.proofs.Answered.{answered-run, answered-nought, answered-fresh, answered-other, answered-past, answered-past-controls, answered-records}
+use Rattle.sequences.proofs.Answered.{answered-run, answered-nought, answered-fresh, answered-other, answered-past, answered-past-controls, answered-records, answered-needed}
 use Rattle.sequences.proofs.Played.{played-outlined}
 use Rattle.promises.specs.Points.{publishedNumber}
 use Rattle.promises.proofs.Points.{number-published}
@@ -80,3 +81,9 @@ module _ (e : Edit) (s : Shape) (j : ℕ) (controls lent : List ℤ) (c : Change
   -- why a span that is not in the run needs no work: it has the four records of the old span
   pub other-records : (t axis : ℕ) → t < p .spans → axis < 2 → (InRun c t → ⊥) → records (p .basis) t (coordinate new axis) ≡ records (p .basis) (oldSpan e j t) (coordinate controls axis)
   other-records = answered-records e s j controls lent c new held done
+
+  -- and why one that is in it does: no old span has its records whatever the controls hold
+  pub run-needed : (t u : ℕ) → InRun c t → u < planOf s .spans
+      → ((old : List ℤ) → length old ≡ length controls → records (p .basis) t (coordinate (asked e j old (c .shape .count)) 0) ≡ records (p .basis) u (coordinate old 0))
+      → ⊥
+  run-needed = answered-needed e s j controls lent c new held done

@@ -17,6 +17,7 @@ use Rattle.shape.specs.declared.Shape.{Shape}
 use Rattle.shape.specs.declared.Plan.{Plan}
 use Rattle.shape.specs.Shape.{recordsOf}
 use Rattle.shape.specs.Refusals.{NoRow, planOf}
+use Rattle.shape.proofs.Spans.{last-record}
 use Rattle.shape.proofs.Tests.{passes, either, true-is-not-false}
 use Rattle.spans.specs.Numbers.{perSpan}
 use Rattle.spans.proofs.Filled.{length-filled, in-filled, past-filled}
@@ -26,6 +27,7 @@ use Rattle.outline.proofs.Draws.{all-numbers}
 use Rattle.asked.specs.declared.Edit.{Edit}
 use Rattle.asked.specs.declared.Edit.the-variants.{Move, Insert, Remove}
 use Rattle.asked.specs.Edits.{Run, countAfter, controlAt, asked, firstFresh, pastFresh, runOf, carriedFrom, isFresh, pointAt}
+use Rattle.asked.specs.Ready.{Askable}
 use Rattle.asked.proofs.Run.{run-spans, first-place, none-first, later-carried}
 use Rattle.edit.specs.declared.Change.{Change}
 use Rattle.edit.specs.declared.Edited.the-variants.{Done}
@@ -38,6 +40,7 @@ use Rattle.edit.proofs.Worked.{fresh-at, stays-at, carried-at}
 use Rattle.sequences.specs.Touched.{Touched, InRun, Among, Fresh, oldSpan}
 use Rattle.sequences.proofs.Touched.{run-touched, nought-touched, held-fresh, next-span}
 use Rattle.sequences.proofs.Kept.{records-stay, records-carried}
+use Rattle.sequences.proofs.Needed.{touched-needs}
 
 -- ---- the old span that a span holds
 
@@ -137,6 +140,12 @@ module _ (e : Edit) (b : Basis) (k j m : ℕ) (c lent : List ℤ) (some : 1 ≤ 
     stale-at = ⊎-elim early later (outside-run q stale t (omega (arith, per-span t k), omega (arith, per-span (t + 1) k, next-span t w)))
 
 -- ---- from an outcome that is done
+
+-- the list has room for the old records
+old-room : (e : Edit) (j n len : ℕ) → Askable e j n len → 2 * n ≤ len
+old-room (Move x y) j n len can = can .1
+old-room (Insert x y) j n len can = omega (arith, can .1)
+old-room Remove j n len can = can .1
 
 done-same : (c d : Change) → Done c ≡ Done d → c ≡ d
 done-same c d h = cc
@@ -272,3 +281,27 @@ module _ (e : Edit) (s : Shape) (j : ℕ) (controls lent : List ℤ) (c : Change
       by-answer
       (λ d p l _. (t axis : ℕ) → t < p .spans → axis < 2 → (InRun d t → ⊥) → records (p .basis) t (coordinate l axis) ≡ records (p .basis) (oldSpan e j t) (coordinate controls axis))
       asks-other
+
+  -- ---- and of those in the run
+
+  asks-needed : (t u : ℕ) → InRun (change e s b j m) t → u < before .spans
+      → ((old : List ℤ) → length old ≡ length controls → records b t (coordinate (asked e j old (countAfter e (s .count))) 0) ≡ records b u (coordinate old 0))
+      → ⊥
+  asks-needed t u has h alike =
+      let (here, touched) = run-touched e b j m (allowed .offered) t .0 has in
+      touched-needs e b j (s .count) (length controls) t u touched (omega (arith, last-record b m t here, ready .good .records)) (new-room e s before j allowed controls (length lent) (room-fine e s j controls lent none))
+      (omega (arith, last-record b (before .spans) u h, allowed .good .records))
+      (old-room e j (s .count) (length controls) (ready .askable))
+      alike
+
+  -- no old span has the records of a span of the run, whatever the controls hold
+  pub answered-needed : (t u : ℕ) → InRun c t → u < planOf s .spans
+      → ((old : List ℤ) → length old ≡ length controls → records (planOf (c .shape) .basis) t (coordinate (asked e j old (c .shape .count)) 0) ≡ records (planOf (c .shape) .basis) u (coordinate old 0))
+      → ⊥
+  answered-needed =
+      by-answer
+      (λ d p _ _.
+      (t u : ℕ) → InRun d t → u < planOf s .spans
+      → ((old : List ℤ) → length old ≡ length controls → records (p .basis) t (coordinate (asked e j old (d .shape .count)) 0) ≡ records (p .basis) u (coordinate old 0))
+      → ⊥)
+      asks-needed

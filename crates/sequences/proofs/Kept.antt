@@ -34,15 +34,15 @@ use Rattle.edit.proofs.Rows.{records-then}
 -- ---- the records of the new controls, by what each of their numbers is
 
 module _ (e : Edit) (j : ℕ) (old : List ℤ) (r axis : ℕ) (a : axis < 2) where
-  record-before : r < j → controlAt e j old (2 * r + axis) ≡ coordinate old axis r
+  pub record-before : r < j → controlAt e j old (2 * r + axis) ≡ coordinate old axis r
   unfolding coordinate
   record-before h = control-before j old (2 * r + axis) e (omega arith)
 
-  coordinate-asked : (n : ℕ) → 2 * n ≤ length old → r < n → coordinate (asked e j old n) axis r ≡ controlAt e j old (2 * r + axis)
+  pub coordinate-asked : (n : ℕ) → 2 * n ≤ length old → r < n → coordinate (asked e j old n) axis r ≡ controlAt e j old (2 * r + axis)
   unfolding asked coordinate
   coordinate-asked n fits h = in-filled (controlAt e j old) 0 (2 * n) old (2 * r + axis) (omega arith) (omega arith) (omega arith)
 
-record-beyond : (e : Edit) (j : ℕ) (old : List ℤ) (r axis : ℕ) → axis < 2 → Beyond e j r → controlAt e j old (2 * r + axis) ≡ coordinate old axis (carriedFrom e 1 r)
+pub record-beyond : (e : Edit) (j : ℕ) (old : List ℤ) (r axis : ℕ) → axis < 2 → Beyond e j r → controlAt e j old (2 * r + axis) ≡ coordinate old axis (carriedFrom e 1 r)
 unfolding coordinate
 record-beyond (Move x y) j old r axis a h = control-beyond j old (2 * r + axis) (Move x y) (omega arith)
 record-beyond (Insert x y) j old r axis a h =
