@@ -27,17 +27,17 @@ spansAfter (Move x y) m = m
 spansAfter (Insert x y) m = m + 1
 spansAfter Remove m = m - 1
 
--- Insert and remove exist for bases 2 and 3.
+-- Insert and remove exist for bases 2 and 3, the splines.
+abbrev pub isSpline : Basis → Bool
+isSpline Bezier = false
+isSpline BSpline = true
+isSpline Cardinal = true
+isSpline Hermite = false
+
 abbrev pub offered : Edit → Basis → Bool
 offered (Move x y) b = true
-offered (Insert x y) Bezier = false
-offered (Insert x y) BSpline = true
-offered (Insert x y) Cardinal = true
-offered (Insert x y) Hermite = false
-offered Remove Bezier = false
-offered Remove BSpline = true
-offered Remove Cardinal = true
-offered Remove Hermite = false
+offered (Insert x y) b = isSpline b
+offered Remove b = isSpline b
 
 -- Move replaces record j and remove takes it out, j < n; insert puts a new one before it, j at most n.
 abbrev pub inRange : Edit → ℕ → ℕ → Bool

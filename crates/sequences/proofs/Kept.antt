@@ -30,6 +30,7 @@ use Rattle.asked.proofs.Controls.{Beyond, control-before, control-beyond}
 use Rattle.asked.proofs.Run.{bounds-fresh}
 use Rattle.edit.proofs.Worked.{fewer-numbers, fresh-at, stays-at, carried-at}
 use Rattle.edit.proofs.Rows.{records-then}
+use Rattle.sequences.proofs.Touched.{spline-first, first-bound, past-bound}
 
 -- ---- the records of the new controls, by what each of their numbers is
 
@@ -63,48 +64,19 @@ four-same r t f g h =
 
 -- a span before the fresh ones has its records before the place
 span-before : (e : Edit) (b : Basis) (j s : ℕ) → offered e b ≡ true → s < firstFresh e b j → firstRecord b s + 3 < j
-unfolding firstRecord
-span-before (Move x y) Bezier j s o h = omega arith
-span-before (Move x y) BSpline j s o h = omega arith
-span-before (Move x y) Cardinal j s o h = omega arith
-span-before (Move x y) Hermite j s o h = omega arith
-span-before (Insert x y) Bezier j s o h = absurd (true-is-not-false o refl)
-span-before (Insert x y) BSpline j s o h = omega arith
-span-before (Insert x y) Cardinal j s o h = omega arith
-span-before (Insert x y) Hermite j s o h = absurd (true-is-not-false o refl)
-span-before Remove Bezier j s o h = absurd (true-is-not-false o refl)
-span-before Remove BSpline j s o h = omega arith
-span-before Remove Cardinal j s o h = omega arith
-span-before Remove Hermite j s o h = absurd (true-is-not-false o refl)
+span-before e b j s o h = ⊎-elim (λ early. early) (λ high. absurd (omega (arith, first-bound e b j s o .1 high))) (either (firstRecord b s + 3) j)
 
 -- a span past them has its records past it
-span-beyond : (e : Edit) (b : Basis) (j m s i : ℕ) → offered e b ≡ true → s < m → pastFresh e b j m ≤ s → Beyond e j (firstRecord b s + i)
-unfolding firstRecord
-span-beyond (Move x y) Bezier j m s i o h p = omega arith
-span-beyond (Move x y) BSpline j m s i o h p = omega arith
-span-beyond (Move x y) Cardinal j m s i o h p = omega arith
-span-beyond (Move x y) Hermite j m s i o h p = omega arith
-span-beyond (Insert x y) Bezier j m s i o h p = absurd (true-is-not-false o refl)
-span-beyond (Insert x y) BSpline j m s i o h p = omega arith
-span-beyond (Insert x y) Cardinal j m s i o h p = omega arith
-span-beyond (Insert x y) Hermite j m s i o h p = absurd (true-is-not-false o refl)
-span-beyond Remove Bezier j m s i o h p = absurd (true-is-not-false o refl)
-span-beyond Remove BSpline j m s i o h p = omega arith
-span-beyond Remove Cardinal j m s i o h p = omega arith
-span-beyond Remove Hermite j m s i o h p = absurd (true-is-not-false o refl)
+span-beyond : (e : Edit) (j r i : ℕ) → Beyond e j r → Beyond e j (r + i)
+span-beyond (Move x y) j r i h = omega arith
+span-beyond (Insert x y) j r i h = omega arith
+span-beyond Remove j r i h = omega arith
 
 -- and comes from the old span that has them
-span-from : (e : Edit) (b : Basis) (j m s i : ℕ) → offered e b ≡ true → s < m → pastFresh e b j m ≤ s → carriedFrom e 1 (firstRecord b s + i) ≡ firstRecord b (carriedFrom e 1 s) + i
-unfolding firstRecord
-span-from (Move x y) b j m s i o h p = refl
-span-from (Insert x y) Bezier j m s i o h p = absurd (true-is-not-false o refl)
-span-from (Insert x y) BSpline j m s i o h p = omega arith
-span-from (Insert x y) Cardinal j m s i o h p = omega arith
-span-from (Insert x y) Hermite j m s i o h p = absurd (true-is-not-false o refl)
-span-from Remove Bezier j m s i o h p = absurd (true-is-not-false o refl)
-span-from Remove BSpline j m s i o h p = omega arith
-span-from Remove Cardinal j m s i o h p = omega arith
-span-from Remove Hermite j m s i o h p = absurd (true-is-not-false o refl)
+span-from : (e : Edit) (b : Basis) (j s i : ℕ) → offered e b ≡ true → Beyond e j (firstRecord b s) → carriedFrom e 1 (firstRecord b s + i) ≡ firstRecord b (carriedFrom e 1 s) + i
+span-from (Move x y) b j s i o h = refl
+span-from (Insert x y) b j s i o h = omega (arith, spline-first b s o, spline-first b (s - 1) o)
+span-from Remove b j s i o h = omega (arith, spline-first b s o, spline-first b (s + 1) o)
 
 module _ (e : Edit) (b : Basis) (j m : ℕ) (old : List ℤ) (o : offered e b ≡ true) (some : 1 ≤ m) (fits : 2 * countAfter e (recordsOf b m) ≤ length old) where
   -- the controls as the edit leaves them
@@ -123,11 +95,12 @@ module _ (e : Edit) (b : Basis) (j m : ℕ) (old : List ℤ) (o : offered e b �
   -- a later one has those of the span that it is carried from: itself, the one before or the one after
   pub records-carried : (s axis : ℕ) → s < spansAfter e m → axis < 2 → pastFresh e b j (spansAfter e m) ≤ s → records b s (coordinate new axis) ≡ records b (carriedFrom e 1 s) (coordinate old axis)
   records-carried s axis h a past =
+      let beyond = past-bound e b j (spansAfter e m) s o h .0 past in
       four-same (firstRecord b s) (firstRecord b (carriedFrom e 1 s)) (coordinate new axis) (coordinate old axis)
       (λ i few.
       coordinate-asked e j old (firstRecord b s + i) axis a (countAfter e (recordsOf b m)) fits (has-records s i h few)
-      ∙ record-beyond e j old (firstRecord b s + i) axis a (span-beyond e b j (spansAfter e m) s i o h past)
-      ∙ ap (coordinate old axis) (span-from e b j (spansAfter e m) s i o h past))
+      ∙ record-beyond e j old (firstRecord b s + i) axis a (span-beyond e j (firstRecord b s) i beyond)
+      ∙ ap (coordinate old axis) (span-from e b j s i o beyond))
 
 -- ---- the numbers
 

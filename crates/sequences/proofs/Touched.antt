@@ -1,4 +1,4 @@
--- The spans of an edit's run are exactly those that it touches: linear arithmetic, basis by basis. And the fresh numbers are exactly those that a span of the run has among
+-- The spans of an edit's run are exactly those that it touches: two bounds, which alone look at the basis. And the fresh numbers are exactly those that a span of the run has among
 -- its points.
 use mathlib.Core.Path.{_≡_, refl, ap, _∙_}
 use mathlib.Core.Bool.{true}
@@ -15,39 +15,51 @@ use Rattle.shape.proofs.Tests.{either, true-is-not-false}
 use Rattle.spans.proofs.Numbers.{per-span}
 use Rattle.asked.specs.declared.Edit.{Edit}
 use Rattle.asked.specs.declared.Edit.the-variants.{Move, Insert, Remove}
-use Rattle.asked.specs.Edits.{Run, offered, firstFresh, pastFresh, runOf, isFresh}
+use Rattle.asked.specs.Edits.{Run, isSpline, offered, firstFresh, pastFresh, runOf, isFresh}
+use Rattle.asked.proofs.Controls.{Beyond}
 use Rattle.asked.proofs.Run.{run-count, run-nought, run-spans, past-most, fresh-facts, facts-fresh}
 use Rattle.sequences.specs.Touched.{Touched, Among}
 
-touched-spans : (e : Edit) (b : Basis) (j m s : ℕ) → offered e b ≡ true → s < m → Touched e b j s → (firstFresh e b j ≤ s) × (s < pastFresh e b j m)
-unfolding firstRecord
-touched-spans (Move x y) Bezier j m s o h (low, high) = (omega arith, omega arith)
-touched-spans (Move x y) BSpline j m s o h (low, high) = (omega arith, omega arith)
-touched-spans (Move x y) Cardinal j m s o h (low, high) = (omega arith, omega arith)
-touched-spans (Move x y) Hermite j m s o h (low, high) = (omega arith, omega arith)
-touched-spans (Insert x y) Bezier j m s o h t = absurd (true-is-not-false o refl)
-touched-spans (Insert x y) BSpline j m s o h (low, high) = (omega arith, omega arith)
-touched-spans (Insert x y) Cardinal j m s o h (low, high) = (omega arith, omega arith)
-touched-spans (Insert x y) Hermite j m s o h t = absurd (true-is-not-false o refl)
-touched-spans Remove Bezier j m s o h t = absurd (true-is-not-false o refl)
-touched-spans Remove BSpline j m s o h (low, high) = (omega arith, omega arith)
-touched-spans Remove Cardinal j m s o h (low, high) = (omega arith, omega arith)
-touched-spans Remove Hermite j m s o h t = absurd (true-is-not-false o refl)
+-- ---- the bounds of the run, by the records of a span
 
-spans-touched : (e : Edit) (b : Basis) (j m s : ℕ) → offered e b ≡ true → (firstFresh e b j ≤ s) × (s < pastFresh e b j m) → Touched e b j s
+-- the splines' span t begins with record t
+pub spline-first : (b : Basis) (t : ℕ) → isSpline b ≡ true → firstRecord b t ≡ t
 unfolding firstRecord
-spans-touched (Move x y) Bezier j m s o (low, high) = (omega arith, omega arith)
-spans-touched (Move x y) BSpline j m s o (low, high) = (omega arith, omega arith)
-spans-touched (Move x y) Cardinal j m s o (low, high) = (omega arith, omega arith)
-spans-touched (Move x y) Hermite j m s o (low, high) = (omega arith, omega arith)
-spans-touched (Insert x y) Bezier j m s o t = absurd (true-is-not-false o refl)
-spans-touched (Insert x y) BSpline j m s o (low, high) = (omega arith, omega arith)
-spans-touched (Insert x y) Cardinal j m s o (low, high) = (omega arith, omega arith)
-spans-touched (Insert x y) Hermite j m s o t = absurd (true-is-not-false o refl)
-spans-touched Remove Bezier j m s o t = absurd (true-is-not-false o refl)
-spans-touched Remove BSpline j m s o (low, high) = (omega arith, omega arith)
-spans-touched Remove Cardinal j m s o (low, high) = (omega arith, omega arith)
-spans-touched Remove Hermite j m s o t = absurd (true-is-not-false o refl)
+spline-first Bezier t o = absurd (true-is-not-false o refl)
+spline-first BSpline t o = refl
+spline-first Cardinal t o = refl
+spline-first Hermite t o = absurd (true-is-not-false o refl)
+
+-- a span is not before the run exactly when the place is not past its last record
+pub first-bound : (e : Edit) (b : Basis) (j t : ℕ) → offered e b ≡ true → (firstFresh e b j ≤ t) ↔ (j ≤ firstRecord b t + 3)
+unfolding firstRecord
+first-bound (Move x y) Bezier j t o = (omega arith, omega arith)
+first-bound (Move x y) BSpline j t o = (omega arith, omega arith)
+first-bound (Move x y) Cardinal j t o = (omega arith, omega arith)
+first-bound (Move x y) Hermite j t o = (omega arith, omega arith)
+first-bound (Insert x y) b j t o = (omega (arith, spline-first b t o), omega (arith, spline-first b t o))
+first-bound Remove b j t o = (omega (arith, spline-first b t o), omega (arith, spline-first b t o))
+
+-- and it is past the run exactly when its first record is past the place
+pub past-bound : (e : Edit) (b : Basis) (j m t : ℕ) → offered e b ≡ true → t < m → (pastFresh e b j m ≤ t) ↔ Beyond e j (firstRecord b t)
+unfolding firstRecord
+past-bound (Move x y) Bezier j m t o h = (omega arith, omega arith)
+past-bound (Move x y) BSpline j m t o h = (omega arith, omega arith)
+past-bound (Move x y) Cardinal j m t o h = (omega arith, omega arith)
+past-bound (Move x y) Hermite j m t o h = (omega arith, omega arith)
+past-bound (Insert x y) b j m t o h = (omega (arith, spline-first b t o), omega (arith, spline-first b t o))
+past-bound Remove b j m t o h = (omega (arith, spline-first b t o), omega (arith, spline-first b t o))
+
+-- a span is touched where its first record is not past the place, nor the place past its last
+not-past : (e : Edit) (b : Basis) (j t : ℕ) → (Beyond e j (firstRecord b t) → ⊥) → j ≤ firstRecord b t + 3 → Touched e b j t
+not-past (Move x y) b j t not high = (⊎-elim (λ past. absurd (not past)) (λ low. low) (either j (firstRecord b t)), high)
+not-past (Insert x y) b j t not high = (⊎-elim (λ past. absurd (not past)) (λ low. low) (either j (firstRecord b t)), high)
+not-past Remove b j t not high = (⊎-elim (λ low. omega arith) (λ past. absurd (not past)) (either (firstRecord b t) j), high)
+
+past-not : (e : Edit) (b : Basis) (j t : ℕ) → Touched e b j t → (Beyond e j (firstRecord b t) → ⊥) × (j ≤ firstRecord b t + 3)
+past-not (Move x y) b j t (low, high) = (omega arith, high)
+past-not (Insert x y) b j t (low, high) = (omega arith, high)
+past-not Remove b j t (low, high) = (omega arith, high)
 
 -- ---- the run
 
@@ -61,8 +73,13 @@ module _ (e : Edit) (b : Basis) (j m : ℕ) (o : offered e b ≡ true) where
   -- its spans are those of the m that are touched
   pub run-touched : (t : ℕ) → Has t ↔ ((t < m) × Touched e b j t)
   run-touched t = (
-    (λ has. let here = run-spans e b j m t .0 has in (omega (arith, here .1, past-most e b j m), spans-touched e b j m t o here)),
-    (λ (h, touched). run-spans e b j m t .1 (touched-spans e b j m t o h touched)),
+    (λ has.
+        let (low, high) = run-spans e b j m t .0 has in
+        let here : t < m = omega (arith, past-most e b j m) in
+        (here, not-past e b j t (λ past. omega (arith, past-bound e b j m t o here .1 past)) (first-bound e b j t o .0 low))),
+    (λ (here, touched).
+        let (not, high) = past-not e b j t touched in
+        run-spans e b j m t .1 (first-bound e b j t o .1 high, ⊎-elim (λ inside. inside) (λ past. absurd (not (past-bound e b j m t o here .0 past))) (either t (pastFresh e b j m)))),
   )
 
   -- both of its numbers are 0 exactly where none is
