@@ -95,8 +95,8 @@ lastUsing BSpline j = j
 lastUsing Cardinal j = j
 lastUsing Hermite j = j / 2
 
--- Move: every span that uses record j. Insert: spans j-3 to j. Remove: spans j-3 to j-1. From the first up to, and not with, the one past the last, with m spans in the
--- new shape.
+-- Move: every span that uses record j. Insert: spans j-3 to j. Remove: spans j-3 to j-1. The first of them, and the one past the last, clipped to the m spans of the new
+-- shape.
 abbrev pub firstFresh : Edit → Basis → ℕ → ℕ
 firstFresh (Move x y) b j = firstUsing b j
 firstFresh (Insert x y) b j = j - 3
@@ -107,7 +107,7 @@ pastFresh (Move x y) b j m = min (lastUsing b j + 1) m
 pastFresh (Insert x y) b j m = min (j + 1) m
 pastFresh Remove b j m = min j m
 
--- The run of an edit; where there are none, both numbers are 0.
+-- The run of an edit: from the one up to, and not with, the other; where there are none, both numbers are 0.
 unfoldable pub runOf : Edit → Basis → ℕ → ℕ → Run
 runOf e b j m =
     let a = firstFresh e b j in

@@ -20,7 +20,7 @@ use Rattle.edit.specs.Reading.{outcome, edits}
 use Rattle.sequences.specs.Touched.{Touched, InRun, Fresh, oldSpan}
 use Rattle.sequences.specs.Played.{State, Call, Outlined, played}
 use Rattle.sequences.proofs.Touched.{held-within}
-use Rattle.sequences.proofs.Answered.{answered-run, answered-nought, answered-fresh, answered-other, answered-past, answered-past-controls, answered-records, answered-needed}
+use Rattle.sequences.proofs.Answered.{answered-run, answered-nought, answered-every, answered-fresh, answered-other, answered-past, answered-past-controls, answered-records, answered-needed}
 use Rattle.sequences.proofs.Played.{played-outlined}
 use Rattle.promises.specs.Points.{publishedNumber}
 use Rattle.promises.proofs.Points.{number-published}
@@ -69,6 +69,10 @@ module _ (e : Edit) (s : Shape) (j : ℕ) (controls lent : List ℤ) (c : Change
   -- number i of a span is, where it is not fresh, what number i of the old span held: the same one, the one before (insert) or the one after (remove)
   pub other-points : (t i : ℕ) → t < p .spans → i < w + 2 → (Fresh c k (t * w + i) → ⊥) → getD held (t * w + i) (pos 0) ≡ getD lent (oldSpan e j t * w + i) (pos 0)
   other-points = answered-other e s j controls lent c new held done
+
+  -- and every number of the outline is one of some span
+  pub every-number : (q : ℕ) → q < 2 * points p → (t : ℕ) × (i : ℕ) × (t < p .spans) × (i < w + 2) × (q ≡ t * w + i)
+  every-number = answered-every e s j controls lent c new held done
 
   -- every number past the last point keeps what it held
   pub past-points : (length held ≡ length lent) × ((q : ℕ) → 2 * points p ≤ q → getD held q (pos 0) ≡ getD lent q (pos 0))

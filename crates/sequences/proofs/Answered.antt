@@ -83,14 +83,20 @@ module _ (e : Edit) (b : Basis) (k j m : ℕ) (c lent : List ℤ) (some : 1 ≤ 
     wide : 0 < w
     wide = omega (arith, pow-pos k)
 
+    starts : owner * w ≤ q
+    starts = omega (arith, mul-le-mul-right {m = owner} {n = q / w} w (min-le-left (q / w) (m - 1)), div-mul-le-self q w)
+
+    ends : q < owner * w + w + 2
+    ends =
+        ⊎-elim (λ (g : q / w < m). let is : owner ≡ q / w = omega arith in omega (arith, ap (λ (n : ℕ). n * w) is, lt-div-mul-add {a = q} {b = w} wide))
+        (λ (g : m ≤ q / w). let is : owner + 1 ≡ m = omega arith in omega (arith, next-span owner w, ap (λ (n : ℕ). n * w) is))
+        (either (q / w) m)
+
     owns : Among k owner q
-    owns =
-        let start : owner * w ≤ q = omega (arith, mul-le-mul-right {m = owner} {n = q / w} w (min-le-left (q / w) (m - 1)), div-mul-le-self q w) in
-        let end : q < (owner + 1) * w + 2 =
-        ⊎-elim (λ (g : q / w < m). let is : owner ≡ q / w = omega arith in omega (arith, next-span owner w, ap (λ (n : ℕ). n * w) is, lt-div-mul-add {a = q} {b = w} wide))
-        (λ (g : m ≤ q / w). let is : owner + 1 ≡ m = omega arith in omega (arith, ap (λ (n : ℕ). n * w) is))
-        (either (q / w) m) in
-        (omega (arith, per-span owner k), omega (arith, per-span (owner + 1) k))
+    owns = (omega (arith, starts, per-span owner k), omega (arith, ends, next-span owner w, per-span (owner + 1) k))
+
+    pub in-some-span : (t : ℕ) × (i : ℕ) × (t < m) × (i < w + 2) × (q ≡ t * w + i)
+    in-some-span = (owner, q - owner * w, omega (arith, min-le-right (q / w) (m - 1)), omega (arith, starts, ends), omega (arith, starts))
 
   -- a span that has a number which is not fresh among its points is before the run or past it
   outside-run : (q : ℕ) → isFresh run k q ≡ false → (u : ℕ) → Among k u q → (u < a) ⊎ (z ≤ u)
@@ -221,6 +227,13 @@ module _ (e : Edit) (s : Shape) (j : ℕ) (controls lent : List ℤ) (c : Change
       ⊎-elim (λ fresh. absurd (other (held-fresh (runOf e b j m) k q .1 fresh))) (λ stale. stale) (passes (isFresh (runOf e b j m) k q)) in
       left-at q (omega (arith, next-span t (perSpan k), mul-le-mul-right {m = t + 1} {n = m} (perSpan k) (omega arith)))
       ∙ stale-at e b k j m asks lent (ready .good .spans-least) (ready .points-room) t i h few stale
+
+  -- every number of the outline is of some span
+  pub answered-every : (q : ℕ) → q < 2 * points (planOf (c .shape))
+      → (t : ℕ) × (i : ℕ) × (t < planOf (c .shape) .spans) × (i < perSpan (planOf (c .shape) .depth) + 2) × (q ≡ t * perSpan (planOf (c .shape) .depth) + i)
+  answered-every =
+      by-answer (λ _ p _ _. (q : ℕ) → q < 2 * points p → (t : ℕ) × (i : ℕ) × (t < p .spans) × (i < perSpan (p .depth) + 2) × (q ≡ t * perSpan (p .depth) + i))
+      (λ q h. in-some-span e b k j m asks lent (ready .good .spans-least) (ready .points-room) q (omega (arith, all-numbers k m)))
 
   -- a number that a span of the run has among its points is the outline's of the new controls
   pub answered-fresh : (q : ℕ) → Fresh c (planOf (c .shape) .depth) q → getD held q (pos 0) ≡ numbers (planOf (c .shape)) new q

@@ -60,19 +60,19 @@ four-same r t f g h =
     let first : f r ≡ g t = ap f (sym (add-zero r)) ∙ h 0 (lit< tt) ∙ ap g (add-zero t) in
     λ i. four (first i) (h 1 (lit< tt) i) (h 2 (lit< tt) i) (h 3 (lit< tt) i)
 
--- ---- the four records of a span that is not named
+-- ---- the four records of a span that is not in the run
 
--- a span before the fresh ones has its records before the place
+-- a span before the run has its records before the place
 span-before : (e : Edit) (b : Basis) (j s : ℕ) → offered e b ≡ true → s < firstFresh e b j → firstRecord b s + 3 < j
 span-before e b j s o h = ⊎-elim (λ early. early) (λ high. absurd (omega (arith, first-bound e b j s o .1 high))) (either (firstRecord b s + 3) j)
 
--- a span past them has its records past it
+-- after a record past the place come others past it
 span-beyond : (e : Edit) (j r i : ℕ) → Beyond e j r → Beyond e j (r + i)
 span-beyond (Move x y) j r i h = omega arith
 span-beyond (Insert x y) j r i h = omega arith
 span-beyond Remove j r i h = omega arith
 
--- and comes from the old span that has them
+-- a span past the run comes from the old span that has its records
 span-from : (e : Edit) (b : Basis) (j s i : ℕ) → offered e b ≡ true → Beyond e j (firstRecord b s) → carriedFrom e 1 (firstRecord b s + i) ≡ firstRecord b (carriedFrom e 1 s) + i
 span-from (Move x y) b j s i o h = refl
 span-from (Insert x y) b j s i o h = omega (arith, spline-first b s o, spline-first b (s - 1) o)
