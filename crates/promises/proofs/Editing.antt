@@ -16,11 +16,11 @@ use Rattle.asked.specs.declared.Edit.{Edit}
 use Rattle.asked.specs.Edits.{asked}
 use Rattle.edit.specs.declared.Change.{Change}
 use Rattle.edit.specs.declared.Edited.the-variants.{Done}
-use Rattle.edit.specs.Reading.{outcome, edits}
+use Rattle.edit.specs.Reading.{outcome, shapeAfter, edits}
 use Rattle.sequences.specs.Touched.{Touched, InRun, Fresh, oldSpan}
 use Rattle.sequences.specs.Played.{State, Call, Outlined, played}
 use Rattle.sequences.proofs.Touched.{held-within}
-use Rattle.sequences.proofs.Answered.{answered-run, answered-nought, answered-every, answered-fresh, answered-other, answered-past, answered-past-controls, answered-records, answered-needed}
+use Rattle.sequences.proofs.Answered.{answered-shape, answered-controls, answered-run, answered-nought, answered-every, answered-fresh, answered-other, answered-past, answered-past-controls, answered-records, answered-needed}
 use Rattle.sequences.proofs.Played.{played-outlined}
 use Rattle.promises.specs.Points.{publishedNumber}
 use Rattle.promises.proofs.Points.{number-published}
@@ -49,6 +49,10 @@ module _ (e : Edit) (s : Shape) (j : ℕ) (controls lent : List ℤ) (c : Change
 
   abbrev w : ℕ
   w = perSpan k
+
+  -- the shape that is answered and the controls that are left are those that the edit asks for
+  pub as-asked : (c .shape ≡ shapeAfter e s) × (new ≡ asked e j controls (c .shape .count))
+  as-asked = (answered-shape e s j controls lent c new held done, answered-controls e s j controls lent c new held done)
 
   -- the run that is answered is of those spans of the new shape that the edit touches
   pub run-exactly : (t : ℕ) → InRun c t ↔ ((t < p .spans) × Touched e (p .basis) j t)

@@ -184,6 +184,13 @@ module _ (e : Edit) (s : Shape) (j : ℕ) (controls lent : List ℤ) (c : Change
       (subst (λ d. P d (planOf (d .shape)) (controlsAfter e s j controls) (pointsAfter e s q j controls lent)) same
       (subst (λ r. P (change e s (r .basis) j (r .spans)) r (controlsAfter e s j controls) (pointsAfter e s r j controls lent)) (sym (same-plan e s j controls lent none)) fact)))
 
+  -- the shape and the controls are those asked for
+  pub answered-shape : c .shape ≡ shapeAfter e s
+  answered-shape = by-answer (λ d _ _ _. d .shape ≡ shapeAfter e s) refl
+
+  pub answered-controls : new ≡ asked e j controls (c .shape .count)
+  answered-controls = by-answer (λ d _ l _. l ≡ asked e j controls (d .shape .count)) refl
+
   -- the run is of the spans of the new shape that are touched
   pub answered-run : (t : ℕ) → InRun c t ↔ ((t < planOf (c .shape) .spans) × Touched e (planOf (c .shape) .basis) j t)
   answered-run = by-answer (λ d p _ _. (t : ℕ) → InRun d t ↔ ((t < p .spans) × Touched e (p .basis) j t)) (run-touched e (after .basis) j (after .spans) (allowed .offered))
