@@ -1,16 +1,14 @@
 -- An edit in terms of its answer: from an outcome that is done, for any contents of the lent points. The reading of an edit that no row refuses has each fact, and what was
 -- answered is that reading.
 use mathlib.Core.Path.{_≡_, refl, sym, ap, _∙_, subst}
-use mathlib.Core.Bool.{false, cond}
-use mathlib.Core.Logic.{⊎-elim, _⊎_, inl, inr, _↔_}
+use mathlib.Core.Bool.{false}
+use mathlib.Core.Logic.{⊎-elim, _↔_}
 use mathlib.Core.List.{List}
-use Prim.Native.Nat.{ℕ, _+_, _*_, _-_, _/_, _^_, min, _≤_, _<_}
-use native.Mathlib.Nat.{mul-le-mul-right, div-lt-iff-lt-mul, le-div-iff-mul-le, div-mul-le-self, lt-div-mul-add, min-le-left, min-le-right}
+use Prim.Native.Nat.{ℕ, _+_, _*_, _^_, _≤_, _<_}
+use native.Mathlib.Nat.{mul-le-mul-right}
 use native.Mathlib.Omega.{arith}
-use borrow.Author.Tests.{lt-ltb}
 use lib.IntN.{ℤ, pos}
 use lib.ListN.{getD, length}
-use lib.Pow.{pow-pos}
 use Rattle.curve.specs.declared.Basis.{Basis}
 use Rattle.curve.specs.Span.{coordinate, records}
 use Rattle.shape.specs.declared.Shape.{Shape}
@@ -18,7 +16,7 @@ use Rattle.shape.specs.declared.Plan.{Plan}
 use Rattle.shape.specs.Shape.{recordsOf}
 use Rattle.shape.specs.Refusals.{NoRow, planOf}
 use Rattle.shape.proofs.Spans.{last-record}
-use Rattle.shape.proofs.Tests.{passes, either, true-is-not-false}
+use Rattle.shape.proofs.Tests.{passes, either}
 use Rattle.spans.specs.Numbers.{perSpan}
 use Rattle.spans.proofs.Filled.{length-filled, in-filled, past-filled}
 use Rattle.spans.proofs.Numbers.{per-span}
@@ -26,9 +24,9 @@ use Rattle.outline.specs.Outline.{numbers, points}
 use Rattle.outline.proofs.Draws.{all-numbers}
 use Rattle.asked.specs.declared.Edit.{Edit}
 use Rattle.asked.specs.declared.Edit.the-variants.{Move, Insert, Remove}
-use Rattle.asked.specs.Edits.{Run, countAfter, controlAt, asked, firstFresh, pastFresh, runOf, carriedFrom, isFresh, pointAt}
+use Rattle.asked.specs.Edits.{countAfter, controlAt, asked, firstFresh, pastFresh, runOf, isFresh, pointAt}
 use Rattle.asked.specs.Ready.{Askable}
-use Rattle.asked.proofs.Run.{run-spans, first-place, none-first, later-carried}
+use Rattle.asked.proofs.Run.{run-spans}
 use Rattle.edit.specs.declared.Change.{Change}
 use Rattle.edit.specs.declared.Edited.the-variants.{Done}
 use Rattle.edit.specs.Reading.{Outcome, outcome, shapeAfter, planAfter, change, controlsAfter, pointsAfter, edits}
@@ -36,114 +34,12 @@ use Rattle.edit.specs.Ready.{Editable, Workable}
 use Rattle.edit.proofs.Exactly.{callRows, done-none, none-done}
 use Rattle.edit.proofs.Passed.{may-edit, same-plan, room-fine}
 use Rattle.edit.proofs.Rows.{new-room, workable}
-use Rattle.edit.proofs.Worked.{fresh-at, stays-at, carried-at}
-use Rattle.sequences.specs.Touched.{Touched, InRun, Among, Fresh, oldSpan}
+use Rattle.edit.proofs.Worked.{fresh-at}
+use Rattle.sequences.specs.Touched.{Touched, InRun, Fresh, oldSpan}
 use Rattle.sequences.proofs.Touched.{run-touched, nought-touched, held-fresh, next-span}
+use Rattle.sequences.proofs.OldSpans.{old-early, old-later, in-some-span, stale-at}
 use Rattle.sequences.proofs.Kept.{records-stay, records-carried}
 use Rattle.sequences.proofs.Needed.{touched-needs}
-
--- ---- the old span that a span holds
-
--- before the run it is the span itself
-old-early : (e : Edit) (b : Basis) (j t : ℕ) → t < firstFresh e b j → oldSpan e j t ≡ t
-old-early e b j t h = ap (λ v. cond v t (carriedFrom e 1 t)) (lt-ltb t j (omega (arith, first-place e b j)))
-
--- past it, the one that it is carried from
-old-later : (e : Edit) (b : Basis) (j m t : ℕ) → t < m → pastFresh e b j m ≤ t → oldSpan e j t ≡ carriedFrom e 1 t
-old-later e b j m t h past = later-carried e b j m t 1 t (λ (n : ℕ). n) h past
-
--- number i of a span that is carried comes from number i of that one
-carried-number : (e : Edit) (b : Basis) (j m t w i : ℕ) → t < m → pastFresh e b j m ≤ t → carriedFrom e w (t * w + i) ≡ carriedFrom e 1 t * w + i
-carried-number (Move x y) b j m t w i h past = refl
-carried-number (Insert x y) b j m t w i h past =
-    let one : t - 1 + 1 ≡ t = omega arith in
-    omega (arith, next-span (t - 1) w, ap (λ (n : ℕ). n * w) one)
-carried-number Remove b j m t w i h past = omega (arith, next-span t w)
-
--- ---- the points of the m spans that an edit leaves, with `lent` whatever stood there
-
-module _ (e : Edit) (b : Basis) (k j m : ℕ) (c lent : List ℤ) (some : 1 ≤ m) (room : m * perSpan k + 2 ≤ length lent) where
-  abbrev w : ℕ
-  w = perSpan k
-
-  abbrev a : ℕ
-  a = firstFresh e b j
-
-  abbrev z : ℕ
-  z = pastFresh e b j m
-
-  abbrev run : Run
-  run = runOf e b j m
-
-  -- the span that a number belongs to has it among its points
-  module _ (q : ℕ) (h : q < m * w + 2) where
-    abbrev owner : ℕ
-    owner = min (q / w) (m - 1)
-
-    wide : 0 < w
-    wide = omega (arith, pow-pos k)
-
-    starts : owner * w ≤ q
-    starts = omega (arith, mul-le-mul-right {m = owner} {n = q / w} w (min-le-left (q / w) (m - 1)), div-mul-le-self q w)
-
-    ends : q < owner * w + w + 2
-    ends =
-        ⊎-elim (λ (g : q / w < m). let is : owner ≡ q / w = omega arith in omega (arith, ap (λ (n : ℕ). n * w) is, lt-div-mul-add {a = q} {b = w} wide))
-        (λ (g : m ≤ q / w). let is : owner + 1 ≡ m = omega arith in omega (arith, next-span owner w, ap (λ (n : ℕ). n * w) is))
-        (either (q / w) m)
-
-    owns : Among k owner q
-    owns = (omega (arith, starts, per-span owner k), omega (arith, ends, next-span owner w, per-span (owner + 1) k))
-
-    pub in-some-span : (t : ℕ) × (i : ℕ) × (t < m) × (i < w + 2) × (q ≡ t * w + i)
-    in-some-span = (owner, q - owner * w, omega (arith, min-le-right (q / w) (m - 1)), omega (arith, starts, ends), omega (arith, starts))
-
-  -- a span that has a number which is not fresh among its points is before the run or past it
-  outside-run : (q : ℕ) → isFresh run k q ≡ false → (u : ℕ) → Among k u q → (u < a) ⊎ (z ≤ u)
-  outside-run q stale u among =
-      ⊎-elim (λ (l : u < a). inl l)
-      (λ (l : a ≤ u). ⊎-elim (λ (g : u < z). absurd (true-is-not-false (held-fresh run k q .0 (u, run-spans e b j m u .1 (l, g), among)) stale)) (λ (g : z ≤ u). inr g) (either u z))
-      (either u a)
-
-  -- number i of span t, where it is not fresh
-  module _ (t i : ℕ) (h : t < m) (few : i < w + 2) (stale : isFresh run k (t * w + i) ≡ false) where
-    abbrev q : ℕ
-    q = t * w + i
-
-    within : q < m * w + 2
-    within = omega (arith, next-span t w, mul-le-mul-right {m = t + 1} {n = m} w (omega arith))
-
-    -- its span is t, or the next one where it is their joint
-    abbrev o : ℕ
-    o = owner q within
-
-    from : t ≤ o
-    from = let low : t ≤ q / w = le-div-iff-mul-le {k = w} {x = t} {y = q} (wide q within) .1 (omega arith) in omega arith
-
-    to : o ≤ t + 1
-    to =
-        let high : q / w < t + 1 + 1 = div-lt-iff-lt-mul {k = w} {x = q} {y = t + 1 + 1} (wide q within) .1 (omega (arith, next-span t w, next-span (t + 1) w, pow-pos k)) in
-        omega (arith, min-le-left (q / w) (m - 1))
-
-    abbrev Comes : Type 0
-    Comes = pointAt e b k j m c lent q ≡ getD lent (oldSpan e j t * w + i) (pos 0)
-
-    early : t < a → Comes
-    early first =
-        ⊎-elim (λ (g : o < a). stays-at e b k j m c lent some room q stale g)
-        (λ (g : z ≤ o). absurd (omega (arith, to, none-first e b j m (omega (arith, to)) (omega (arith, min-le-right (q / w) (m - 1))))))
-        (outside-run q stale o (owns q within))
-        ∙ ap (λ (n : ℕ). getD lent (n * w + i) (pos 0)) (sym (old-early e b j t first))
-
-    later : z ≤ t → Comes
-    later past =
-        carried-at e b k j m c lent some room q stale (omega (arith, from))
-        ∙ ap (λ (n : ℕ). getD lent n (pos 0)) (carried-number e b j m t w i h past)
-        ∙ ap (λ (n : ℕ). getD lent (n * w + i) (pos 0)) (sym (old-later e b j m t h past))
-
-    -- it is number i of the old span
-    pub stale-at : Comes
-    stale-at = ⊎-elim early later (outside-run q stale t (omega (arith, per-span t k), omega (arith, per-span (t + 1) k, next-span t w)))
 
 -- ---- from an outcome that is done
 
@@ -240,7 +136,7 @@ module _ (e : Edit) (s : Shape) (j : ℕ) (controls lent : List ℤ) (c : Change
       → (t : ℕ) × (i : ℕ) × (t < planOf (c .shape) .spans) × (i < perSpan (planOf (c .shape) .depth) + 2) × (q ≡ t * perSpan (planOf (c .shape) .depth) + i)
   answered-every =
       by-answer (λ _ p _ _. (q : ℕ) → q < 2 * points p → (t : ℕ) × (i : ℕ) × (t < p .spans) × (i < perSpan (p .depth) + 2) × (q ≡ t * perSpan (p .depth) + i))
-      (λ q h. in-some-span e b k j m asks lent (ready .good .spans-least) (ready .points-room) q (omega (arith, all-numbers k m)))
+      (λ q h. in-some-span k m q (ready .good .spans-least) (omega (arith, all-numbers k m)))
 
   -- a number that a span of the run has among its points is the outline's of the new controls
   pub answered-fresh : (q : ℕ) → Fresh c (planOf (c .shape) .depth) q → getD held q (pos 0) ≡ numbers (planOf (c .shape)) new q

@@ -1,4 +1,5 @@
 pub mod Touched
+pub mod OldSpans
 pub mod Kept
 pub mod Needed
 pub mod Answered
