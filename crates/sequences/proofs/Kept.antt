@@ -1,12 +1,11 @@
--- Why the spans that an edit does not name need no work: such a span has the four records that its old span had, so each of its numbers is a number of the old outline,
+-- Why the spans that are not in an edit's run need no work: such a span has the four records that its old span had, so each of its numbers is a number of the old outline,
 -- in its place or one span on or back.
 use mathlib.Core.Path.{_≡_, refl, sym, ap, _∙_}
-use mathlib.Core.Bool.{true, false}
+use mathlib.Core.Bool.{true}
 use mathlib.Core.Logic.{⊎-elim}
 use mathlib.Core.List.{List}
-use Prim.Native.Nat.{ℕ, suc, _+_, _*_, _-_, _/_, _%_, _^_, min, _≤_, _<_}
-use native.Mathlib.Nat.{add-zero, suc-mul, add-div-right, div-div-eq-div-mul, div-lt-iff-lt-mul, le-div-iff-mul-le, mul-le-mul-right, min-le-left, min-le-right}
-use native.Mathlib.Numerals.{add-one}
+use Prim.Native.Nat.{ℕ, _+_, _*_, _-_, _/_, _%_, _^_, min, _≤_, _<_}
+use native.Mathlib.Nat.{add-zero, add-div-right, div-div-eq-div-mul, div-lt-iff-lt-mul, mul-le-mul-right}
 use native.Mathlib.Omega.{arith}
 use borrow.Author.Tests.{leb-true}
 use lib.Dec.{lit<}
@@ -27,10 +26,10 @@ use Rattle.asked.specs.declared.Edit.{Edit}
 use Rattle.asked.specs.declared.Edit.the-variants.{Move, Insert, Remove}
 use Rattle.asked.specs.Edits.{countAfter, spansAfter, offered, inRange, controlAt, asked, firstFresh, pastFresh, runOf, carriedFrom, isFresh, pointAt}
 use Rattle.asked.proofs.Controls.{Beyond, control-before, control-beyond}
-use Rattle.asked.proofs.Run.{bounds-fresh}
 use Rattle.edit.proofs.Worked.{fewer-numbers, fresh-at, stays-at, carried-at}
 use Rattle.edit.proofs.Rows.{records-then}
-use Rattle.sequences.proofs.Touched.{spline-first, first-bound, past-bound}
+use Rattle.sequences.proofs.Touched.{spline-first, first-bound, past-bound, next-span}
+use Rattle.sequences.proofs.OldSpans.{owner-exists, owns, outside-run}
 
 -- ---- the records of the new controls, by what each of their numbers is
 
@@ -128,28 +127,26 @@ source : (e : Edit) (b : Basis) (k j m q s i : ℕ) → 1 ≤ m → 1 ≤ spansA
 source (Move x y) b k j m q s i some left h span at past = record { span = span; at = at; axis = refl; within = h }
 source (Insert x y) b k j m q s i some left h span at past =
     let d = 2 ^ k in
-    let one : suc (s - 1) ≡ s = omega arith in
-    let row : s * d ≡ (s - 1) * d + d = ap (λ (n : ℕ). n * d) (sym one) ∙ suc-mul (s - 1) d in
+    let one : s ≡ s - 1 + 1 = omega arith in
+    let row : s * d ≡ (s - 1) * d + d = ap (λ (n : ℕ). n * d) one ∙ next-span (s - 1) d in
     let half : (q - perSpan k) / 2 ≡ (s - 1) * d + i = omega (arith, row) in
     let all : (q - perSpan k) / 2 + d ≡ q / 2 = omega (arith, row) in
     let spans : q / 2 / d ≡ (q - perSpan k) / 2 / d + 1 = ap (λ (n : ℕ). n / d) (sym all) ∙ add-div-right ((q - perSpan k) / 2) {k = d} (pow-pos k) in
-    let wide : (m + 1) * perSpan k ≡ m * perSpan k + perSpan k = ap (λ (n : ℕ). n * perSpan k) (add-one m) ∙ suc-mul m (perSpan k) in
     record {
       span = omega (arith, spans, span);
       at = half;
       axis = omega (arith, row);
-      within = omega (arith, wide, row);
+      within = omega (arith, next-span m (perSpan k), row);
     }
 source Remove b k j m q s i some left h span at past =
     let d = 2 ^ k in
-    let row : (s + 1) * d ≡ s * d + d = ap (λ (n : ℕ). n * d) (add-one s) ∙ suc-mul s d in
     let all : (q + perSpan k) / 2 ≡ q / 2 + d = omega arith in
     let spans : (q + perSpan k) / 2 / d ≡ q / 2 / d + 1 = ap (λ (n : ℕ). n / d) all ∙ add-div-right (q / 2) {k = d} (pow-pos k) in
-    let one : suc (m - 1) ≡ m = omega arith in
-    let wide : m * perSpan k ≡ (m - 1) * perSpan k + perSpan k = ap (λ (n : ℕ). n * perSpan k) (sym one) ∙ suc-mul (m - 1) (perSpan k) in
+    let one : m ≡ m - 1 + 1 = omega arith in
+    let wide : m * perSpan k ≡ (m - 1) * perSpan k + perSpan k = ap (λ (n : ℕ). n * perSpan k) one ∙ next-span (m - 1) (perSpan k) in
     record {
       span = omega (arith, spans, span);
-      at = omega (arith, row);
+      at = omega (arith, next-span s d);
       axis = omega arith;
       within = omega (arith, wide);
     }
@@ -199,48 +196,28 @@ module _ (e : Edit) (b : Basis) (k j m : ℕ) (old : List ℤ) (o : offered e b 
   abbrev now : List ℤ
   now = new e b j m old o some fits
 
-  wide : 0 < w
-  wide = omega (arith, pow-pos k)
-
   span-is : min (q / 2 / 2 ^ k) (m' - 1) ≡ s
   span-is = ap (λ (n : ℕ). min n (m' - 1)) (div-div-eq-div-mul q 2 (2 ^ k))
 
   exists : s < m'
-  exists = omega (arith, min-le-right (q / w) (m' - 1))
+  exists = owner-exists k m' q left h
 
   two : q % 2 < 2
   two = omega arith
 
   step : q / 2 ≡ s * 2 ^ k + (q / 2 - s * 2 ^ k)
-  step =
-      let low : s ≤ q / 2 / 2 ^ k = omega (arith, min-le-left (q / w) (m' - 1), div-div-eq-div-mul q 2 (2 ^ k)) in
-      omega (arith, le-div-iff-mul-le {k = 2 ^ k} {x = s} {y = q / 2} (pow-pos k) .0 low)
+  step = omega (arith, owns k m' q left h .0)
 
   -- A number of an earlier span is the old outline's, in its place.
-  pub number-stays : s < a → (q < m * w + 2) × (number b k m' now q ≡ number b k m old q)
+  number-stays : s < a → (q < m * w + 2) × (number b k m' now q ≡ number b k m old q)
   number-stays first =
       let within = stays-within e b k j m q o range h first in
       let i = q / 2 - s * 2 ^ k in
       (within, same-number b k m' m' now old q q s s i span-is step span-is step refl (records-stay e b j m old o some fits s (q % 2) exists two first) ∙ stays-same e b k m old q some left h within)
 
-  -- a number that is not fresh, and not of an earlier span, is of a later one
-  later : isFresh (runOf e b j m') k q ≡ false → a ≤ s → z ≤ s
-  later stale from =
-      ⊎-elim (λ (g : s < z). absurd (true-is-not-false (bounds-fresh e b j m' k q (omega arith) low (high g)) stale)) (λ (g : z ≤ s). g) (either s z)
-    where
-      low : a * w ≤ q
-      low = le-div-iff-mul-le {k = w} {x = a} {y = q} wide .0 (omega (arith, min-le-left (q / w) (m' - 1)))
-
-      high : s < z → q < z * w + 2
-      high g =
-          ⊎-elim (λ (l : q / w < z). omega (arith, div-lt-iff-lt-mul {k = w} {x = q} {y = z} wide .0 l))
-          (λ (l : z ≤ q / w). omega (arith, mul-le-mul-right {m = m'} {n = z} w (omega arith)))
-          (either (q / w) z)
-
   -- A number of a later span is the old outline's, at the place that it is carried from.
-  pub number-carried : isFresh (runOf e b j m') k q ≡ false → a ≤ s → (carriedFrom e w q < m * w + 2) × (number b k m' now q ≡ number b k m old (carriedFrom e w q))
-  number-carried stale from =
-      let past = later stale from in
+  number-carried : z ≤ s → (carriedFrom e w q < m * w + 2) × (number b k m' now q ≡ number b k m old (carriedFrom e w q))
+  number-carried past =
       let i = q / 2 - s * 2 ^ k in
       let r = source e b k j m q s i some left h span-is step past in
       (r .within, same-number b k m' m now old q (carriedFrom e w q) s (carriedFrom e 1 s) i span-is step (r .span) (r .at) (r .axis) (records-carried e b j m old o some fits s (q % 2) exists two past))
@@ -251,6 +228,6 @@ module _ (e : Edit) (b : Basis) (k j m : ℕ) (old : List ℤ) (o : offered e b 
       ⊎-elim (fresh-at e b k j m' now lent left room q)
       (λ stale.
       ⊎-elim (λ first. let (within, same) = number-stays first in stays-at e b k j m' now lent left room q stale first ∙ held q within ∙ sym same)
-      (λ from. let (within, same) = number-carried stale from in carried-at e b k j m' now lent left room q stale (later stale from) ∙ held (carriedFrom e w q) within ∙ sym same)
-      (either s a))
+      (λ past. let (within, same) = number-carried past in carried-at e b k j m' now lent left room q stale past ∙ held (carriedFrom e w q) within ∙ sym same)
+      (outside-run e b k j m' q stale s (owns k m' q left h)))
       (passes (isFresh (runOf e b j m') k q))
