@@ -27,17 +27,17 @@ spansAfter (Move x y) m = m
 spansAfter (Insert x y) m = m + 1
 spansAfter Remove m = m - 1
 
--- Insert and remove exist for bases 2 and 3.
+-- Insert and remove exist for bases 2 and 3, the splines.
+abbrev pub isSpline : Basis → Bool
+isSpline Bezier = false
+isSpline BSpline = true
+isSpline Cardinal = true
+isSpline Hermite = false
+
 abbrev pub offered : Edit → Basis → Bool
 offered (Move x y) b = true
-offered (Insert x y) Bezier = false
-offered (Insert x y) BSpline = true
-offered (Insert x y) Cardinal = true
-offered (Insert x y) Hermite = false
-offered Remove Bezier = false
-offered Remove BSpline = true
-offered Remove Cardinal = true
-offered Remove Hermite = false
+offered (Insert x y) b = isSpline b
+offered Remove b = isSpline b
 
 -- Move replaces record j and remove takes it out, j < n; insert puts a new one before it, j at most n.
 abbrev pub inRange : Edit → ℕ → ℕ → Bool
@@ -75,7 +75,12 @@ controlAt Remove j old q = cond (ltb (q / 2) j) (getD old q (pos 0)) (getD old (
 unfoldable pub asked : Edit → ℕ → List ℤ → ℕ → List ℤ
 asked e j old n = filled (controlAt e j old) 0 (2 * n) old
 
--- ---- the spans worked afresh: from `first` up to, and not with, `past`
+-- ---- the run: the spans worked afresh. What an edit answers, and which points it makes fresh, keeps or carries, are all read from it.
+
+-- The first of them, and how many.
+pub record Run : Type 0 where
+  pub first : ℕ
+  pub count : ℕ
 
 -- The first and the last span that uses record j: span s uses records 3s, s, s, 2s and the three after it.
 abbrev pub firstUsing : Basis → ℕ → ℕ
@@ -90,7 +95,8 @@ lastUsing BSpline j = j
 lastUsing Cardinal j = j
 lastUsing Hermite j = j / 2
 
--- Move: every span that uses record j. Insert: spans j-3 to j. Remove: spans j-3 to j-1. With m spans in the new shape.
+-- Move: every span that uses record j. Insert: spans j-3 to j. Remove: spans j-3 to j-1. The first of them, and the one past the last, clipped to the m spans of the new
+-- shape.
 abbrev pub firstFresh : Edit → Basis → ℕ → ℕ
 firstFresh (Move x y) b j = firstUsing b j
 firstFresh (Insert x y) b j = j - 3
@@ -101,12 +107,12 @@ pastFresh (Move x y) b j m = min (lastUsing b j + 1) m
 pastFresh (Insert x y) b j m = min (j + 1) m
 pastFresh Remove b j m = min j m
 
--- The answer's two numbers: the first span worked afresh and how many; both 0 where there are none.
-unfoldable pub freshCount : Edit → Basis → ℕ → ℕ → ℕ
-freshCount e b j m = pastFresh e b j m - firstFresh e b j
-
-unfoldable pub freshFirst : Edit → Basis → ℕ → ℕ → ℕ
-freshFirst e b j m = cond (ltb (firstFresh e b j) (pastFresh e b j m)) (firstFresh e b j) 0
+-- The run of an edit: from the one up to, and not with, the other; where there are none, both numbers are 0.
+unfoldable pub runOf : Edit → Basis → ℕ → ℕ → Run
+runOf e b j m =
+    let a = firstFresh e b j in
+    let z = pastFresh e b j m in
+    record { first = cond (ltb a z) a 0; count = z - a }
 
 -- ---- the points
 
@@ -116,16 +122,14 @@ carriedFrom (Move x y) w q = q
 carriedFrom (Insert x y) w q = q - w
 carriedFrom Remove w q = q + w
 
--- Number q is fresh from the first fresh span's start to the last one's end, both included.
-unfoldable pub isFresh : Edit → Basis → ℕ → ℕ → ℕ → ℕ → Bool
-isFresh e b k j m q =
-    let a = firstFresh e b j in
-    let z = pastFresh e b j m in
-    ltb a z && (leb (a * perSpan k) q && ltb q (z * perSpan k + 2))
+-- Number q is fresh from the start of the run's first span to the end of its last, both included.
+unfoldable pub isFresh : Run → ℕ → ℕ → Bool
+isFresh run k q = ltb 0 (run .count) && (leb (run .first * perSpan k) q && ltb q ((run .first + run .count) * perSpan k + 2))
 
--- Number q of the new points, for any contents of the lent ones: fresh; or of an earlier span, which stays; or carried. The last point is its last span's.
+-- Number q of the new points, for any contents of the lent ones: fresh; or of a span before the place, which stays; or of a later one, which is carried. The last point
+-- is its last span's.
 unfoldable pub pointAt : Edit → Basis → ℕ → ℕ → ℕ → List ℤ → List ℤ → ℕ → ℤ
 pointAt e b k j m controls lent q =
-    cond (isFresh e b k j m q)
+    cond (isFresh (runOf e b j m) k q)
     (number b k m controls q)
-    (cond (ltb (min (q / perSpan k) (m - 1)) (firstFresh e b j)) (getD lent q (pos 0)) (getD lent (carriedFrom e (perSpan k) q) (pos 0)))
+    (cond (ltb (min (q / perSpan k) (m - 1)) j) (getD lent q (pos 0)) (getD lent (carriedFrom e (perSpan k) q) (pos 0)))

@@ -1,28 +1,27 @@
 -- The numbers past the fresh spans carried and the fresh spans worked leave every point as the reading has it.
 use mathlib.Core.Path.{_≡_, sym, ap, _∙_}
-use mathlib.Core.Bool.{true, false, cond, _&&_}
-use mathlib.Core.Logic.{_⊎_, ⊎-elim}
+use mathlib.Core.Bool.{true, false, cond}
+use mathlib.Core.Logic.{⊎-elim}
 use mathlib.Core.List.{List}
 use Prim.Native.Nat.{ℕ, suc, _+_, _*_, _-_, _/_, _%_, _^_, min, _≤_, _<_}
 use native.Mathlib.Nat.{add-mul, mul-le-mul-right, div-lt-iff-lt-mul, le-div-iff-mul-le, min-eq-left, min-le-left, min-le-right, zero-mul}
 use native.Mathlib.Omega.{arith}
-use borrow.Author.Tests.{ltb-true, leb-true, lt-ltb, le-ltb, le-leb}
+use borrow.Author.Tests.{lt-ltb, le-ltb}
 use lib.Arith.{digits-div}
-use lib.Dec.{leb, ltb}
+use lib.Dec.{ltb}
 use lib.IntN.{ℤ, pos}
 use lib.ListN.{getD, length}
 use lib.Pow.{pow-pos}
 use Rattle.curve.specs.declared.Basis.{Basis}
-use Rattle.curve.specs.declared.Basis.the-variants.{Bezier, BSpline, Cardinal, Hermite}
 use Rattle.curve.specs.Span.{coordinate, records, point}
 use Rattle.curve.proofs.Span.{joint}
-use Rattle.shape.proofs.Tests.{passes, either, and-true}
+use Rattle.shape.proofs.Tests.{passes, either}
 use Rattle.spans.specs.Numbers.{number, perSpan, filled}
 use Rattle.spans.proofs.Filled.{length-filled, in-filled, before-filled, past-filled, none-filled, is-filled}
 use Rattle.spans.proofs.Numbers.{per-span, located, end-number}
 use Rattle.asked.specs.declared.Edit.{Edit}
-use Rattle.asked.specs.declared.Edit.the-variants.{Move, Insert, Remove}
-use Rattle.asked.specs.Edits.{firstUsing, lastUsing, firstFresh, pastFresh, carriedFrom, isFresh, pointAt}
+use Rattle.asked.specs.Edits.{Run, firstFresh, pastFresh, runOf, carriedFrom, isFresh, pointAt}
+use Rattle.asked.proofs.Run.{past-most, first-place, none-first, later-carried, fresh-bounds, bounds-fresh}
 use Rattle.edit.specs.Carried.{runLength}
 
 -- ---- runs of spans
@@ -75,24 +74,7 @@ fewer-numbers b k e m c i some most within =
         ∙ sym (located b k m c q e 0 span half)
         ∙ ap (number b k m c) at
 
--- ---- the spans that an edit names
-
-first-below : (b : Basis) (j : ℕ) → firstUsing b j ≤ lastUsing b j
-first-below Bezier j = omega arith
-first-below BSpline j = omega arith
-first-below Cardinal j = omega arith
-first-below Hermite j = omega arith
-
-pub past-most : (ed : Edit) (b : Basis) (j m : ℕ) → pastFresh ed b j m ≤ m
-past-most (Move x y) b j m = min-le-right (lastUsing b j + 1) m
-past-most (Insert x y) b j m = min-le-right (j + 1) m
-past-most Remove b j m = min-le-right j m
-
--- where none is worked afresh and some are left, nothing was before them
-none-first : (ed : Edit) (b : Basis) (j m : ℕ) → pastFresh ed b j m ≤ firstFresh ed b j → pastFresh ed b j m < m → firstFresh ed b j ≡ 0
-none-first (Move x y) b j m h k = absurd (omega (arith, first-below b j))
-none-first (Insert x y) b j m h k = absurd (omega arith)
-none-first Remove b j m h k = omega arith
+-- ---- the points of an edit
 
 module _ (ed : Edit) (b : Basis) (k j m : ℕ) (c lent : List ℤ) (some : 1 ≤ m) (room : m * perSpan k + 2 ≤ length lent) where
   abbrev w : ℕ
@@ -104,6 +86,9 @@ module _ (ed : Edit) (b : Basis) (k j m : ℕ) (c lent : List ℤ) (some : 1 ≤
   abbrev e : ℕ
   e = pastFresh ed b j m
 
+  abbrev run : Run
+  run = runOf ed b j m
+
   wide : 0 < w
   wide = omega (arith, pow-pos k)
 
@@ -113,31 +98,33 @@ module _ (ed : Edit) (b : Basis) (k j m : ℕ) (c lent : List ℤ) (some : 1 ≤
   abbrev wanted : ℕ → ℤ
   wanted = pointAt ed b k j m c lent
 
-  pub fresh-facts : (i : ℕ) → isFresh ed b k j m i ≡ true → (a < e) × (a * w ≤ i) × (i < e * w + 2)
-  unfolding isFresh
-  fresh-facts i t =
-      let (first, rest) = and-true (ltb a e) (leb (a * w) i && ltb i (e * w + 2)) t in
-      let (low, high) = and-true (leb (a * w) i) (ltb i (e * w + 2)) rest in
-      (ltb-true a e first, leb-true (a * w) i low, ltb-true i (e * w + 2) high)
+  not-fresh : (i : ℕ) → (a < e → a * w ≤ i → i < e * w + 2 → ⊥) → isFresh run k i ≡ false
+  not-fresh i none = ⊎-elim (λ t. let (first, low, high) = fresh-bounds ed b j m k i t in absurd (none first low high)) (λ t. t) (passes (isFresh run k i))
 
-  not-fresh : (i : ℕ) → (a < e → a * w ≤ i → i < e * w + 2 → ⊥) → isFresh ed b k j m i ≡ false
-  not-fresh i none = ⊎-elim (λ t. let (first, low, high) = fresh-facts i t in absurd (none first low high)) (λ t. t) (passes (isFresh ed b k j m i))
+  abbrev span : ℕ → ℕ
+  span i = min (i / w) (m - 1)
 
-  pub fresh-at : (i : ℕ) → a < e → a * w ≤ i → i < e * w + 2 → wanted i ≡ number b k m c i
-  unfolding pointAt isFresh
-  fresh-at i first low high = simp (lt-ltb a e first, le-leb (a * w) i low, lt-ltb i (e * w + 2) high)
-
-  pub stays-at : (i : ℕ) → isFresh ed b k j m i ≡ false → min (i / w) (m - 1) < a → wanted i ≡ getD lent i (pos 0)
+  pub fresh-at : (i : ℕ) → isFresh run k i ≡ true → wanted i ≡ number b k m c i
   unfolding pointAt
-  stays-at i stale h =
-      ap (λ t. cond t (number b k m c i) (cond (ltb (min (i / w) (m - 1)) a) (getD lent i (pos 0)) (carried i))) stale
-      ∙ ap (λ t. cond t (getD lent i (pos 0)) (carried i)) (lt-ltb (min (i / w) (m - 1)) a h)
+  fresh-at i fresh = ap (λ t. cond t (number b k m c i) (cond (ltb (span i) j) (getD lent i (pos 0)) (carried i))) fresh
 
-  pub carried-at : (i : ℕ) → isFresh ed b k j m i ≡ false → a ≤ min (i / w) (m - 1) → wanted i ≡ carried i
+  -- the number of a span before the place
+  early-at : (i : ℕ) → isFresh run k i ≡ false → span i < j → wanted i ≡ getD lent i (pos 0)
+  unfolding pointAt
+  early-at i stale h =
+      ap (λ t. cond t (number b k m c i) (cond (ltb (span i) j) (getD lent i (pos 0)) (carried i))) stale
+      ∙ ap (λ t. cond t (getD lent i (pos 0)) (carried i)) (lt-ltb (span i) j h)
+
+  -- of one before the run
+  pub stays-at : (i : ℕ) → isFresh run k i ≡ false → span i < a → wanted i ≡ getD lent i (pos 0)
+  stays-at i stale h = early-at i stale (omega (arith, first-place ed b j))
+
+  -- and of one past it
+  pub carried-at : (i : ℕ) → isFresh run k i ≡ false → e ≤ span i → wanted i ≡ carried i
   unfolding pointAt
   carried-at i stale h =
-      ap (λ t. cond t (number b k m c i) (cond (ltb (min (i / w) (m - 1)) a) (getD lent i (pos 0)) (carried i))) stale
-      ∙ ap (λ t. cond t (getD lent i (pos 0)) (carried i)) (le-ltb (min (i / w) (m - 1)) a h)
+      ap (λ t. cond t (number b k m c i) (cond (ltb (span i) j) (getD lent i (pos 0)) (carried i))) stale
+      ∙ later-carried ed b j m (span i) w i (λ (q : ℕ). getD lent q (pos 0)) (omega (arith, min-le-right (i / w) (m - 1))) h
 
   abbrev moved : List ℤ
   moved = filled carried (e * w) (runLength e m w) lent
@@ -166,7 +153,7 @@ module _ (ed : Edit) (b : Basis) (k j m : ℕ) (c lent : List ℤ) (some : 1 ≤
       inside low high =
           in-filled (number b k e c) (a * w) (runLength a e w) moved i low (omega (arith, run-end a e w first)) (omega (arith, run-end a e w first, length-filled carried (e * w) (runLength e m w) lent, mul-le-mul-right {m = e} {n = m} w (past-most ed b j m)))
           ∙ fewer-numbers b k e m c i (omega arith) (past-most ed b j m) high
-          ∙ sym (fresh-at i first low high)
+          ∙ sym (fresh-at i (bounds-fresh ed b j m k i first low high))
 
       beyond : e * w + 2 ≤ i → getD done i (pos 0) ≡ wanted i
       beyond h =

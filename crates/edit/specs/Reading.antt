@@ -18,7 +18,7 @@ use Rattle.asked.specs.declared.Edit.{Edit}
 use Rattle.edit.specs.declared.Change.{Change}
 use Rattle.edit.specs.declared.Edited.{Edited}
 use Rattle.edit.specs.declared.Edited.the-variants.{Done, Refused}
-use Rattle.asked.specs.Edits.{countAfter, spansAfter, offered, inRange, atTheEnd, newOutside, asked, freshFirst, freshCount, pointAt}
+use Rattle.asked.specs.Edits.{countAfter, spansAfter, offered, inRange, atTheEnd, newOutside, asked, runOf, pointAt}
 
 -- The shape after an edit.
 abbrev pub shapeAfter : Edit → Shape → Shape
@@ -60,9 +60,9 @@ outcome r controls lent = record { answer = r; controls = controls; held = lent 
 abbrev pub refuses : List ℤ → List ℤ → Refusal → Outcome
 refuses controls lent r = outcome (Refused r) controls lent
 
--- The answer of an accepted edit: the new shape, the first span worked afresh and how many, of m in the new shape.
+-- The answer of an accepted edit: the new shape, and its run of the m spans there.
 abbrev pub change : Edit → Shape → Basis → ℕ → ℕ → Change
-change e s b j m = record { shape = shapeAfter e s; first = freshFirst e b j m; fresh = freshCount e b j m }
+change e s b j m = record { shape = shapeAfter e s; first = runOf e b j m .first; fresh = runOf e b j m .count }
 
 abbrev pub controlsAfter : Edit → Shape → ℕ → List ℤ → List ℤ
 controlsAfter e s j controls = asked e j controls (countAfter e (s .count))

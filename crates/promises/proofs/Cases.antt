@@ -11,10 +11,10 @@ use Rattle.spans.specs.Numbers.{number}
 use Rattle.doubles.specs.Exact.{dyadic}
 use Rattle.doubles.specs.Number.{within, measure}
 use Rattle.edit.specs.Cases.{flat}
-use Rattle.asked.specs.Edits.{asked, freshCount, freshFirst, isFresh, pointAt}
+use Rattle.asked.specs.Edits.{asked, runOf, isFresh, pointAt}
 use Rattle.edit.specs.Reading.{edits}
 use Rattle.promises.specs.Cases.{cases, allHold}
 
 pub cases-hold : T (allHold cases)
-unfolding allHold alike tab point sixfoldControls weighted weights dot nearest floor firstRecord coordinate recordsFrom basisOf recordsOf spansOf allowed pointsOf judge seek planOf outside number dyadic within measure asked freshCount freshFirst isFresh pointAt edits flat
+unfolding allHold alike tab point sixfoldControls weighted weights dot nearest floor firstRecord coordinate recordsFrom basisOf recordsOf spansOf allowed pointsOf judge seek planOf outside number dyadic within measure asked runOf isFresh pointAt edits flat
 cases-hold = tt

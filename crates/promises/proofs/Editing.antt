@@ -1,24 +1,26 @@
 -- Demand 3: any sequence of edits, refused ones among them, leaves the outline of the controls as they now stand; an edit works afresh exactly the spans that it touches,
--- and every other span has the records of an old one, in place or one span on or back.
+-- and every other span holds what an old one held, in place or one span on or back.
 use mathlib.Core.Path.{_≡_, _∙_}
-use mathlib.Core.Bool.{true, false}
+use mathlib.Core.Logic.{_↔_}
 use mathlib.Core.List.{List}
-use Prim.Native.Nat.{ℕ, _+_, _*_, _-_, _/_, min, _≤_, _<_}
+use Prim.Native.Nat.{ℕ, _+_, _*_, _/_, _^_, _≤_, _<_}
 use lib.IntN.{ℤ, pos}
 use lib.ListN.{getD, length}
-use Rattle.curve.specs.declared.Basis.{Basis}
 use Rattle.curve.specs.Span.{coordinate, records}
-use Rattle.shape.specs.Shape.{recordsOf}
+use Rattle.shape.specs.declared.Shape.{Shape}
+use Rattle.shape.specs.declared.Plan.{Plan}
 use Rattle.shape.specs.Refusals.{planOf}
 use Rattle.spans.specs.Numbers.{perSpan}
 use Rattle.outline.specs.Outline.{points}
 use Rattle.asked.specs.declared.Edit.{Edit}
-use Rattle.asked.specs.Edits.{countAfter, spansAfter, offered, asked, firstFresh, pastFresh, carriedFrom, isFresh, pointAt}
-use Rattle.edit.proofs.Worked.{fresh-at, stays-at, carried-at}
-use Rattle.sequences.specs.Named.{Touched, Named}
+use Rattle.asked.specs.Edits.{asked}
+use Rattle.edit.specs.declared.Change.{Change}
+use Rattle.edit.specs.declared.Edited.the-variants.{Done}
+use Rattle.edit.specs.Reading.{outcome, shapeAfter, edits}
+use Rattle.sequences.specs.Touched.{Touched, InRun, Fresh, oldSpan}
 use Rattle.sequences.specs.Played.{State, Call, Outlined, played}
-use Rattle.sequences.proofs.Named.{touched-named, named-touched}
-use Rattle.sequences.proofs.Kept.{records-stay, records-carried}
+use Rattle.sequences.proofs.Touched.{held-within}
+use Rattle.sequences.proofs.Answered.{answered-shape, answered-controls, answered-run, answered-nought, answered-every, answered-fresh, answered-other, answered-past, answered-past-controls, answered-records, answered-needed}
 use Rattle.sequences.proofs.Played.{played-outlined}
 use Rattle.promises.specs.Points.{publishedNumber}
 use Rattle.promises.proofs.Points.{number-published}
@@ -35,38 +37,61 @@ after-any-calls t calls out q h =
     let p = planOf (played t calls .shape) in
     played-outlined t calls out .holds q h ∙ number-published (p .basis) (p .depth) (p .spans) (played t calls .controls) q
 
--- the spans named are exactly those that the edit touches
-pub named-exactly : (e : Edit) (b : Basis) (j m s : ℕ) → offered e b ≡ true → s < m → (Touched e b j s → Named e b j m s) × (Named e b j m s → Touched e b j s)
-named-exactly e b j m s o h = (touched-named e b j m s o h, named-touched e b j m s o)
+-- ---- one edit, in terms of its answer and for any contents of the lent points
 
--- ---- any contents of the lent points
+-- The call answered c, and left the controls `new` and the points `held`.
+module _ (e : Edit) (s : Shape) (j : ℕ) (controls lent : List ℤ) (c : Change) (new held : List ℤ) (done : edits e s j controls lent ≡ outcome (Done c) new held) where
+  abbrev p : Plan
+  p = planOf (c .shape)
 
--- Number i of the m spans that an edit leaves: `controls` are those that it leaves, and `lent` is whatever stood in the lent points.
-module _ (e : Edit) (b : Basis) (k j m : ℕ) (controls lent : List ℤ) (some : 1 ≤ m) (room : m * perSpan k + 2 ≤ length lent) (i : ℕ) where
-  -- from the first named span's start to the last one's end, both included, it is the published curve's
-  pub fresh-points : firstFresh e b j < pastFresh e b j m → firstFresh e b j * perSpan k ≤ i → i < pastFresh e b j m * perSpan k + 2
-      → pointAt e b k j m controls lent i ≡ publishedNumber b k m controls i
-  fresh-points some-named low high = fresh-at e b k j m controls lent some room i some-named low high ∙ number-published b k m controls i
+  abbrev k : ℕ
+  k = p .depth
 
-  -- of an earlier span it stays
-  pub kept-points : isFresh e b k j m i ≡ false → min (i / perSpan k) (m - 1) < firstFresh e b j → pointAt e b k j m controls lent i ≡ getD lent i (pos 0)
-  kept-points = stays-at e b k j m controls lent some room i
+  abbrev w : ℕ
+  w = perSpan k
 
-  -- of a later one it stays (move) or is carried by one span (insert, remove)
-  pub carried-points : isFresh e b k j m i ≡ false → firstFresh e b j ≤ min (i / perSpan k) (m - 1) → pointAt e b k j m controls lent i ≡ getD lent (carriedFrom e (perSpan k) i) (pos 0)
-  carried-points = carried-at e b k j m controls lent some room i
+  -- the shape that is answered and the controls that are left are those that the edit asks for
+  pub as-asked : (c .shape ≡ shapeAfter e s) × (new ≡ asked e j controls (c .shape .count))
+  as-asked = (answered-shape e s j controls lent c new held done, answered-controls e s j controls lent c new held done)
 
--- ---- why the spans that are not named need no work
+  -- the run that is answered is of those spans of the new shape that the edit touches
+  pub run-exactly : (t : ℕ) → InRun c t ↔ ((t < p .spans) × Touched e (p .basis) j t)
+  run-exactly = answered-run e s j controls lent c new held done
 
--- `old` is the list with the controls of m spans, and `new` what the edit makes of it, where it has room.
-module _ (e : Edit) (b : Basis) (j m : ℕ) (old : List ℤ) (offer : offered e b ≡ true) (some : 1 ≤ m) (room : 2 * countAfter e (recordsOf b m) ≤ length old) where
-  abbrev new : List ℤ
-  new = asked e j old (countAfter e (recordsOf b m))
+  -- where there are none, and only there, both numbers are 0
+  pub nought-exactly : ((c .first ≡ 0) × (c .fresh ≡ 0)) ↔ ((t : ℕ) → t < p .spans → Touched e (p .basis) j t → ⊥)
+  nought-exactly = answered-nought e s j controls lent c new held done
 
-  -- an earlier span has the four records that it had
-  pub kept-records : (s axis : ℕ) → s < spansAfter e m → axis < 2 → s < firstFresh e b j → records b s (coordinate new axis) ≡ records b s (coordinate old axis)
-  kept-records = records-stay e b j m old offer some room
+  -- a span of the run has a number among its points exactly when its point is from the first span's start to the last one's end, both included
+  pub fresh-exactly : (q : ℕ) → Fresh c k q ↔ ((0 < c .fresh) × (c .first * 2 ^ k ≤ q / 2) × (q / 2 ≤ (c .first + c .fresh) * 2 ^ k))
+  fresh-exactly q = held-within (record { first = c .first; count = c .fresh }) k q
 
-  -- a later one has those of the span that it is carried from: itself, the one before or the one after
-  pub carried-records : (s axis : ℕ) → s < spansAfter e m → axis < 2 → pastFresh e b j (spansAfter e m) ≤ s → records b s (coordinate new axis) ≡ records b (carriedFrom e 1 s) (coordinate old axis)
-  carried-records = records-carried e b j m old offer some room
+  -- such a number is the published curve's for the controls as they then stand
+  pub fresh-points : (q : ℕ) → Fresh c k q → getD held q (pos 0) ≡ publishedNumber (p .basis) k (p .spans) new q
+  fresh-points q fresh = answered-fresh e s j controls lent c new held done q fresh ∙ number-published (p .basis) k (p .spans) new q
+
+  -- number i of a span is, where it is not fresh, what number i of the old span held: the same one, the one before (insert) or the one after (remove)
+  pub other-points : (t i : ℕ) → t < p .spans → i < w + 2 → (Fresh c k (t * w + i) → ⊥) → getD held (t * w + i) (pos 0) ≡ getD lent (oldSpan e j t * w + i) (pos 0)
+  other-points = answered-other e s j controls lent c new held done
+
+  -- and every number of the outline is one of some span
+  pub every-number : (q : ℕ) → q < 2 * points p → (t : ℕ) × (i : ℕ) × (t < p .spans) × (i < w + 2) × (q ≡ t * w + i)
+  every-number = answered-every e s j controls lent c new held done
+
+  -- every number past the last point keeps what it held
+  pub past-points : (length held ≡ length lent) × ((q : ℕ) → 2 * points p ≤ q → getD held q (pos 0) ≡ getD lent q (pos 0))
+  past-points = answered-past e s j controls lent c new held done
+
+  -- and so does every number past the last control
+  pub past-controls : (length new ≡ length controls) × ((q : ℕ) → 2 * c .shape .count ≤ q → getD new q (pos 0) ≡ getD controls q (pos 0))
+  past-controls = answered-past-controls e s j controls lent c new held done
+
+  -- why a span that is not in the run needs no work: it has the four records of the old span
+  pub other-records : (t axis : ℕ) → t < p .spans → axis < 2 → (InRun c t → ⊥) → records (p .basis) t (coordinate new axis) ≡ records (p .basis) (oldSpan e j t) (coordinate controls axis)
+  other-records = answered-records e s j controls lent c new held done
+
+  -- and why one that is in it does: no old span has its records whatever the controls hold
+  pub run-needed : (t u : ℕ) → InRun c t → u < planOf s .spans
+      → ((old : List ℤ) → length old ≡ length controls → records (p .basis) t (coordinate (asked e j old (c .shape .count)) 0) ≡ records (p .basis) u (coordinate old 0))
+      → ⊥
+  run-needed = answered-needed e s j controls lent c new held done

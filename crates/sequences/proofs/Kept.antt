@@ -1,14 +1,13 @@
--- Why the spans that an edit does not name need no work: such a span has the four records that its old span had, so each of its numbers is a number of the old outline,
+-- Why the spans that are not in an edit's run need no work: such a span has the four records that its old span had, so each of its numbers is a number of the old outline,
 -- in its place or one span on or back.
 use mathlib.Core.Path.{_≡_, refl, sym, ap, _∙_}
-use mathlib.Core.Bool.{true, false}
+use mathlib.Core.Bool.{true}
 use mathlib.Core.Logic.{⊎-elim}
 use mathlib.Core.List.{List}
-use Prim.Native.Nat.{ℕ, suc, _+_, _*_, _-_, _/_, _%_, _^_, min, _≤_, _<_}
-use native.Mathlib.Nat.{add-zero, suc-mul, add-div-right, div-div-eq-div-mul, div-lt-iff-lt-mul, le-div-iff-mul-le, mul-le-mul-right, min-le-left, min-le-right}
-use native.Mathlib.Numerals.{add-one}
+use Prim.Native.Nat.{ℕ, _+_, _*_, _-_, _/_, _%_, _^_, min, _≤_, _<_}
+use native.Mathlib.Nat.{add-zero, add-div-right, div-div-eq-div-mul, div-lt-iff-lt-mul, mul-le-mul-right}
 use native.Mathlib.Omega.{arith}
-use borrow.Author.Tests.{leb-true, lt-ltb, le-leb}
+use borrow.Author.Tests.{leb-true}
 use lib.Dec.{lit<}
 use lib.IntN.{ℤ, pos}
 use lib.ListN.{getD, length}
@@ -25,23 +24,25 @@ use Rattle.spans.proofs.Filled.{in-filled}
 use Rattle.spans.proofs.Numbers.{located}
 use Rattle.asked.specs.declared.Edit.{Edit}
 use Rattle.asked.specs.declared.Edit.the-variants.{Move, Insert, Remove}
-use Rattle.asked.specs.Edits.{countAfter, spansAfter, offered, inRange, controlAt, asked, firstFresh, pastFresh, carriedFrom, isFresh, pointAt}
+use Rattle.asked.specs.Edits.{countAfter, spansAfter, offered, inRange, controlAt, asked, firstFresh, pastFresh, runOf, carriedFrom, isFresh, pointAt}
 use Rattle.asked.proofs.Controls.{Beyond, control-before, control-beyond}
-use Rattle.edit.proofs.Worked.{fewer-numbers, fresh-facts, fresh-at, stays-at, carried-at}
+use Rattle.edit.proofs.Worked.{fewer-numbers, fresh-at, stays-at, carried-at}
 use Rattle.edit.proofs.Rows.{records-then}
+use Rattle.sequences.proofs.Touched.{spline-first, first-bound, past-bound, next-span}
+use Rattle.sequences.proofs.OldSpans.{owner-exists, owns, outside-run}
 
 -- ---- the records of the new controls, by what each of their numbers is
 
 module _ (e : Edit) (j : ℕ) (old : List ℤ) (r axis : ℕ) (a : axis < 2) where
-  record-before : r < j → controlAt e j old (2 * r + axis) ≡ coordinate old axis r
+  pub record-before : r < j → controlAt e j old (2 * r + axis) ≡ coordinate old axis r
   unfolding coordinate
   record-before h = control-before j old (2 * r + axis) e (omega arith)
 
-  coordinate-asked : (n : ℕ) → 2 * n ≤ length old → r < n → coordinate (asked e j old n) axis r ≡ controlAt e j old (2 * r + axis)
+  pub coordinate-asked : (n : ℕ) → 2 * n ≤ length old → r < n → coordinate (asked e j old n) axis r ≡ controlAt e j old (2 * r + axis)
   unfolding asked coordinate
   coordinate-asked n fits h = in-filled (controlAt e j old) 0 (2 * n) old (2 * r + axis) (omega arith) (omega arith) (omega arith)
 
-record-beyond : (e : Edit) (j : ℕ) (old : List ℤ) (r axis : ℕ) → axis < 2 → Beyond e j r → controlAt e j old (2 * r + axis) ≡ coordinate old axis (carriedFrom e 1 r)
+pub record-beyond : (e : Edit) (j : ℕ) (old : List ℤ) (r axis : ℕ) → axis < 2 → Beyond e j r → controlAt e j old (2 * r + axis) ≡ coordinate old axis (carriedFrom e 1 r)
 unfolding coordinate
 record-beyond (Move x y) j old r axis a h = control-beyond j old (2 * r + axis) (Move x y) (omega arith)
 record-beyond (Insert x y) j old r axis a h =
@@ -58,52 +59,23 @@ four-same r t f g h =
     let first : f r ≡ g t = ap f (sym (add-zero r)) ∙ h 0 (lit< tt) ∙ ap g (add-zero t) in
     λ i. four (first i) (h 1 (lit< tt) i) (h 2 (lit< tt) i) (h 3 (lit< tt) i)
 
--- ---- the four records of a span that is not named
+-- ---- the four records of a span that is not in the run
 
--- a span before the fresh ones has its records before the place
+-- a span before the run has its records before the place
 span-before : (e : Edit) (b : Basis) (j s : ℕ) → offered e b ≡ true → s < firstFresh e b j → firstRecord b s + 3 < j
-unfolding firstRecord
-span-before (Move x y) Bezier j s o h = omega arith
-span-before (Move x y) BSpline j s o h = omega arith
-span-before (Move x y) Cardinal j s o h = omega arith
-span-before (Move x y) Hermite j s o h = omega arith
-span-before (Insert x y) Bezier j s o h = absurd (true-is-not-false o refl)
-span-before (Insert x y) BSpline j s o h = omega arith
-span-before (Insert x y) Cardinal j s o h = omega arith
-span-before (Insert x y) Hermite j s o h = absurd (true-is-not-false o refl)
-span-before Remove Bezier j s o h = absurd (true-is-not-false o refl)
-span-before Remove BSpline j s o h = omega arith
-span-before Remove Cardinal j s o h = omega arith
-span-before Remove Hermite j s o h = absurd (true-is-not-false o refl)
+span-before e b j s o h = ⊎-elim (λ early. early) (λ high. absurd (omega (arith, first-bound e b j s o .1 high))) (either (firstRecord b s + 3) j)
 
--- a span past them has its records past it
-span-beyond : (e : Edit) (b : Basis) (j m s i : ℕ) → offered e b ≡ true → s < m → pastFresh e b j m ≤ s → Beyond e j (firstRecord b s + i)
-unfolding firstRecord
-span-beyond (Move x y) Bezier j m s i o h p = omega arith
-span-beyond (Move x y) BSpline j m s i o h p = omega arith
-span-beyond (Move x y) Cardinal j m s i o h p = omega arith
-span-beyond (Move x y) Hermite j m s i o h p = omega arith
-span-beyond (Insert x y) Bezier j m s i o h p = absurd (true-is-not-false o refl)
-span-beyond (Insert x y) BSpline j m s i o h p = omega arith
-span-beyond (Insert x y) Cardinal j m s i o h p = omega arith
-span-beyond (Insert x y) Hermite j m s i o h p = absurd (true-is-not-false o refl)
-span-beyond Remove Bezier j m s i o h p = absurd (true-is-not-false o refl)
-span-beyond Remove BSpline j m s i o h p = omega arith
-span-beyond Remove Cardinal j m s i o h p = omega arith
-span-beyond Remove Hermite j m s i o h p = absurd (true-is-not-false o refl)
+-- after a record past the place come others past it
+span-beyond : (e : Edit) (j r i : ℕ) → Beyond e j r → Beyond e j (r + i)
+span-beyond (Move x y) j r i h = omega arith
+span-beyond (Insert x y) j r i h = omega arith
+span-beyond Remove j r i h = omega arith
 
--- and comes from the old span that has them
-span-from : (e : Edit) (b : Basis) (j m s i : ℕ) → offered e b ≡ true → s < m → pastFresh e b j m ≤ s → carriedFrom e 1 (firstRecord b s + i) ≡ firstRecord b (carriedFrom e 1 s) + i
-unfolding firstRecord
-span-from (Move x y) b j m s i o h p = refl
-span-from (Insert x y) Bezier j m s i o h p = absurd (true-is-not-false o refl)
-span-from (Insert x y) BSpline j m s i o h p = omega arith
-span-from (Insert x y) Cardinal j m s i o h p = omega arith
-span-from (Insert x y) Hermite j m s i o h p = absurd (true-is-not-false o refl)
-span-from Remove Bezier j m s i o h p = absurd (true-is-not-false o refl)
-span-from Remove BSpline j m s i o h p = omega arith
-span-from Remove Cardinal j m s i o h p = omega arith
-span-from Remove Hermite j m s i o h p = absurd (true-is-not-false o refl)
+-- a span past the run comes from the old span that has its records
+span-from : (e : Edit) (b : Basis) (j s i : ℕ) → offered e b ≡ true → Beyond e j (firstRecord b s) → carriedFrom e 1 (firstRecord b s + i) ≡ firstRecord b (carriedFrom e 1 s) + i
+span-from (Move x y) b j s i o h = refl
+span-from (Insert x y) b j s i o h = omega (arith, spline-first b s o, spline-first b (s - 1) o)
+span-from Remove b j s i o h = omega (arith, spline-first b s o, spline-first b (s + 1) o)
 
 module _ (e : Edit) (b : Basis) (j m : ℕ) (old : List ℤ) (o : offered e b ≡ true) (some : 1 ≤ m) (fits : 2 * countAfter e (recordsOf b m) ≤ length old) where
   -- the controls as the edit leaves them
@@ -122,11 +94,12 @@ module _ (e : Edit) (b : Basis) (j m : ℕ) (old : List ℤ) (o : offered e b �
   -- a later one has those of the span that it is carried from: itself, the one before or the one after
   pub records-carried : (s axis : ℕ) → s < spansAfter e m → axis < 2 → pastFresh e b j (spansAfter e m) ≤ s → records b s (coordinate new axis) ≡ records b (carriedFrom e 1 s) (coordinate old axis)
   records-carried s axis h a past =
+      let beyond = past-bound e b j (spansAfter e m) s o h .0 past in
       four-same (firstRecord b s) (firstRecord b (carriedFrom e 1 s)) (coordinate new axis) (coordinate old axis)
       (λ i few.
       coordinate-asked e j old (firstRecord b s + i) axis a (countAfter e (recordsOf b m)) fits (has-records s i h few)
-      ∙ record-beyond e j old (firstRecord b s + i) axis a (span-beyond e b j (spansAfter e m) s i o h past)
-      ∙ ap (coordinate old axis) (span-from e b j (spansAfter e m) s i o h past))
+      ∙ record-beyond e j old (firstRecord b s + i) axis a (span-beyond e j (firstRecord b s) i beyond)
+      ∙ ap (coordinate old axis) (span-from e b j s i o beyond))
 
 -- ---- the numbers
 
@@ -154,28 +127,26 @@ source : (e : Edit) (b : Basis) (k j m q s i : ℕ) → 1 ≤ m → 1 ≤ spansA
 source (Move x y) b k j m q s i some left h span at past = record { span = span; at = at; axis = refl; within = h }
 source (Insert x y) b k j m q s i some left h span at past =
     let d = 2 ^ k in
-    let one : suc (s - 1) ≡ s = omega arith in
-    let row : s * d ≡ (s - 1) * d + d = ap (λ (n : ℕ). n * d) (sym one) ∙ suc-mul (s - 1) d in
+    let one : s ≡ s - 1 + 1 = omega arith in
+    let row : s * d ≡ (s - 1) * d + d = ap (λ (n : ℕ). n * d) one ∙ next-span (s - 1) d in
     let half : (q - perSpan k) / 2 ≡ (s - 1) * d + i = omega (arith, row) in
     let all : (q - perSpan k) / 2 + d ≡ q / 2 = omega (arith, row) in
     let spans : q / 2 / d ≡ (q - perSpan k) / 2 / d + 1 = ap (λ (n : ℕ). n / d) (sym all) ∙ add-div-right ((q - perSpan k) / 2) {k = d} (pow-pos k) in
-    let wide : (m + 1) * perSpan k ≡ m * perSpan k + perSpan k = ap (λ (n : ℕ). n * perSpan k) (add-one m) ∙ suc-mul m (perSpan k) in
     record {
       span = omega (arith, spans, span);
       at = half;
       axis = omega (arith, row);
-      within = omega (arith, wide, row);
+      within = omega (arith, next-span m (perSpan k), row);
     }
 source Remove b k j m q s i some left h span at past =
     let d = 2 ^ k in
-    let row : (s + 1) * d ≡ s * d + d = ap (λ (n : ℕ). n * d) (add-one s) ∙ suc-mul s d in
     let all : (q + perSpan k) / 2 ≡ q / 2 + d = omega arith in
     let spans : (q + perSpan k) / 2 / d ≡ q / 2 / d + 1 = ap (λ (n : ℕ). n / d) all ∙ add-div-right (q / 2) {k = d} (pow-pos k) in
-    let one : suc (m - 1) ≡ m = omega arith in
-    let wide : m * perSpan k ≡ (m - 1) * perSpan k + perSpan k = ap (λ (n : ℕ). n * perSpan k) (sym one) ∙ suc-mul (m - 1) (perSpan k) in
+    let one : m ≡ m - 1 + 1 = omega arith in
+    let wide : m * perSpan k ≡ (m - 1) * perSpan k + perSpan k = ap (λ (n : ℕ). n * perSpan k) one ∙ next-span (m - 1) (perSpan k) in
     record {
       span = omega (arith, spans, span);
-      at = omega (arith, row);
+      at = omega (arith, next-span s d);
       axis = omega arith;
       within = omega (arith, wide);
     }
@@ -225,52 +196,28 @@ module _ (e : Edit) (b : Basis) (k j m : ℕ) (old : List ℤ) (o : offered e b 
   abbrev now : List ℤ
   now = new e b j m old o some fits
 
-  wide : 0 < w
-  wide = omega (arith, pow-pos k)
-
   span-is : min (q / 2 / 2 ^ k) (m' - 1) ≡ s
   span-is = ap (λ (n : ℕ). min n (m' - 1)) (div-div-eq-div-mul q 2 (2 ^ k))
 
   exists : s < m'
-  exists = omega (arith, min-le-right (q / w) (m' - 1))
+  exists = owner-exists k m' q left h
 
   two : q % 2 < 2
   two = omega arith
 
   step : q / 2 ≡ s * 2 ^ k + (q / 2 - s * 2 ^ k)
-  step =
-      let low : s ≤ q / 2 / 2 ^ k = omega (arith, min-le-left (q / w) (m' - 1), div-div-eq-div-mul q 2 (2 ^ k)) in
-      omega (arith, le-div-iff-mul-le {k = 2 ^ k} {x = s} {y = q / 2} (pow-pos k) .0 low)
+  step = omega (arith, owns k m' q left h .0)
 
   -- A number of an earlier span is the old outline's, in its place.
-  pub number-stays : s < a → (q < m * w + 2) × (number b k m' now q ≡ number b k m old q)
+  number-stays : s < a → (q < m * w + 2) × (number b k m' now q ≡ number b k m old q)
   number-stays first =
       let within = stays-within e b k j m q o range h first in
       let i = q / 2 - s * 2 ^ k in
       (within, same-number b k m' m' now old q q s s i span-is step span-is step refl (records-stay e b j m old o some fits s (q % 2) exists two first) ∙ stays-same e b k m old q some left h within)
 
-  is-fresh : a < z → a * w ≤ q → q < z * w + 2 → isFresh e b k j m' q ≡ true
-  unfolding isFresh
-  is-fresh first low high = simp (lt-ltb a z first, le-leb (a * w) q low, lt-ltb q (z * w + 2) high)
-
-  -- a number that is not fresh, and not of an earlier span, is of a later one
-  later : isFresh e b k j m' q ≡ false → a ≤ s → z ≤ s
-  later stale from =
-      ⊎-elim (λ (g : s < z). absurd (true-is-not-false (is-fresh (omega arith) low (high g)) stale)) (λ (g : z ≤ s). g) (either s z)
-    where
-      low : a * w ≤ q
-      low = le-div-iff-mul-le {k = w} {x = a} {y = q} wide .0 (omega (arith, min-le-left (q / w) (m' - 1)))
-
-      high : s < z → q < z * w + 2
-      high g =
-          ⊎-elim (λ (l : q / w < z). omega (arith, div-lt-iff-lt-mul {k = w} {x = q} {y = z} wide .0 l))
-          (λ (l : z ≤ q / w). omega (arith, mul-le-mul-right {m = m'} {n = z} w (omega arith)))
-          (either (q / w) z)
-
   -- A number of a later span is the old outline's, at the place that it is carried from.
-  pub number-carried : isFresh e b k j m' q ≡ false → a ≤ s → (carriedFrom e w q < m * w + 2) × (number b k m' now q ≡ number b k m old (carriedFrom e w q))
-  number-carried stale from =
-      let past = later stale from in
+  number-carried : z ≤ s → (carriedFrom e w q < m * w + 2) × (number b k m' now q ≡ number b k m old (carriedFrom e w q))
+  number-carried past =
       let i = q / 2 - s * 2 ^ k in
       let r = source e b k j m q s i some left h span-is step past in
       (r .within, same-number b k m' m now old q (carriedFrom e w q) s (carriedFrom e 1 s) i span-is step (r .span) (r .at) (r .axis) (records-carried e b j m old o some fits s (q % 2) exists two past))
@@ -278,9 +225,9 @@ module _ (e : Edit) (b : Basis) (k j m : ℕ) (old : List ℤ) (o : offered e b 
   -- So where the lent points are the old outline, what the edit leaves at q is the new outline's number.
   pub point-drawn : (lent : List ℤ) → m' * w + 2 ≤ length lent → ((i : ℕ) → i < m * w + 2 → getD lent i (pos 0) ≡ number b k m old i) → pointAt e b k j m' now lent q ≡ number b k m' now q
   point-drawn lent room held =
-      ⊎-elim (λ t. let (first, low, high) = fresh-facts e b k j m' now lent left room q t in fresh-at e b k j m' now lent left room q first low high)
+      ⊎-elim (fresh-at e b k j m' now lent left room q)
       (λ stale.
       ⊎-elim (λ first. let (within, same) = number-stays first in stays-at e b k j m' now lent left room q stale first ∙ held q within ∙ sym same)
-      (λ from. let (within, same) = number-carried stale from in carried-at e b k j m' now lent left room q stale from ∙ held (carriedFrom e w q) within ∙ sym same)
-      (either s a))
-      (passes (isFresh e b k j m' q))
+      (λ past. let (within, same) = number-carried past in carried-at e b k j m' now lent left room q stale past ∙ held (carriedFrom e w q) within ∙ sym same)
+      (outside-run e b k j m' q stale s (owns k m' q left h)))
+      (passes (isFresh (runOf e b j m') k q))

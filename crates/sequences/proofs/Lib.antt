@@ -1,5 +1,8 @@
-pub mod Named
+pub mod Touched
+pub mod OldSpans
 pub mod Kept
+pub mod Needed
+pub mod Answered
 pub mod Redrawn
 pub mod Played
 pub mod Again

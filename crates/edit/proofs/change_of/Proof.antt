@@ -4,7 +4,7 @@ use Prim.Native.Nat.{ℕ, _-_}
 use mathlib.Core.Bool.{cond}
 use lib.Dec.{ltb}
 use Rattle.edit.specs.declared.Change.{Change}
-use Rattle.asked.specs.Edits.{freshFirst, freshCount, firstFresh, pastFresh}
+use Rattle.asked.specs.Edits.{firstFresh, pastFresh, runOf}
 use borrow.Author.Needs.{needs}
 use Rattle.edit.proofs.change_of.Statement.{statement}
 use Rattle.edit.proofs.change_of.Tie as tie
@@ -25,7 +25,7 @@ less-requires : tie.Need-less-requires
 less-requires c κs = search needs
 
 returns : tie.Need-returns
-unfolding freshFirst freshCount
+unfolding runOf
 returns c =
     let p = c .before .before .before .before in
     let a = p .before .args in

@@ -55,7 +55,7 @@ carry-on-requires c κs =
     let a = s .args in
     let can = subst (λ ed. Carriable ed (a .past) (a .spans) (a .stride) (length (a .points .now))) (c .before .enum-told2 .given .1) (s .pre .1) in
     let top = mul-le-mul-right {m = a .past} {n = a .spans} (a .stride) (omega arith) in
-    ((omega (arith, one-mul (a .stride), mul-le-mul-right {m = 1} {n = a .past} (a .stride) (can .0)), omega (arith, top)), can .1)
+    ((omega (arith, one-mul (a .stride), mul-le-mul-right {m = 1} {n = a .past} (a .stride) (can .0)), omega (arith, top)), omega (arith, can .1))
 
 enum-told-3 : tie.Need-enum-told-3
 enum-told-3 c = search needs
@@ -65,7 +65,7 @@ carry-back-requires c κs =
     let s = c .before .before .before .before in
     let a = s .args in
     let can = subst (λ ed. Carriable ed (a .past) (a .spans) (a .stride) (length (a .points .now))) (c .before .enum-told3 .given .1) (s .pre .1) in
-    (omega (arith, mul-le-mul-right {m = a .past} {n = a .spans} (a .stride) (omega arith)), can)
+    (omega (arith, mul-le-mul-right {m = a .past} {n = a .spans} (a .stride) (omega arith)), omega (arith, can))
 
 returns-2 : tie.Need-returns-2
 returns-2 c =

@@ -1,7 +1,7 @@
 -- The tests made so far are the rows passed, and the one that holds is the row given.
 use mathlib.Core.Path.{_≡_, refl, sym, ap, _∙_}
 use mathlib.Core.Logic.{inl, inr}
-use Prim.Native.Nat.{ℕ, _*_, max, _<_}
+use Prim.Native.Nat.{ℕ, _*_, max}
 use native.Mathlib.Omega.{arith}
 use borrow.Author.Tests.{lt-ltb, le-ltb}
 use mathlib.Core.Bool.{false}

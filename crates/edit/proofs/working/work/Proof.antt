@@ -1,7 +1,7 @@
 -- What was carried and what was worked afresh are the new points.
 use mathlib.Core.Path.{_≡_, sym, ap, _∙_, subst}
 use mathlib.Core.List.{List}
-use Prim.Native.Nat.{ℕ, _*_, _≤_, _<_}
+use Prim.Native.Nat.{ℕ, _*_, _≤_}
 use native.Mathlib.Nat.{mul-le-mul, le-refl, mul-le-mul-right}
 use native.Mathlib.Omega.{arith}
 use borrow.Author.Needs.{needs}
@@ -12,8 +12,9 @@ use Rattle.curve.specs.Ways.{deepest}
 use Rattle.spans.specs.Numbers.{filled, number, perSpan}
 use Rattle.spans.proofs.Drawables.{fewer}
 use Rattle.asked.specs.Edits.{firstFresh, carriedFrom}
+use Rattle.asked.proofs.Run.{past-most}
 use Rattle.edit.specs.Carried.{Carriable, runLength}
-use Rattle.edit.proofs.Worked.{past-most, worked}
+use Rattle.edit.proofs.Worked.{worked}
 use Rattle.edit.proofs.working.work.Statement.{statement}
 use Rattle.edit.proofs.working.work.Tie as tie
 

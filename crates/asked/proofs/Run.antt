@@ -1,0 +1,125 @@
+-- The run of an edit: where its first span is before its end it is from the one to the other, else both of its numbers are 0; and it lies among the spans of the new
+-- shape, around the place.
+use mathlib.Core.Path.{_≡_, refl, ap}
+use mathlib.Core.Bool.{Bool, true, false, cond, _&&_}
+use mathlib.Core.Logic.{⊎-elim, _↔_}
+use Prim.Native.Nat.{ℕ, _+_, _*_, _-_, _≤_, _<_}
+use native.Mathlib.Nat.{min-le-right}
+use native.Mathlib.Omega.{arith}
+use borrow.Author.Tests.{ltb-true, leb-true, lt-ltb, le-ltb, le-leb}
+use lib.Dec.{leb, ltb}
+use Rattle.curve.specs.declared.Basis.{Basis}
+use Rattle.curve.specs.declared.Basis.the-variants.{Bezier, BSpline, Cardinal, Hermite}
+use Rattle.shape.proofs.Tests.{either, and-true}
+use Rattle.spans.specs.Numbers.{perSpan}
+use Rattle.asked.specs.declared.Edit.{Edit}
+use Rattle.asked.specs.declared.Edit.the-variants.{Move, Insert, Remove}
+use Rattle.asked.specs.Edits.{Run, firstUsing, lastUsing, firstFresh, pastFresh, runOf, carriedFrom, isFresh}
+
+cond-same : {A : Type 0} (t : Bool) (z : A) → cond t z z ≡ z
+cond-same true z = refl
+cond-same false z = refl
+
+-- ---- its two numbers
+
+module _ (e : Edit) (b : Basis) (j m : ℕ) where
+  pub run-count : runOf e b j m .count ≡ pastFresh e b j m - firstFresh e b j
+  unfolding runOf
+  run-count = refl
+
+  run-first : firstFresh e b j < pastFresh e b j m → runOf e b j m .first ≡ firstFresh e b j
+  unfolding runOf
+  run-first h = ap (λ t. cond t (firstFresh e b j) 0) (lt-ltb (firstFresh e b j) (pastFresh e b j m) h)
+
+  pub run-nought : pastFresh e b j m ≤ firstFresh e b j → runOf e b j m .first ≡ 0
+  unfolding runOf
+  run-nought h = ap (λ t. cond t (firstFresh e b j) 0) (le-ltb (firstFresh e b j) (pastFresh e b j m) h)
+
+  -- so its spans are those from the one bound up to the other
+  pub run-spans : (t : ℕ) → ((runOf e b j m .first ≤ t) × (t < runOf e b j m .first + runOf e b j m .count)) ↔ ((firstFresh e b j ≤ t) × (t < pastFresh e b j m))
+  run-spans t =
+      ⊎-elim (λ h. ((λ (low, high). (omega (arith, run-first h), omega (arith, run-first h, run-count))), (λ (low, high). (omega (arith, run-first h), omega (arith, run-first h, run-count)))))
+      (λ h. ((λ (low, high). absurd (omega (arith, run-count))), (λ (low, high). absurd (omega arith))))
+      (either (firstFresh e b j) (pastFresh e b j m))
+
+-- ---- where it lies
+
+-- it ends with the spans of the new shape
+pub past-most : (e : Edit) (b : Basis) (j m : ℕ) → pastFresh e b j m ≤ m
+past-most (Move x y) b j m = min-le-right (lastUsing b j + 1) m
+past-most (Insert x y) b j m = min-le-right (j + 1) m
+past-most Remove b j m = min-le-right j m
+
+-- the first span that uses a record is not past the last, nor past the record
+first-below : (b : Basis) (j : ℕ) → (firstUsing b j ≤ lastUsing b j) × (lastUsing b j ≤ j)
+first-below Bezier j = (omega arith, omega arith)
+first-below BSpline j = (omega arith, omega arith)
+first-below Cardinal j = (omega arith, omega arith)
+first-below Hermite j = (omega arith, omega arith)
+
+-- its first span is not past the place
+pub first-place : (e : Edit) (b : Basis) (j : ℕ) → firstFresh e b j ≤ j
+first-place (Move x y) b j = omega (arith, first-below b j .0, first-below b j .1)
+first-place (Insert x y) b j = omega arith
+first-place Remove b j = omega arith
+
+-- where it is empty and some spans are past it, none is before it
+pub none-first : (e : Edit) (b : Basis) (j m : ℕ) → pastFresh e b j m ≤ firstFresh e b j → pastFresh e b j m < m → firstFresh e b j ≡ 0
+none-first (Move x y) b j m h k = absurd (omega (arith, first-below b j .0))
+none-first (Insert x y) b j m h k = absurd (omega arith)
+none-first Remove b j m h k = omega arith
+
+-- a span past it is not before the place, or the edit is a move, which carries nothing
+pub later-carried : {A : Type 0} (e : Edit) (b : Basis) (j m t w q : ℕ) (f : ℕ → A) → t < m → pastFresh e b j m ≤ t
+    → cond (ltb t j) (f q) (f (carriedFrom e w q)) ≡ f (carriedFrom e w q)
+later-carried (Move x y) b j m t w q f h past = cond-same (ltb t j) (f q)
+later-carried (Insert x y) b j m t w q f h past = ap (λ v. cond v (f q) (f (q - w))) (le-ltb t j (omega arith))
+later-carried Remove b j m t w q f h past = ap (λ v. cond v (f q) (f (q + w))) (le-ltb t j (omega arith))
+
+-- ---- fresh numbers
+
+-- from the start of the first span to the end of the last, where there are any
+pub fresh-facts : (run : Run) (k q : ℕ) → isFresh run k q ≡ true → (0 < run .count) × (run .first * perSpan k ≤ q) × (q < (run .first + run .count) * perSpan k + 2)
+unfolding isFresh
+fresh-facts run k q t =
+    let w = perSpan k in
+    let (some, rest) = and-true (ltb 0 (run .count)) (leb (run .first * w) q && ltb q ((run .first + run .count) * w + 2)) t in
+    let (low, high) = and-true (leb (run .first * w) q) (ltb q ((run .first + run .count) * w + 2)) rest in
+    (ltb-true 0 (run .count) some, leb-true (run .first * w) q low, ltb-true q ((run .first + run .count) * w + 2) high)
+
+pub facts-fresh : (run : Run) (k q : ℕ) → 0 < run .count → run .first * perSpan k ≤ q → q < (run .first + run .count) * perSpan k + 2 → isFresh run k q ≡ true
+unfolding isFresh
+facts-fresh run k q some low high =
+    simp (lt-ltb 0 (run .count) some, le-leb (run .first * perSpan k) q low, lt-ltb q ((run .first + run .count) * perSpan k + 2) high)
+
+-- so of an edit's run
+module _ (e : Edit) (b : Basis) (j m k q : ℕ) where
+  abbrev a : ℕ
+  a = firstFresh e b j
+
+  abbrev z : ℕ
+  z = pastFresh e b j m
+
+  abbrev w : ℕ
+  w = perSpan k
+
+  abbrev run : Run
+  run = runOf e b j m
+
+  run-bounds : a < z → (run .first * w ≡ a * w) × ((run .first + run .count) * w ≡ z * w)
+  run-bounds h =
+      let first = run-first e b j m h in
+      let past : run .first + run .count ≡ z = omega (arith, first, run-count e b j m) in
+      (ap (λ (n : ℕ). n * w) first, ap (λ (n : ℕ). n * w) past)
+
+  pub fresh-bounds : isFresh run k q ≡ true → (a < z) × (a * w ≤ q) × (q < z * w + 2)
+  fresh-bounds t =
+      let (some, low, high) = fresh-facts run k q t in
+      let first : a < z = omega (arith, run-count e b j m) in
+      let (start, end) = run-bounds first in
+      (first, omega (arith, start), omega (arith, end))
+
+  pub bounds-fresh : a < z → a * w ≤ q → q < z * w + 2 → isFresh run k q ≡ true
+  bounds-fresh first low high =
+      let (start, end) = run-bounds first in
+      facts-fresh run k q (omega (arith, run-count e b j m)) (omega (arith, start)) (omega (arith, end))

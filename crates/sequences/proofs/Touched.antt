@@ -1,0 +1,130 @@
+-- The spans of an edit's run are exactly those that it touches: two bounds, which alone look at the basis. And the fresh numbers are exactly those that a span of the run has among
+-- its points.
+use mathlib.Core.Path.{_≡_, refl, ap, _∙_}
+use mathlib.Core.Bool.{true}
+use mathlib.Core.Logic.{⊎-elim, _↔_}
+use Prim.Native.Nat.{ℕ, _+_, _*_, _-_, _/_, _^_, _≤_, _<_}
+use native.Mathlib.Nat.{suc-mul, mul-le-mul-right, le-div-iff-mul-le, div-mul-le-self, lt-div-mul-add}
+use native.Mathlib.Numerals.{add-one}
+use native.Mathlib.Omega.{arith}
+use lib.Pow.{pow-pos}
+use Rattle.curve.specs.declared.Basis.{Basis}
+use Rattle.curve.specs.declared.Basis.the-variants.{Bezier, BSpline, Cardinal, Hermite}
+use Rattle.curve.specs.Span.{firstRecord}
+use Rattle.shape.proofs.Tests.{either, true-is-not-false}
+use Rattle.spans.proofs.Numbers.{per-span}
+use Rattle.asked.specs.declared.Edit.{Edit}
+use Rattle.asked.specs.declared.Edit.the-variants.{Move, Insert, Remove}
+use Rattle.asked.specs.Edits.{Run, isSpline, offered, firstFresh, pastFresh, runOf, isFresh}
+use Rattle.asked.proofs.Controls.{Beyond}
+use Rattle.asked.proofs.Run.{run-count, run-nought, run-spans, past-most, fresh-facts, facts-fresh}
+use Rattle.sequences.specs.Touched.{Touched, Among}
+
+-- ---- the bounds of the run, by the records of a span
+
+-- the splines' span t begins with record t
+pub spline-first : (b : Basis) (t : ℕ) → isSpline b ≡ true → firstRecord b t ≡ t
+unfolding firstRecord
+spline-first Bezier t o = absurd (true-is-not-false o refl)
+spline-first BSpline t o = refl
+spline-first Cardinal t o = refl
+spline-first Hermite t o = absurd (true-is-not-false o refl)
+
+-- a span is not before the run exactly when the place is not past its last record
+pub first-bound : (e : Edit) (b : Basis) (j t : ℕ) → offered e b ≡ true → (firstFresh e b j ≤ t) ↔ (j ≤ firstRecord b t + 3)
+unfolding firstRecord
+first-bound (Move x y) Bezier j t o = (omega arith, omega arith)
+first-bound (Move x y) BSpline j t o = (omega arith, omega arith)
+first-bound (Move x y) Cardinal j t o = (omega arith, omega arith)
+first-bound (Move x y) Hermite j t o = (omega arith, omega arith)
+first-bound (Insert x y) b j t o = (omega (arith, spline-first b t o), omega (arith, spline-first b t o))
+first-bound Remove b j t o = (omega (arith, spline-first b t o), omega (arith, spline-first b t o))
+
+-- and it is past the run exactly when its first record is past the place
+pub past-bound : (e : Edit) (b : Basis) (j m t : ℕ) → offered e b ≡ true → t < m → (pastFresh e b j m ≤ t) ↔ Beyond e j (firstRecord b t)
+unfolding firstRecord
+past-bound (Move x y) Bezier j m t o h = (omega arith, omega arith)
+past-bound (Move x y) BSpline j m t o h = (omega arith, omega arith)
+past-bound (Move x y) Cardinal j m t o h = (omega arith, omega arith)
+past-bound (Move x y) Hermite j m t o h = (omega arith, omega arith)
+past-bound (Insert x y) b j m t o h = (omega (arith, spline-first b t o), omega (arith, spline-first b t o))
+past-bound Remove b j m t o h = (omega (arith, spline-first b t o), omega (arith, spline-first b t o))
+
+-- a span is touched where its first record is not past the place, nor the place past its last
+not-past : (e : Edit) (b : Basis) (j t : ℕ) → (Beyond e j (firstRecord b t) → ⊥) → j ≤ firstRecord b t + 3 → Touched e b j t
+not-past (Move x y) b j t not high = (⊎-elim (λ past. absurd (not past)) (λ low. low) (either j (firstRecord b t)), high)
+not-past (Insert x y) b j t not high = (⊎-elim (λ past. absurd (not past)) (λ low. low) (either j (firstRecord b t)), high)
+not-past Remove b j t not high = (⊎-elim (λ low. omega arith) (λ past. absurd (not past)) (either (firstRecord b t) j), high)
+
+past-not : (e : Edit) (b : Basis) (j t : ℕ) → Touched e b j t → (Beyond e j (firstRecord b t) → ⊥) × (j ≤ firstRecord b t + 3)
+past-not (Move x y) b j t (low, high) = (omega arith, high)
+past-not (Insert x y) b j t (low, high) = (omega arith, high)
+past-not Remove b j t (low, high) = (omega arith, high)
+
+-- ---- the run
+
+module _ (e : Edit) (b : Basis) (j m : ℕ) (o : offered e b ≡ true) where
+  abbrev run : Run
+  run = runOf e b j m
+
+  abbrev Has : ℕ → Type 0
+  Has t = (run .first ≤ t) × (t < run .first + run .count)
+
+  -- its spans are those of the m that are touched
+  pub run-touched : (t : ℕ) → Has t ↔ ((t < m) × Touched e b j t)
+  run-touched t = (
+    (λ has.
+        let (low, high) = run-spans e b j m t .0 has in
+        let here : t < m = omega (arith, past-most e b j m) in
+        (here, not-past e b j t (λ past. omega (arith, past-bound e b j m t o here .1 past)) (first-bound e b j t o .0 low))),
+    (λ (here, touched).
+        let (not, high) = past-not e b j t touched in
+        run-spans e b j m t .1 (first-bound e b j t o .1 high, ⊎-elim (λ inside. inside) (λ past. absurd (not (past-bound e b j m t o here .0 past))) (either t (pastFresh e b j m)))),
+  )
+
+  -- both of its numbers are 0 exactly where none is
+  pub nought-touched : ((run .first ≡ 0) × (run .count ≡ 0)) ↔ ((t : ℕ) → t < m → Touched e b j t → ⊥)
+  nought-touched = (
+    (λ (first, count) t h touched. let has = run-touched t .1 (h, touched) in omega (arith, has .1, first, count)),
+    (λ none.
+        let empty : run .count ≡ 0 =
+        ⊎-elim (λ (some : 0 < run .count). let here = run-touched (run .first) .0 (omega arith, omega arith) in absurd (none (run .first) (here .0) (here .1))) (λ (h : run .count ≤ 0). omega arith) (either 0 (run .count)) in
+        (run-nought e b j m (omega (arith, empty, run-count e b j m)), empty)),
+  )
+
+-- ---- the numbers of its points
+
+-- the start of the next span
+pub next-span : (t d : ℕ) → (t + 1) * d ≡ t * d + d
+next-span t d = ap (λ (n : ℕ). n * d) (add-one t) ∙ suc-mul t d
+
+module _ (run : Run) (k q : ℕ) where
+  abbrev d : ℕ
+  d = 2 ^ k
+
+  abbrev past : ℕ
+  past = run .first + run .count
+
+  -- a span of the run has it among its points
+  abbrev Held : Type 0
+  Held = (t : ℕ) × ((run .first ≤ t) × (t < past)) × Among k t q
+
+  -- exactly from the start of the first span to the end of the last, both included
+  pub held-within : Held ↔ ((0 < run .count) × (run .first * d ≤ q / 2) × (q / 2 ≤ past * d))
+  held-within = (
+    (λ (t, (low, high), (from, to)). (omega arith, omega (arith, mul-le-mul-right {m = run .first} {n = t} d low), omega (arith, mul-le-mul-right {m = t + 1} {n = past} d (omega arith)))),
+    (λ (some, low, high).
+        ⊎-elim
+        (λ (h : q / 2 / d < past).
+        (q / 2 / d, (le-div-iff-mul-le {k = d} {x = run .first} {y = q / 2} (pow-pos k) .1 low, h), (div-mul-le-self (q / 2) d, omega (arith, next-span (q / 2 / d) d, lt-div-mul-add {a = q / 2} {b = d} (pow-pos k)))))
+        (λ (h : past ≤ q / 2 / d).
+        let last : past - 1 + 1 ≡ past = omega arith in
+        (past - 1, (omega arith, omega arith), (omega (arith, mul-le-mul-right {m = past - 1} {n = q / 2 / d} d (omega arith), div-mul-le-self (q / 2) d), omega (arith, ap (λ (n : ℕ). n * d) last))))
+        (either (q / 2 / d) past)),
+  )
+
+  pub held-fresh : Held ↔ (isFresh run k q ≡ true)
+  held-fresh = (
+    (λ held. let (some, low, high) = held-within .0 held in facts-fresh run k q some (omega (arith, per-span (run .first) k)) (omega (arith, per-span past k))),
+    (λ t. let (some, low, high) = fresh-facts run k q t in held-within .1 (some, omega (arith, per-span (run .first) k), omega (arith, per-span past k))),
+  )
