@@ -20,7 +20,7 @@ use Rattle.outline.specs.Outline as outline
 use Rattle.outline.proofs.Within.{number-within}
 use Rattle.record_file.specs.Format.{numbers}
 use Rattle.record_file.specs.Rows.{mostBytes, recordCount, recordRows, laterRows, fileRows}
-use Rattle.record_file.proofs.Readings.{refused-when, read-when}
+use Rattle.record_file.proofs.Exactly.{first-refused, none-read}
 use Rattle.listing.specs.Listing.{outlineText}
 use Rattle.file_list.specs.Files.{controls, points, mostText, fileText}
 use Rattle.file_list.proofs.Texts.{text-then, read-text, unread-text}
@@ -64,7 +64,7 @@ module _ (file : List ℕ) where
   refused-fits : (r : Refusal) → First (fileRows file controls) r → length (fileText file) ≤ mostText
   refused-fits r f =
       let few = refused-short r f in
-      subst (λ t. length t ≤ mostText) (sym (unread-text file r controls (refused-when file controls r f))) (omega (arith, refusal-length (r .number) (r .place) (few .number) (few .place)))
+      subst (λ t. length t ≤ mostText) (sym (unread-text file r controls (first-refused file controls r f))) (omega (arith, refusal-length (r .number) (r .place) (few .number) (few .place)))
 
 -- ---- what is drawn
 
@@ -85,7 +85,7 @@ drawn-fits file none =
     let ok = good file none in
     let few = few-points file none in
     let text : fileText file ≡ outlineText (sh .basis) (sh .depth) (q .spans) (tab f 0 (2 * m)) =
-    read-text file sh c (read-when file controls none)
+    read-text file sh c (none-read file controls none)
     ∙ text-then sh c (outline.accepts q c points) (read-drawn file none)
     ∙ ap (outlineText (sh .basis) (sh .depth) (q .spans)) (front points f (2 * m) (omega (arith, few))) in
     let long =

@@ -3,6 +3,7 @@ pub mod Records
 pub mod Filling
 pub mod Outside
 pub mod Readings
+pub mod Exactly
 pub mod RoundTrip
 pub mod Unique
 pub mod Examples

@@ -2,4 +2,5 @@ pub mod Tests
 pub mod Spans
 pub mod Seek
 pub mod Refusals
+pub mod Exactly
 pub mod Unique

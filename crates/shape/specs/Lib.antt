@@ -1,3 +1,4 @@
 pub mod Shape
 pub mod Refusals
 pub mod Good
+pub mod Exactly
