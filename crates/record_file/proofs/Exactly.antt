@@ -1,16 +1,18 @@
 -- "Given exactly when" (document 01, "Refusal numbers"), of reading a file: the law of `shape/proofs/Exactly` over the file's table.
-use mathlib.Core.Path.{_≡_, refl}
+use mathlib.Core.Path.{_≡_, refl, ap}
 use mathlib.Core.Bool.{true}
 use mathlib.Core.List.{List}
 use Prim.Native.Nat.{ℕ, zero, suc}
 use lib.IntN.{ℤ}
+use Rattle.shape.specs.declared.Shape.{Shape}
 use Rattle.shape.specs.declared.Refusal.{Refusal}
 use Rattle.shape.specs.Refusals.{First, NoRow}
-use Rattle.shape.specs.Exactly.{Told, values, Exactly}
+use Rattle.shape.specs.Exactly.{Told, number, values, Exactly}
 use Rattle.shape.proofs.Refusals.{judge-first, judge-none}
 use Rattle.shape.proofs.Exactly as any-call
 use Rattle.shape.proofs.Exactly.{numbered, numbered-append}
-use Rattle.record_file.specs.Rows.{recordCount, recordRows, laterRows, fileRows, Outcome, told, refusing, accepting, reading}
+use Rattle.record_file.specs.declared.Reading.the-variants.{Read}
+use Rattle.record_file.specs.Rows.{recordCount, recordRows, laterRows, fileRows, Outcome, both, told, refusing, accepting, reading}
 
 abbrev tells : Outcome → Told
 tells o = told (o .answer)
@@ -33,6 +35,10 @@ module _ (file : List ℕ) (controls : List ℤ) where
   pub first-refused : (r : Refusal) → First (fileRows file controls) r → reading file controls ≡ refusing controls r
   unfolding reading
   first-refused r first = judge-first (fileRows file controls) (refusing controls) done r first
+
+  -- whatever shape is answered and whatever the list then holds
+  pub read-none : (s : Shape) (held : List ℤ) → reading file controls ≡ both (Read s) held → NoRow (fileRows file controls)
+  read-none s held e = exactly .accepted .0 (ap (λ o. number (tells o)) e)
 
   pub none-read : NoRow (fileRows file controls) → reading file controls ≡ done
   unfolding reading

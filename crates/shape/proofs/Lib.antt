@@ -3,4 +3,5 @@ pub mod Spans
 pub mod Seek
 pub mod Refusals
 pub mod Exactly
+pub mod Lists
 pub mod Unique

@@ -2,3 +2,4 @@ pub mod Shape
 pub mod Refusals
 pub mod Good
 pub mod Exactly
+pub mod Lists
