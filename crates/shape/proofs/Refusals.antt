@@ -74,6 +74,28 @@ pub row-fails : (n : ℕ) (rows : List Row) → NoRow rows → testOf n rows ≡
 row-fails n [] h = refl
 row-fails n (x ∷ rows) h = ⊎-elim (λ t. rw t (h .0)) (λ f. rw f (row-fails n rows (h .1))) (passes (eqb (x .refusal .number) n))
 
+-- the first row of a longer table that holds: in its first part, or where none of that holds, in the rest
+pub first-either : (rows rest : List Row) (r : Refusal) → First (rows ++ rest) r → First rows r ⊎ (NoRow rows × First rest r)
+first-either [] rest r f = inr (tt, f)
+first-either (x ∷ rows) rest r (inl f) = inl (inl f)
+first-either (x ∷ rows) rest r (inr f) =
+    ⊎-elim (λ (g : First rows r). inl (inr (f .0, g))) (λ (g : NoRow rows × First rest r). inr ((f .0, g .0), g .1)) (first-either rows rest r (f .1))
+
+-- what every row of a table would answer
+abbrev pub Each : (Refusal → Type 0) → List Row → Type 0
+Each P [] = Unit {0}
+Each P (x ∷ rows) = P (x .refusal) × Each P rows
+
+pub each-both : (P : Refusal → Type 0) (rows rest : List Row) → Each P rows → Each P rest → Each P (rows ++ rest)
+each-both P [] rest h k = k
+each-both P (x ∷ rows) rest h k = (h .0, each-both P rows rest (h .1) k)
+
+-- the first that holds answers so too
+pub each-first : (P : Refusal → Type 0) (rows : List Row) → Each P rows → (r : Refusal) → First rows r → P r
+each-first P [] h r f = absurd f
+each-first P (x ∷ rows) h r (inl f) = subst P (f .1) (h .0)
+each-first P (x ∷ rows) h r (inr f) = each-first P rows (h .1) r (f .1)
+
 pub verdict : (rows : List Row) → ((r : Refusal) × First rows r) ⊎ NoRow rows
 verdict [] = inr tt
 verdict (x ∷ rows) =
