@@ -22,7 +22,7 @@ abbrev tells : Outcome → Told
 tells o = told (o .answer)
 
 -- The state that the caller has, and the lent controls.
-abbrev pub lent : State → Outcome → State × List ℤ
+abbrev lent : State → Outcome → State × List ℤ
 lent s o = (stateAfter s (o .answer), o .controls)
 
 -- a number's row holds where what it would give is above 0
@@ -35,13 +35,13 @@ all-numbered i (x ∷ xs) = simp (here (ltb 0 (paper (measure x) .0)), all-numbe
     here false = refl
 
 module _ (s : State) (step : Step) (l : List ℤ) where
-  abbrev pub next-outcome : Outcome
-  next-outcome = accepted s step l
+  abbrev done : Outcome
+  done = accepted s step l
 
-  pub exactly : Exactly (rows s step l) (tells (stepped s step l)) (s, l) (lent s (stepped s step l)) (values (tells next-outcome)) (lent s next-outcome)
+  pub exactly : Exactly (rows s step l) (tells (stepped s step l)) (s, l) (lent s (stepped s step l)) (values (tells done)) (lent s done)
   unfolding stepped
   exactly =
-      any-call.exactly tells (rows s step l) (refused l) next-outcome (values (tells next-outcome)) (λ r. refl) refl (lent s) (s, l) (λ r. refl)
+      any-call.exactly tells (rows s step l) (refused l) done (values (tells done)) (λ r. refl) refl (lent s) (s, l) (λ r. refl)
       (numbered-append (numberRows 0 (numbers step)) (spaceRows (s .count) (next s step .count) l) (all-numbered 0 (numbers step)) refl)
 
   -- whatever next state is answered and whatever the list then holds

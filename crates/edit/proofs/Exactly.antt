@@ -26,7 +26,7 @@ module _ (e : Edit) (s : Shape) (j : ℕ) (controls lent : List ℤ) where
   abbrev pub callRows : List Row
   callRows = shapeRows s ++ editRows e s (planOf s) (planOf (shapeAfter e s)) j controls lent
 
-  abbrev pub done : Outcome
+  abbrev done : Outcome
   done = accepts e s (planOf (shapeAfter e s)) j controls lent
 
   pub exactly : Exactly callRows (tells (edits e s j controls lent)) (controls, lent) (lists (edits e s j controls lent)) (values (tells done)) (lists done)

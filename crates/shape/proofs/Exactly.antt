@@ -55,7 +55,7 @@ module _ {A : Type 0} (tells : A → Told) (rows : List Row) (refused : Refusal 
   got = judge rows refused accepted
 
   -- a refusal told is the first row's, and the whole outcome is that refusal's
-  pub told-first : (r : Refusal) → tells got ≡ Refuses r → First rows r × (got ≡ refused r)
+  told-first : (r : Refusal) → tells got ≡ Refuses r → First rows r × (got ≡ refused r)
   told-first r e =
       ⊎-elim (λ (v : (q : Refusal) × First rows q).
       let is = judge-first rows refused accepted (v .0) (v .1) in
