@@ -1,43 +1,53 @@
--- "Given exactly when" (document 01, "Refusal numbers"), of the drawing steps: a refusal is given exactly when its row is the first of the step's table that holds, and a
--- next state is answered exactly when no row holds.
-use mathlib.Core.Path.{_≡_, ap}
-use mathlib.Core.List.{List}
-use Prim.Native.Nat.{ℕ}
-use native.Mathlib.Omega.{arith}
+-- "Given exactly when" (document 01, "Refusal numbers"), of the drawing steps: the law of `shape/proofs/Exactly` over the step's table.
+use mathlib.Core.Path.{_≡_, refl, ap}
+use mathlib.Core.Bool.{Bool, true, false, not, _||_}
+use mathlib.Core.List.{List, [], _∷_}
+use Prim.Native.Nat.{ℕ, _+_}
+use lib.Dec.{ltb}
+use lib.Ieee.{Float}
 use lib.IntN.{ℤ}
-use Rattle.shape.specs.Refusals.{First, NoRow}
-use Rattle.shape.specs.declared.Refusal.{Refusal}
-use Rattle.shape.proofs.Refusals.{judge-first, judge-none, only-first, only-none}
+use Rattle.doubles.specs.Number.{measure, paper}
+use Rattle.shape.specs.Refusals.{NoRow}
+use Rattle.shape.specs.Exactly.{Told, number, values, Exactly}
+use Rattle.shape.proofs.Refusals.{judge-none}
+use Rattle.shape.proofs.Exactly as any-call
+use Rattle.shape.proofs.Exactly.{numbered, numbered-append}
 use Rattle.drawing.specs.declared.State.{State}
 use Rattle.drawing.specs.declared.Step.{Step}
-use Rattle.drawing.specs.declared.Stepped.{Stepped}
-use Rattle.drawing.specs.declared.Stepped.the-variants.{Next, Refused}
-use Rattle.drawing.specs.Reading.{rows, Outcome, both, refused, accepted, stepped}
+use Rattle.drawing.specs.declared.Stepped.the-variants.{Next}
+use Rattle.drawing.specs.Drawing.{numbers, next}
+use Rattle.drawing.specs.Reading.{numberRows, spaceRows, rows, Outcome, both, told, stateAfter, refused, accepted, stepped}
 
--- two refusals that come to the same are the same, and no refusal is a next state
-refused-same : (q r : Refusal) → Refused q ≡ Refused r → q ≡ r
-refused-same q r e = cc
+abbrev tells : Outcome → Told
+tells o = told (o .answer)
 
-refused-apart : (q : Refusal) (t : State) → Refused q ≡ Next t → ⊥
-refused-apart q t e = let z : _≡_ {A = ℕ} 0 1 = cc in omega arith
+-- The state that the caller has, and the lent controls.
+abbrev lent : State → Outcome → State × List ℤ
+lent s o = (stateAfter s (o .answer), o .controls)
 
-answer : Outcome → Stepped
-answer o = o .answer
+-- a number's row holds where what it would give is above 0
+all-numbered : (i : ℕ) (xs : List Float) → numbered (numberRows i xs) ≡ true
+all-numbered i [] = refl
+all-numbered i (x ∷ xs) = simp (here (ltb 0 (paper (measure x) .0)), all-numbered (i + 1) xs)
+  where
+    here : (t : Bool) → (t || not t) ≡ true
+    here true = refl
+    here false = refl
 
 module _ (s : State) (step : Step) (l : List ℤ) where
-  pub refused-first : (r : Refusal) → stepped s step l ≡ refused l r → First (rows s step l) r
-  unfolding stepped answer
-  refused-first r e = only-first (rows s step l) (refused l) (accepted s step l) (λ q t h. refused-same q t (ap answer h)) (λ q h. refused-apart q _ (ap answer h)) r e
+  abbrev done : Outcome
+  done = accepted s step l
 
-  pub first-refused : (r : Refusal) → First (rows s step l) r → stepped s step l ≡ refused l r
+  pub exactly : Exactly (rows s step l) (tells (stepped s step l)) (s, l) (lent s (stepped s step l)) (values (tells done)) (lent s done)
   unfolding stepped
-  first-refused r h = judge-first (rows s step l) (refused l) (accepted s step l) r h
+  exactly =
+      any-call.exactly tells (rows s step l) (refused l) done (values (tells done)) (λ r. refl) refl (lent s) (s, l) (λ r. refl)
+      (numbered-append (numberRows 0 (numbers step)) (spaceRows (s .count) (next s step .count) l) (all-numbered 0 (numbers step)) refl)
 
   -- whatever next state is answered and whatever the list then holds
   pub next-none : (t : State) (m : List ℤ) → stepped s step l ≡ both (Next t) m → NoRow (rows s step l)
-  unfolding stepped answer
-  next-none t m e = only-none (rows s step l) (refused l) (accepted s step l) (both (Next t) m) (λ q h. refused-apart q t (ap answer h)) e
+  next-none t m e = exactly .accepted .0 (ap (λ o. number (tells o)) e)
 
   pub none-next : NoRow (rows s step l) → stepped s step l ≡ accepted s step l
   unfolding stepped
-  none-next h = judge-none (rows s step l) (refused l) (accepted s step l) h
+  none-next none = judge-none (rows s step l) (refused l) (accepted s step l) none

@@ -5,5 +5,6 @@ pub mod Records
 pub mod Sequences
 pub mod Shapes
 pub mod Exactly
+pub mod Lists
 pub mod Lines
 pub mod Unique

@@ -4,7 +4,8 @@ use mathlib.Core.Path.{_≡_, refl, sym, ap, subst}
 use mathlib.Core.Bool.{Bool, true, cond}
 use mathlib.Core.List.{List, [], _∷_, _++_}
 use mathlib.Core.Logic.{_⊎_, ⊎-elim}
-use Prim.Native.Nat.{ℕ, _+_, _*_, _-_, _%_, _≤_, _<_}
+use Prim.Native.Nat.{ℕ, _+_, _*_, _-_, _%_, max, _≤_, _<_}
+use native.Mathlib.Nat.{le-max-right}
 use native.Mathlib.Omega.{arith}
 use borrow.Author.Tests.{le-leb, leb-true, ltb-false, eq-eqb}
 use lib.Dec.{leb}
@@ -18,17 +19,17 @@ use Rattle.doubles.specs.Exact.{signed}
 use Rattle.doubles.specs.Number.{thousand, within, measure, paper}
 use Rattle.doubles.specs.declared.Measure.the-variants.{Micrometres, Outside}
 use Rattle.shape.specs.Shape.{mostRecords}
-use Rattle.shape.specs.Refusals.{Row, First, NoRow}
+use Rattle.shape.specs.Refusals.{First, NoRow}
 use Rattle.shape.specs.declared.Refusal.{Refusal}
 use Rattle.shape.proofs.Tests.{passes, true-is-not-false}
-use Rattle.shape.proofs.Refusals.{judge-first, judge-none, verdict}
+use Rattle.shape.proofs.Refusals.{judge-first, judge-none, none-earlier, none-later, row-fails, verdict}
 use Rattle.drawing.specs.declared.Control.{Control}
 use Rattle.drawing.specs.declared.State.{State}
 use Rattle.drawing.specs.declared.Step.{Step}
 use Rattle.drawing.specs.declared.Step.the-variants.{Move, Line, Cubic, Close}
 use Rattle.drawing.specs.declared.Checked.the-variants.{Fine}
 use Rattle.drawing.specs.Drawing.{numbers, at, opens, same, line, added, grown, next, flat}
-use Rattle.drawing.specs.Reading.{reached, numberRows, spaceRows, rows, refused, accepted, stepped, paperOf}
+use Rattle.drawing.specs.Reading.{reached, stateRows, numberRows, spaceRows, rows, refused, accepted, stepped, stateAfter}
 use Rattle.drawing.specs.Parts.{judgeState}
 use Rattle.drawing.specs.Sequences.{Held, begin, after, drawn, Inside, Sound}
 use Rattle.drawing.proofs.Tables.{or-true-right, none-fine, fine-open, fine-empty, fine-begun, reached-facts}
@@ -67,12 +68,15 @@ three-more n h e m = let r = begun-count n h e in by-threes (n + 3) m (omega ari
 
 -- ---- one step
 
-none-append : (a b : List Row) → NoRow (a ++ b) → NoRow a × NoRow b
-none-append [] b h = (tt, h)
-none-append (r ∷ a) b h = let t = none-append a b (h .1) in ((h .0, t .0), t .1)
-
 space-facts : (n m : ℕ) (l : List ℤ) → NoRow (spaceRows n m l) → (m ≤ mostRecords) × (2 * m ≤ length l)
-space-facts n m l h = (ltb-false mostRecords m (h .0), ltb-false (length l) (2 * m) (h .1 .1 .0))
+space-facts n m l none =
+    let room = ltb-false (length l) (2 * max n m) (row-fails 7 (spaceRows n m l) none) in
+    (ltb-false mostRecords m (row-fails 6 (spaceRows n m l) none), omega (arith, room, le-max-right n m))
+
+-- no row of a step holds, so none of its state's
+fit-then : (s : State) (step : Step) (l : List ℤ) → NoRow (rows s step l) → judgeState s (opens step) ≡ Fine
+fit-then s step l none =
+    none-fine s (opens step) (none-earlier (stateRows s (opens step)) (numberRows 0 (numbers step) ++ spaceRows (s .count) (next s step .count) l) none)
 
 kept : (h : Held) → Sound h → 0 < h .state .count → Kept (h .controls) (h .state .count) (h .state .start) (h .state .current)
 kept h k b = record { some = b; room = k .room; first = k .start b; last = k .current b; inside = k .inside }
@@ -117,11 +121,12 @@ module _ (h : Held) (k : Sound h) where
 
   -- what no row's holding says
   pub fine : (step : Step) → NoRow (rows s step l) → judgeState s (opens step) ≡ Fine
-  fine step n = none-fine s (opens step) (n .0, (n .1 .0, (n .1 .1 .0, tt)))
+  fine step none = fit-then s step l none
 
   pub spacious : (step : Step) → NoRow (rows s step l) → (next s step .count ≤ mostRecords) × (2 * next s step .count ≤ length l)
   spacious step n =
-      space-facts (s .count) (next s step .count) l (none-append (numberRows 0 (numbers step)) (spaceRows (s .count) (next s step .count) l) (n .1 .1 .1) .1)
+      let space = spaceRows (s .count) (next s step .count) l in
+      space-facts (s .count) (next s step .count) l (none-later (numberRows 0 (numbers step)) space (none-later (stateRows s (opens step)) (numberRows 0 (numbers step) ++ space) n))
 
   never-closed : (step : Step) → NoRow (rows s step l) → {A : Type 0} → s .closed ≡ true → A
   never-closed step n c = absurd (true-is-not-false c (fine-open s (opens step) (fine step n)))
@@ -156,11 +161,11 @@ module _ (h : Held) (k : Sound h) where
   -- a step that is refused leaves all as it was
   after-refused : (step : Step) (r : Refusal) → First (rows s step l) r → after h step ≡ h
   unfolding stepped
-  after-refused step r f = ap (λ out. record { state = paperOf s (out .answer) .state; controls = out .controls }) (judge-first (rows s step l) (refused l) (accepted s step l) r f)
+  after-refused step r f = ap (λ out. record { state = stateAfter s (out .answer); controls = out .controls }) (judge-first (rows s step l) (refused l) (accepted s step l) r f)
 
   after-accepted : (step : Step) → NoRow (rows s step l) → after h step ≡ left h step
   unfolding stepped
-  after-accepted step n = ap (λ out. record { state = paperOf s (out .answer) .state; controls = out .controls }) (judge-none (rows s step l) (refused l) (accepted s step l) n)
+  after-accepted step n = ap (λ out. record { state = stateAfter s (out .answer); controls = out .controls }) (judge-none (rows s step l) (refused l) (accepted s step l) n)
 
   pub step-sound : (step : Step) → Sound (after h step)
   step-sound step =
@@ -173,7 +178,7 @@ pub nothing-follows : (s : State) (step : Step) (l : List ℤ) → s .closed ≡
 unfolding stepped
 nothing-follows s step l c =
     ⊎-elim (λ (v : (r : Refusal) × First (rows s step l) r). (v .0, judge-first (rows s step l) (refused l) (accepted s step l) (v .0) (v .1)))
-    (λ n. absurd (true-is-not-false c (fine-open s (opens step) (none-fine s (opens step) (n .0, (n .1 .0, (n .1 .1 .0, tt)))))))
+    (λ n. absurd (true-is-not-false c (fine-open s (opens step) (fit-then s step l n))))
     (verdict (rows s step l))
 
 -- ---- any sequence

@@ -2,7 +2,7 @@
 -- in the list and inside the limits.
 use mathlib.Core.Path.{_≡_, refl, ap, _∙_}
 use mathlib.Core.Bool.{true, false, not}
-use mathlib.Core.List.{List, [], _∷_, _++_}
+use mathlib.Core.List.{List, _++_}
 use mathlib.Core.Logic.{_⊎_, ⊎-elim}
 use Prim.Native.Nat.{ℕ, _+_, _*_, _-_, _/_, _%_, _≤_}
 use native.Mathlib.Omega.{arith}
@@ -13,7 +13,8 @@ use Rattle.curve.specs.Limits.{limit}
 use Rattle.curve.specs.Span.{coordinate}
 use Rattle.curve.specs.Ways.{deepest}
 use Rattle.shape.specs.Shape.{mostRecords, allowed, basisOf, spansOf, recordsOf}
-use Rattle.shape.specs.Refusals.{NoRow, outside, firstOutside, shapeRows, controlsRow, limitsRow}
+use Rattle.shape.specs.Refusals.{NoRow, outside, firstOutside, shapeRows, controlRows}
+use Rattle.shape.proofs.Refusals.{none-both}
 use Rattle.shape.proofs.Seek.{seek-none}
 use Rattle.shape.proofs.Spans.{allowed-between}
 use Rattle.drawing.specs.declared.Step.{Step}
@@ -33,27 +34,18 @@ not-outside l r i = simp (le-ltb limit (natAbs (coordinate l 0 r)) (i .x), le-lt
 -- once there is a span, basis 1 at any depth with these controls: none of 1, 2, 3, 7, 8
 pub shape-accepted :
     (h : Held) → Sound h → 4 ≤ h .state .count → (k : ℕ) → k ≤ deepest
-    → NoRow (shapeRows (bezier k (h .state .count)) ++ controlsRow (h .state .count) (h .controls) ∷ limitsRow (h .state .count) (h .controls) ∷ [])
+    → NoRow (shapeRows (bezier k (h .state .count)) ++ controlRows (h .state .count) (h .state .count) (h .controls))
 shape-accepted h ok b k d =
     let n = h .state .count in
     let found = ⊎-elim (λ (z : n ≡ 0). absurd (omega arith)) (λ w. w) (reached-facts n (ok .counted)) in
-    let all : firstOutside (h .controls) n ≡ 0 + n = seek-none (outside (h .controls)) 0 n (λ r lo hi. not-outside (h .controls) r (ok .inside r (omega arith))) in (
-      refl,
-      (
-        le-ltb deepest k d,
-        (
-          ap not (spans-there n b (found .0) (found .1)),
-          (le-ltb (length (h .controls)) (2 * n) (ok .room), (le-ltb (firstOutside (h .controls) n) n (omega arith), tt)),
-        ),
-      ),
-    )
+    let all : firstOutside (h .controls) n ≡ 0 + n = seek-none (outside (h .controls)) 0 n (λ r lo hi. not-outside (h .controls) r (ok .inside r (omega arith))) in
+    none-both (shapeRows (bezier k n)) (controlRows n n (h .controls))
+    (refl, (le-ltb deepest k d, (ap not (spans-there n b (found .0) (found .1)), tt)))
+    (le-ltb (length (h .controls)) (2 * n) (ok .room), (le-ltb (firstOutside (h .controls) n) n (omega arith), tt))
 
 -- and so with any sequence of steps from the empty state
 pub drawing-accepted :
     (l : List ℤ) (steps : List Step) (k : ℕ) → k ≤ deepest → 4 ≤ drawn (begin l) steps .state .count
-    → NoRow
-    (shapeRows (bezier k (drawn (begin l) steps .state .count))
-    ++ controlsRow (drawn (begin l) steps .state .count) (drawn (begin l) steps .controls)
-    ∷ limitsRow (drawn (begin l) steps .state .count) (drawn (begin l) steps .controls)
-    ∷ [])
+    → let h = drawn (begin l) steps in
+    NoRow (shapeRows (bezier k (h .state .count)) ++ controlRows (h .state .count) (h .state .count) (h .controls))
 drawing-accepted l steps k d b = shape-accepted (drawn (begin l) steps) (sound l steps) b k d

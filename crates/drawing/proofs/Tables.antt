@@ -3,10 +3,11 @@ use mathlib.Core.Path.{_≡_, refl, sym, _∙_}
 use mathlib.Core.Bool.{Bool, true, false, not, _&&_, _||_}
 use mathlib.Core.List.{List, [], _∷_, _++_}
 use mathlib.Core.Logic.{_⊎_, inl, inr, ⊎-elim}
-use Prim.Native.Nat.{ℕ, zero, suc, _+_, _*_, _%_, _≤_, _<_}
+use Prim.Native.Nat.{ℕ, zero, suc, _+_, _*_, _%_, max, _≤_, _<_}
+use native.Mathlib.Nat.{le-max-right, max-le}
 use native.Mathlib.Omega.{arith}
 use borrow.Author.Tests.{lt-ltb, le-ltb, leb-true, eqb-true, eqb-false, not-false}
-use lib.Dec.{leb, ltb, eqb}
+use lib.Dec.{leb, eqb}
 use lib.Ieee.{Float}
 use lib.IntN.{ℤ}
 use lib.ListN.{length}
@@ -15,7 +16,7 @@ use Rattle.shape.specs.Shape.{mostRecords}
 use Rattle.shape.specs.Refusals.{Row, judge, First, NoRow}
 use Rattle.shape.specs.declared.Refusal.{Refusal}
 use Rattle.shape.proofs.Tests.{passes, or-false, and-true, true-is-not-false}
-use Rattle.shape.proofs.Refusals.{judge-first, judge-none, judge-append, only-first, only-none}
+use Rattle.shape.proofs.Refusals.{judge-first, judge-none, judge-append, row-fails, only-first, only-none}
 use Rattle.drawing.specs.declared.Control.{Control}
 use Rattle.drawing.specs.declared.State.{State}
 use Rattle.drawing.specs.declared.Step.{Step}
@@ -83,25 +84,25 @@ reached-most n e = ⊎-elim (λ z. omega arith) (λ w. w .0) (reached-facts n e)
 -- what a fit state has
 pub fine-reached : (s : State) (opening : Bool) → judgeState s opening ≡ Fine → reached (s .count) ≡ true
 unfolding miscounted
-fine-reached s opening e = not-false (reached (s .count)) (or-false (not (reached (s .count))) (eqb (s .count) 0 && s .closed) (fine-none s opening e .0) .0)
+fine-reached s opening e = not-false (reached (s .count)) (or-false (not (reached (s .count))) (eqb (s .count) 0 && s .closed) (row-fails 3 (stateRows s opening) (fine-none s opening e)) .0)
 
 pub fine-open : (s : State) (opening : Bool) → judgeState s opening ≡ Fine → s .closed ≡ false
 unfolding outOfTurn
 fine-open s opening e =
-    let h = fine-none s opening e .1 .1 .0 in
+    let h = row-fails 12 (stateRows s opening) (fine-none s opening e) in
     or-false (not (eqb (s .count) 0) && opening) (s .closed) (or-false (eqb (s .count) 0 && not opening) ((not (eqb (s .count) 0) && opening) || s .closed) h .1) .1
 
 pub fine-empty : (s : State) → judgeState s true ≡ Fine → s .count ≡ 0
 unfolding outOfTurn
 fine-empty s e =
-    let h = fine-none s true e .1 .1 .0 in
+    let h = row-fails 12 (stateRows s true) (fine-none s true e) in
     let late = or-false (not (eqb (s .count) 0) && true) (s .closed) (or-false (eqb (s .count) 0 && not true) ((not (eqb (s .count) 0) && true) || s .closed) h .1) .0 in
     ⊎-elim (λ t. eqb-true (s .count) 0 t) (λ f. absurd (true-is-not-false refl (rw f at late))) (passes (eqb (s .count) 0))
 
 pub fine-begun : (s : State) → judgeState s false ≡ Fine → 0 < s .count
 unfolding outOfTurn
 fine-begun s e =
-    let h = fine-none s false e .1 .1 .0 in
+    let h = row-fails 12 (stateRows s false) (fine-none s false e) in
     let early = or-false (eqb (s .count) 0 && not false) ((not (eqb (s .count) 0) && false) || s .closed) h .0 in
     ⊎-elim (λ t. absurd (true-is-not-false refl (rw t at early))) (λ f. above (s .count) (eqb-false (s .count) 0 f)) (passes (eqb (s .count) 0))
   where
@@ -187,14 +188,16 @@ module _ (s : State) (cs : List Control) (start : Control) (closed : Bool) (l : 
       judge-first (spaceRows (s .count) (s .count + length cs) l) (refused l) (extended s cs start closed l) (record { number = 7; place = 0 })
       (inr (
         le-ltb mostRecords (s .count + length cs) h,
-        ⊎-elim (λ t. inl (t, refl)) (λ f. inr (f, inl (lt-ltb (length l) (2 * (s .count + length cs)) short, refl))) (passes (ltb (length l) (2 * s .count))),
+        inl (lt-ltb (length l) (2 * max (s .count) (s .count + length cs)) (omega (arith, le-max-right (s .count) (s .count + length cs))), refl),
       ))
 
   pub roomy : s .count + length cs ≤ mostRecords → 2 * (s .count + length cs) ≤ length l → extends s cs start closed l ≡ extended s cs start closed l
   unfolding extends
   roomy h long =
-      judge-none (spaceRows (s .count) (s .count + length cs) l) (refused l) (extended s cs start closed l)
-      (le-ltb mostRecords (s .count + length cs) h, (le-ltb (length l) (2 * s .count) (omega arith), (le-ltb (length l) (2 * (s .count + length cs)) long, tt)))
+      judge-none (spaceRows (s .count) (s .count + length cs) l) (refused l) (extended s cs start closed l) (
+        le-ltb mostRecords (s .count + length cs) h,
+        (le-ltb (length l) (2 * max (s .count) (s .count + length cs)) (omega (arith, max-le {a = s .count} {b = s .count + length cs} {k = s .count + length cs} (omega arith) (omega arith))), tt),
+      )
 
 -- ---- the whole
 

@@ -1,16 +1,17 @@
 -- A drawing step's refusals in the paper's order (document 01: 3, 8, 12, then its numbers in order, 6, 7), and the one reading of the call: what it answers and
 -- what the lent controls hold afterwards, for every state, step and list. Definitions only.
-use mathlib.Core.Bool.{Bool, not, _&&_, _||_}
+use mathlib.Core.Bool.{Bool, not, cond, _&&_, _||_}
 use mathlib.Core.List.{List, [], _∷_, _++_}
-use Prim.Native.Nat.{ℕ, _+_, _*_, _%_}
+use Prim.Native.Nat.{ℕ, _+_, _*_, _%_, max}
 use lib.Dec.{leb, ltb, eqb}
 use lib.Ieee.{Float}
-use lib.IntN.{ℤ}
+use lib.IntN.{ℤ, pos}
 use lib.Seq.{sets}
 use Rattle.doubles.specs.Number.{measure, paper}
 use Rattle.shape.specs.Shape.{mostRecords}
 use Rattle.curve.specs.Limits.{beyond, limit}
 use Rattle.shape.specs.Refusals.{Row, row, judge, controlsRow}
+use Rattle.shape.specs.Exactly.{Told, Refuses, Accepts}
 use Rattle.shape.specs.declared.Refusal.{Refusal}
 use Rattle.drawing.specs.declared.Control.{Control}
 use Rattle.drawing.specs.declared.State.{State}
@@ -55,7 +56,7 @@ numberRows i (x ∷ xs) = numberRow i x ∷ numberRows (i + 1) xs
 -- ---- rows 6 and 7: the step would pass 64; the list is shorter than the old count n or the new count m needs
 
 abbrev pub spaceRows : ℕ → ℕ → List ℤ → List Row
-spaceRows n m controls = row (ltb mostRecords m) 6 0 ∷ controlsRow n controls ∷ controlsRow m controls ∷ []
+spaceRows n m controls = row (ltb mostRecords m) 6 0 ∷ controlsRow (max n m) controls ∷ []
 
 -- ---- the call
 
@@ -81,12 +82,12 @@ accepted s step l = both (Next (next s step)) (sets l (2 * s .count) (flat (adde
 unfoldable pub stepped : State → Step → List ℤ → Outcome
 stepped s step l = judge (rows s step l) (refused l) (accepted s step l)
 
--- Document 01's number and values for each answer: no refusal, 0, and the next state; or the refusal's number and place, and the state as it was.
-pub record Answered : Type 0 where
-  pub number : ℕ
-  pub place : ℕ
-  pub state : State
+-- What the answer tells: the next state's count, start, current, and 1 where it is closed or 0; or the refusal.
+abbrev pub told : Stepped → Told
+told (Next t) = Accepts (pos (t .count) ∷ t .start .x ∷ t .start .y ∷ t .current .x ∷ t .current .y ∷ pos (cond (t .closed) 1 0) ∷ [])
+told (Refused r) = Refuses r
 
-abbrev pub paperOf : State → Stepped → Answered
-paperOf s (Next t) = record { number = 0; place = 0; state = t }
-paperOf s (Refused r) = record { number = r .number; place = r .place; state = s }
+-- The state that the caller has then: the next one, or on a refusal the one that it had.
+abbrev pub stateAfter : State → Stepped → State
+stateAfter s (Next t) = t
+stateAfter s (Refused r) = s

@@ -12,7 +12,7 @@ use Rattle.drawing.specs.declared.Control.{Control}
 use Rattle.drawing.specs.declared.State.{State}
 use Rattle.drawing.specs.declared.Step.{Step}
 use Rattle.drawing.specs.Drawing.{empty}
-use Rattle.drawing.specs.Reading.{reached, stepped, paperOf}
+use Rattle.drawing.specs.Reading.{reached, stepped, stateAfter}
 
 -- What a caller holds between steps.
 pub record Held : Type 0 where
@@ -27,7 +27,7 @@ begin l = record { state = empty; controls = l }
 abbrev pub after : Held → Step → Held
 after h step =
     let out = stepped (h .state) step (h .controls) in
-    record { state = paperOf (h .state) (out .answer) .state; controls = out .controls }
+    record { state = stateAfter (h .state) (out .answer); controls = out .controls }
 
 -- After a sequence of steps.
 unfoldable pub drawn : Held → List Step → Held

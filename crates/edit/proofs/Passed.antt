@@ -8,7 +8,7 @@ use Rattle.shape.specs.declared.Shape.{Shape}
 use Rattle.shape.specs.declared.Plan.{Plan}
 use Rattle.shape.specs.declared.Listed.the-variants.{Fine, Bad}
 use Rattle.shape.specs.Refusals.{Row, NoRow, shapeRows, planOf}
-use Rattle.shape.proofs.Refusals.{judge-none, none-earlier, none-later, none-sound, sound-facts}
+use Rattle.shape.proofs.Refusals.{judge-none, none-earlier, none-later, good-plan}
 use Rattle.outline.specs.Outline.{points}
 use Rattle.asked.specs.declared.Edit.{Edit}
 use Rattle.edit.specs.Reading.{shapeAfter, planAfter, askRows, judgeAsk, roomRows, judgeRoom, editRows}
@@ -35,7 +35,7 @@ module _ (e : Edit) (s : Shape) (j : ℕ) (controls lent : List ℤ) (none : NoR
   pub may-edit : Editable e s p j
   unfolding judgeAsk
   may-edit =
-      editable e s p j controls lent (sound-facts s p (none-sound s (none-earlier (shapeRows s) (editRows e s p q j controls lent) none)))
+      editable e s p j controls lent (good-plan s (none-earlier (shapeRows s) (editRows e s p q j controls lent) none))
       (judge-none askedOf Bad Fine (none-earlier askedOf (roomOf q) none-later-on))
 
   pub same-plan : q ≡ planAfter e p

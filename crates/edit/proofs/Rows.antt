@@ -2,11 +2,11 @@
 use mathlib.Core.Path.{_≡_, refl, sym, ap, _∙_, subst}
 use mathlib.Core.Bool.{Bool, true, false, cond, _||_}
 use mathlib.Core.Logic.{⊎-elim}
-use mathlib.Core.List.{List}
+use mathlib.Core.List.{List, _++_}
 use Prim.Native.Nat.{ℕ, suc, _+_, _*_, _-_, _/_, _%_, _≤_, _<_, max}
 use native.Mathlib.Nat.{le-max-left, le-max-right, suc-mul}
 use native.Mathlib.Omega.{arith}
-use borrow.Author.Tests.{not-false, ltb-true, ltb-false, leb-true, leb-false, eqb-true, eqb-false, le-ltb}
+use borrow.Author.Tests.{not-false, ltb-true, ltb-false, leb-true, leb-false, eqb-true, eqb-false}
 use lib.Dec.{ltb, eqb}
 use lib.IntN.{ℤ, pos, natAbs}
 use lib.ListN.{getD, length}
@@ -21,9 +21,9 @@ use Rattle.shape.specs.declared.Judged.the-variants.{Sound, Unsound}
 use Rattle.shape.specs.declared.Listed.the-variants.{Fine, Bad}
 use Rattle.shape.specs.Good.{Good, Lent}
 use Rattle.shape.specs.Shape.{spansOf, recordsOf, mostRecords}
-use Rattle.shape.specs.Refusals.{NoRow, judgeShape, planOf}
+use Rattle.shape.specs.Refusals.{NoRow, judgeShape, planOf, controlRows, pointRows}
 use Rattle.shape.proofs.Tests.{passes, true-is-not-false, or-false, either}
-use Rattle.shape.proofs.Refusals.{judge-first, judge-none, sound, unsound, sound-plan, rows-first, rows-none, rows-bad, rows-fine, none-fine, fine-facts}
+use Rattle.shape.proofs.Refusals.{judge-first, judge-none, sound, unsound, sound-plan, rows-first, rows-none, rows-bad, rows-fine, none-later, row-fails, lent-facts}
 use Rattle.shape.proofs.Spans.{spans-records, spans-below}
 use Rattle.spans.specs.Numbers.{perSpan, filled}
 use Rattle.spans.proofs.Filled.{length-filled, in-filled}
@@ -34,7 +34,7 @@ use Rattle.asked.specs.declared.Edit.the-variants.{Move, Insert, Remove}
 use Rattle.asked.specs.Edits.{countAfter, spansAfter, offered, inRange, atTheEnd, newOutside, choose, controlAt, asked, pastFresh}
 use Rattle.asked.specs.Ready.{Askable}
 use Rattle.edit.specs.Carried.{Carriable}
-use Rattle.edit.specs.Reading.{shapeAfter, planAfter, askRows, judgeAsk, roomRows, judgeRoom, editRows, refuses, accepts, editsPlan, editsRoom, edits}
+use Rattle.edit.specs.Reading.{shapeAfter, planAfter, askRows, judgeAsk, newRows, roomRows, judgeRoom, editRows, refuses, accepts, editsPlan, editsRoom, edits}
 use Rattle.edit.specs.Ready.{Editable, Workable}
 
 -- ---- the new shape
@@ -203,16 +203,19 @@ module _ (e : Edit) (s : Shape) (p : Plan) (j : ℕ) (ok : Editable e s p j) (co
   none = rows-none (roomRows e n controls most len) fine
 
   room : 2 * max n (countAfter e n) ≤ length controls
-  room = ltb-false (length controls) (2 * max n (countAfter e n)) (none .0)
+  room = ltb-false (length controls) (2 * max n (countAfter e n)) (row-fails 7 (roomRows e n controls most len) none)
 
   pub new-room : 2 * countAfter e n ≤ length controls
   new-room = omega (arith, room, le-max-right n (countAfter e n))
 
   -- the old records, by the shared rows
   old : Lent n controls 0 len
-  old =
-      fine-facts n controls 0 len
-      (none-fine n controls 0 len (le-ltb (length controls) (2 * n) (omega (arith, room, le-max-left n (countAfter e n))), (none .1 .0, (le-ltb len (2 * 0) (omega arith), tt))))
+  old = lent-facts n controls 0 len (omega (arith, room, le-max-left n (countAfter e n))) (row-fails 8 (roomRows e n controls most len) none) (omega arith)
+
+  -- and row 8 for the new one, which comes after theirs
+  new-inside : newOutside e ≡ false
+  new-inside =
+      let later = newRows e n ++ pointRows most len in row-fails 8 later (none-later (controlRows (max n (countAfter e n)) n controls) later none)
 
   -- the new ones
   pub new-lent : Lent (countAfter e n) (asked e j controls (countAfter e n)) 0 len
@@ -221,7 +224,7 @@ module _ (e : Edit) (s : Shape) (p : Plan) (j : ℕ) (ok : Editable e s p j) (co
       let after = countAfter e n in
       let f = controlAt e j controls in
       let at : (i : ℕ) → i < 2 * after → Small (getD (filled f 0 (2 * after) controls) i (pos 0)) =
-      λ i h. subst Small (sym (in-filled f 0 (2 * after) controls i (omega arith) (omega arith) (omega (arith, new-room)))) (control-small e j n controls (number-small n controls 0 len old) (none .1 .1 .0) (ok .inRange) i h) in
+      λ i h. subst Small (sym (in-filled f 0 (2 * after) controls i (omega arith) (omega arith) (omega (arith, new-room)))) (control-small e j n controls (number-small n controls 0 len old) new-inside (ok .inRange) i h) in
       record {
         room = omega (arith, new-room, length-filled f 0 (2 * after) controls);
         x = λ r h. at (2 * r + 0) (omega arith);
@@ -230,7 +233,7 @@ module _ (e : Edit) (s : Shape) (p : Plan) (j : ℕ) (ok : Editable e s p j) (co
       }
 
   points-fit : 2 * max (points p) (points q) ≤ len
-  points-fit = ltb-false len (2 * max (points p) (points q)) (none .1 .1 .1 .0)
+  points-fit = ltb-false len (2 * max (points p) (points q)) (row-fails 9 (roomRows e n controls most len) none)
 
   old-fits : p .spans * perSpan (p .depth) + 2 ≤ len
   old-fits = omega (arith, all-numbers (p .depth) (p .spans), points-fit, le-max-left (points p) (points q))
@@ -276,8 +279,14 @@ module _ (e : Edit) (s : Shape) (p : Plan) (j : ℕ) (controls lent : List ℤ) 
   pub editable : Good s p → judgeAsk e (p .basis) j (s .count) ≡ Fine → Editable e s p j
   unfolding judgeAsk
   editable good t =
-      let h = rows-none (askRows e (p .basis) j (s .count)) t in
-      record { good = good; offered = not-false (offered e (p .basis)) (h .0); inRange = not-false (inRange e j (s .count)) (h .1 .0); notAtTheEnd = h .1 .1 .0 }
+      let rows = askRows e (p .basis) j (s .count) in
+      let none = rows-none rows t in
+      record {
+        good = good;
+        offered = not-false (offered e (p .basis)) (row-fails 4 rows none);
+        inRange = not-false (inRange e j (s .count)) (row-fails 5 rows none);
+        notAtTheEnd = row-fails 6 rows none;
+      }
 
   pub plan-fine : (q : Plan) → judgeAsk e (p .basis) j (s .count) ≡ Fine → editsPlan e s p q j controls lent ≡ editsRoom e s p q j controls lent
   unfolding editsPlan judgeAsk editsRoom

@@ -3,7 +3,7 @@
 use mathlib.Core.Bool.{not}
 use mathlib.Core.List.{List, [], _∷_, _++_}
 use Prim.Native.Nat.{ℕ, _*_, max}
-use lib.IntN.{ℤ}
+use lib.IntN.{ℤ, pos}
 use lib.ListN.{length}
 use Rattle.shape.specs.declared.Shape.{Shape}
 use Rattle.shape.specs.declared.Plan.{Plan}
@@ -11,7 +11,8 @@ use Rattle.shape.specs.declared.Refusal.{Refusal}
 use Rattle.shape.specs.declared.Listed.{Listed}
 use Rattle.shape.specs.declared.Listed.the-variants.{Fine, Bad}
 use Rattle.curve.specs.declared.Basis.{Basis}
-use Rattle.shape.specs.Refusals.{Row, row, judge, shapeRows, controlsRow, limitsRow, pointsRow, planOf}
+use Rattle.shape.specs.Refusals.{Row, row, judge, shapeRows, controlRows, pointRows, planOf}
+use Rattle.shape.specs.Exactly.{Told, Refuses, Accepts}
 use Rattle.spans.specs.Numbers.{filled}
 use Rattle.outline.specs.Outline.{points}
 use Rattle.asked.specs.declared.Edit.{Edit}
@@ -35,10 +36,13 @@ askRows e b j n = row (not (offered e b)) 4 0 ∷ row (not (inRange e j n)) 5 j 
 unfoldable pub judgeAsk : Edit → Basis → ℕ → ℕ → Listed
 judgeAsk e b j n = judge (askRows e b j n) Bad Fine
 
--- Rows 7, 8, 9: the lent lists, with room for the greater of the two counts and of the two numbers of points, and the new record, whose place is n.
+-- Row 8 for the new record, whose place is n.
+abbrev pub newRows : Edit → ℕ → List Row
+newRows e n = row (newOutside e) 8 n ∷ []
+
+-- Rows 7, 8, 9: the lent lists, with room for the greater of the two counts and of the two numbers of points, and the new record after the old ones.
 abbrev pub roomRows : Edit → ℕ → List ℤ → ℕ → ℕ → List Row
-roomRows e n controls most len =
-    controlsRow (max n (countAfter e n)) controls ∷ limitsRow n controls ∷ row (newOutside e) 8 n ∷ pointsRow most len ∷ []
+roomRows e n controls most len = controlRows (max n (countAfter e n)) n controls ++ (newRows e n ++ pointRows most len)
 
 unfoldable pub judgeRoom : Edit → ℕ → List ℤ → ℕ → ℕ → Listed
 judgeRoom e n controls most len = judge (roomRows e n controls most len) Bad Fine
@@ -87,3 +91,8 @@ edits e s j controls lent =
     let p = planOf s in
     let q = planOf (shapeAfter e s) in
     judge (shapeRows s ++ editRows e s p q j controls lent) (refuses controls lent) (accepts e s q j controls lent)
+
+-- What the answer tells: the new shape, the first span worked afresh and how many; or the refusal.
+abbrev pub told : Edited → Told
+told (Done c) = Accepts (pos (c .shape .basis) ∷ pos (c .shape .depth) ∷ pos (c .shape .count) ∷ pos (c .first) ∷ pos (c .fresh) ∷ [])
+told (Refused r) = Refuses r

@@ -1,9 +1,10 @@
 -- The listing of every file fits the room for the longest: a file is refused by a row whose number and place are small, or its outline is drawn and its points are near.
 use mathlib.Core.Path.{_≡_, sym, ap, _∙_, subst}
 use mathlib.Core.List.{List, _++_}
-use mathlib.Core.Logic.{_⊎_, inl, inr, ⊎-elim}
+use mathlib.Core.Logic.{⊎-elim}
 use Prim.Native.Nat.{ℕ, zero, suc, _+_, _*_, _^_, _≤_, _<_}
 use native.Mathlib.Omega.{arith}
+use borrow.Author.Needs.{needs}
 use borrow.Author.Tests.{ltb-false}
 use lib.Dec.{ltb, eqb}
 use lib.IntN.{ℤ}
@@ -12,15 +13,15 @@ use lib.Seq.{sets, sets-eq, take-at}
 use Rattle.curve.specs.Numbers.{tab}
 use Rattle.curve.proofs.Tab.{length-tab}
 use Rattle.shape.specs.declared.Refusal.{Refusal}
-use Rattle.shape.specs.Refusals.{Row, First, NoRow, outside}
-use Rattle.shape.proofs.Refusals.{verdict}
+use Rattle.shape.specs.Refusals.{First, NoRow, outside}
+use Rattle.shape.proofs.Refusals.{row-fails, first-either, Each, each-both, each-first, verdict}
 use Rattle.shape.proofs.Seek.{seek-to}
 use Rattle.shape.proofs.Tests.{or-false}
 use Rattle.outline.specs.Outline as outline
 use Rattle.outline.proofs.Within.{number-within}
 use Rattle.record_file.specs.Format.{numbers}
-use Rattle.record_file.specs.Rows.{mostBytes, recordCount, recordRows, laterRows, fileRows}
-use Rattle.record_file.proofs.Readings.{refused-when, read-when}
+use Rattle.record_file.specs.Rows.{mostBytes, recordCount, lengthRows, recordRows, laterRows, fileRows}
+use Rattle.record_file.proofs.Exactly.{first-refused, none-read}
 use Rattle.listing.specs.Listing.{outlineText}
 use Rattle.file_list.specs.Files.{controls, points, mostText, fileText}
 use Rattle.file_list.proofs.Texts.{text-then, read-text, unread-text}
@@ -33,38 +34,32 @@ record Short (r : Refusal) : Type 0 where
   number : r .number < 10 ^ 2
   place : r .place < 10 ^ 2
 
-short : {q r : Refusal} → q ≡ r → q .number < 10 ^ 2 → q .place < 10 ^ 2 → Short r
-short e few low = subst Short e (record { number = few; place = low })
-
 module _ (file : List ℕ) where
-  in-records : (i m : ℕ) (rest : List Row) (r : Refusal) → i + m ≤ 64 → First (recordRows file i m ++ rest) r → Short r ⊎ First rest r
+  records-short : (i m : ℕ) → i + m ≤ 64 → Each Short (recordRows file i m)
   unfolding recordRows
-  in-records i zero rest r few f = inr f
-  in-records i (suc m) rest r few (inl (holds, e)) = inl (short e (omega arith) (omega arith))
-  in-records i (suc m) rest r few (inr (h, inl (holds, e))) = inl (short e (omega arith) (omega arith))
-  in-records i (suc m) rest r few (inr (h, inr (k, f))) = in-records (suc i) m rest r (omega arith) f
+  records-short i zero few = tt
+  records-short i (suc m) few =
+      (record { number = omega arith; place = omega arith }, (record { number = omega arith; place = omega arith }, records-short (suc i) m (omega arith)))
 
-  in-later : (m : ℕ) (r : Refusal) → m ≤ 64 → First (laterRows file m controls) r → Short r
-  in-later m r few (inl (holds, e)) = short e (omega arith) (omega arith)
-  in-later m r few (inr (a, inl (holds, e))) = short e (omega arith) (omega arith)
-  in-later m r few (inr (a, inr (b, inl (holds, e)))) = short e (omega arith) (omega arith)
-  in-later m r few (inr (a, inr (b, inr (c, inl (holds, e))))) = short e (omega arith) (omega arith)
-  in-later m r few (inr (a, inr (b, inr (c, inr (d, inl (holds, e)))))) =
-      short e (omega arith) (omega (arith, seek-to (outside (numbers file m)) 0 m))
-  in-later m r few (inr (a, inr (b, inr (c, inr (d, inr (f, none)))))) = absurd none
+  later-short : (m : ℕ) → m ≤ 64 → Each Short (laterRows file m controls)
+  later-short m few = let found = seek-to (outside (numbers file m)) 0 m in search needs
 
   refused-short : (r : Refusal) → First (fileRows file controls) r → Short r
-  refused-short r (inl (holds, e)) = short e (omega arith) (omega arith)
-  refused-short r (inr (a, inl (holds, e))) = short e (omega arith) (omega arith)
-  refused-short r (inr (a, inr (b, f))) =
-      let long = or-false (eqb (length file) 0) (ltb mostBytes (length file)) a in
-      let few : recordCount file ≤ 64 = omega (arith, ltb-false mostBytes (length file) (long .1)) in
-      ⊎-elim (λ h. h) (λ g. in-later (recordCount file) r few g) (in-records 0 (recordCount file) (laterRows file (recordCount file) controls) r (omega (arith, few)) f)
+  refused-short r f =
+      let n = recordCount file in
+      let first = lengthRows (length file) in
+      let rest = recordRows file 0 n ++ laterRows file n controls in
+      ⊎-elim (λ (g : First first r). each-first Short first (search needs) r g)
+      (λ (g : NoRow first × First rest r).
+      let long = or-false (eqb (length file) 0) (ltb mostBytes (length file)) (row-fails 3 first (g .0)) in
+      let few : n ≤ 64 = omega (arith, ltb-false mostBytes (length file) (long .1)) in
+      each-first Short rest (each-both Short (recordRows file 0 n) (laterRows file n controls) (records-short 0 n (omega (arith, few))) (later-short n few)) r (g .1))
+      (first-either first rest r f)
 
   refused-fits : (r : Refusal) → First (fileRows file controls) r → length (fileText file) ≤ mostText
   refused-fits r f =
       let few = refused-short r f in
-      subst (λ t. length t ≤ mostText) (sym (unread-text file r controls (refused-when file controls r f))) (omega (arith, refusal-length (r .number) (r .place) (few .number) (few .place)))
+      subst (λ t. length t ≤ mostText) (sym (unread-text file r controls (first-refused file controls r f))) (omega (arith, refusal-length (r .number) (r .place) (few .number) (few .place)))
 
 -- ---- what is drawn
 
@@ -85,7 +80,7 @@ drawn-fits file none =
     let ok = good file none in
     let few = few-points file none in
     let text : fileText file ≡ outlineText (sh .basis) (sh .depth) (q .spans) (tab f 0 (2 * m)) =
-    read-text file sh c (read-when file controls none)
+    read-text file sh c (none-read file controls none)
     ∙ text-then sh c (outline.accepts q c points) (read-drawn file none)
     ∙ ap (outlineText (sh .basis) (sh .depth) (q .spans)) (front points f (2 * m) (omega (arith, few))) in
     let long =

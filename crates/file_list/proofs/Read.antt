@@ -1,6 +1,6 @@
 -- A file that is read is drawn: its shape is sound, its records are inside the limits, and the lists have room for the most records and points.
 use mathlib.Core.Path.{_≡_, ap, _∙_}
-use mathlib.Core.List.{List}
+use mathlib.Core.List.{List, _++_}
 use Prim.Native.Nat.{ℕ, _*_, _^_, _≤_}
 use native.Mathlib.Nat.{mul-le-mul, pow-le-pow-right}
 use native.Mathlib.Omega.{arith}
@@ -14,14 +14,15 @@ use Rattle.shape.specs.declared.Shape.{Shape}
 use Rattle.shape.specs.declared.Plan.{Plan}
 use Rattle.shape.specs.Good.{Good, Lent}
 use Rattle.shape.specs.Shape.{pointsOf}
-use Rattle.shape.specs.Refusals.{NoRow, listRows, planOf}
-use Rattle.shape.proofs.Refusals.{none-later, none-sound, sound-facts, none-fine, fine-facts}
+use Rattle.shape.specs.Refusals.{NoRow, shapeRows, listRows, planOf}
+use Rattle.shape.proofs.Refusals.{none-both, none-earlier, none-later, row-fails, good-plan, none-facts}
 use Rattle.outline.specs.Outline as outline
 use Rattle.outline.specs.Outline.{accepts, draws}
 use Rattle.outline.proofs.Exactly.{none-drawn}
 use Rattle.record_file.specs.Format as format
 use Rattle.record_file.specs.Format.{numbers}
-use Rattle.record_file.specs.Rows.{recordCount, recordRows, laterRows, shapeOf, fileRows}
+use Rattle.record_file.specs.Rows as rows
+use Rattle.record_file.specs.Rows.{recordCount, lengthRows, recordRows, laterRows, shapeOf, fileRows}
 use Rattle.record_file.proofs.Outside.{outside-written}
 use Rattle.file_list.specs.Files.{controls, points}
 
@@ -39,10 +40,13 @@ module _ (file : List ℕ) (none : NoRow (fileRows file controls)) where
   held = sets controls 0 (numbers file n)
 
   later : NoRow (laterRows file n controls)
-  later = none-later (recordRows file 0 n) (laterRows file n controls) (none .1 .1)
+  later = none-later (recordRows file 0 n) (laterRows file n controls) (none-later (lengthRows (length file)) (recordRows file 0 n ++ laterRows file n controls) none)
+
+  shape : NoRow (shapeRows s)
+  shape = none-earlier (shapeRows s) (rows.listRows file n controls) later
 
   pub good : Good s p
-  good = sound-facts s p (none-sound s (later .0, (later .1 .0, (later .1 .1 .0, tt))))
+  good = good-plan s shape
 
   room : 2 * n ≤ length controls
   room = omega (arith, good .records-most)
@@ -61,13 +65,13 @@ module _ (file : List ℕ) (none : NoRow (fileRows file controls)) where
   lists = (
     le-ltb (length held) (2 * n) (omega (arith, room, length-sets controls 0 (numbers file n))),
     (
-      ap (λ (m : ℕ). ltb m n) (outside-written controls (numbers file n) n (length-tab (format.number file) 0 (2 * n)) room) ∙ later .1 .1 .1 .1 .0,
+      ap (λ (m : ℕ). ltb m n) (outside-written controls (numbers file n) n (length-tab (format.number file) 0 (2 * n)) room) ∙ row-fails 8 (laterRows file n controls) later,
       (le-ltb (length points) (2 * outline.points p) (omega (arith, few-points)), tt),
     ),
   )
 
   pub lent : Lent n held (outline.points p) (length points)
-  lent = fine-facts n held (outline.points p) (length points) (none-fine n held (outline.points p) (length points) lists)
+  lent = none-facts n held (outline.points p) (length points) lists
 
   pub read-drawn : draws s held points ≡ accepts p held points
-  read-drawn = none-drawn s held points (later .0, (later .1 .0, (later .1 .1 .0, lists)))
+  read-drawn = none-drawn s held points (none-both (shapeRows s) (listRows n held (outline.points p) (length points)) shape lists)

@@ -16,10 +16,11 @@ use Rattle.shape.specs.declared.Refusal.{Refusal}
 use Rattle.shape.specs.declared.Judged.the-variants.{Unsound}
 use Rattle.shape.specs.Refusals.{judgeShape, planOf}
 use Rattle.shape.proofs.Tests.{passes}
+use Rattle.shape.proofs.Refusals.{row-fails}
 use Rattle.outline.specs.declared.Drawn.{Drawn}
 use Rattle.outline.specs.declared.Drawn.the-variants as drawn
 use Rattle.outline.specs.Outline as outline
-use Rattle.outline.specs.Outline.{draws}
+use Rattle.outline.specs.Outline.{drawRows, draws}
 use Rattle.outline.proofs.Draws.{draws-unsound}
 use Rattle.outline.proofs.Exactly.{points-none, none-drawn}
 use Rattle.record_file.specs.declared.Reading.the-variants as read
@@ -54,7 +55,7 @@ module _ (s : Shape) (c : List ℤ) where
       let p = planOf s in
       let none = points-none s c points n held e in
       let is : outline.accepts p c points ≡ outline.outcome (drawn.Points n) held = sym (none-drawn s c points none) ∙ e in
-      let room : 2 * outline.points p ≤ length points = ltb-false (length points) (2 * outline.points p) (none .1 .1 .1 .1 .1 .0) in
+      let room : 2 * outline.points p ≤ length points = ltb-false (length points) (2 * outline.points p) (row-fails 9 (drawRows s c points) none) in
       let count : outline.points p ≡ n = ap (λ (o : outline.Outcome). pointsIn (o .answer)) is in
       let long : length (outline.drawn p c points) ≡ length held = ap (λ (o : outline.Outcome). length (o .held)) is in
       omega (arith, room, count, long, length-sets points 0 (tab (outline.numbers p c) 0 (2 * outline.points p)))

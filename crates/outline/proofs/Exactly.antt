@@ -1,44 +1,32 @@
--- "Given exactly when" (document 01, "Refusal numbers"), of the drawing calls: a refusal is given exactly when its row is the first of the call's table that holds, and
--- points are answered exactly when no row holds.
-use mathlib.Core.Path.{_≡_, ap}
-use mathlib.Core.List.{List}
+-- "Given exactly when" (document 01, "Refusal numbers"), of the drawing calls: the law of `shape/proofs/Exactly` over the call's table.
+use mathlib.Core.Path.{_≡_, refl, ap}
+use mathlib.Core.List.{List, [], _∷_}
 use Prim.Native.Nat.{ℕ}
-use native.Mathlib.Omega.{arith}
-use lib.IntN.{ℤ}
+use lib.IntN.{ℤ, pos}
 use Rattle.shape.specs.declared.Shape.{Shape}
-use Rattle.shape.specs.declared.Refusal.{Refusal}
-use Rattle.shape.specs.Refusals.{First, NoRow, planOf}
-use Rattle.shape.proofs.Refusals.{judge-first, judge-none, only-first, only-none}
-use Rattle.outline.specs.declared.Drawn.{Drawn}
-use Rattle.outline.specs.declared.Drawn.the-variants.{Points, Refused}
-use Rattle.outline.specs.Outline.{Outcome, outcome, drawRows, refuses, accepts, draws}
+use Rattle.shape.specs.Refusals.{NoRow, planOf}
+use Rattle.shape.specs.Exactly.{Told, number, Exactly}
+use Rattle.shape.proofs.Refusals.{judge-none}
+use Rattle.shape.proofs.Exactly as any-call
+use Rattle.outline.specs.declared.Drawn.the-variants.{Points}
+use Rattle.outline.specs.Outline.{Outcome, outcome, told, points, drawn, drawRows, refuses, accepts, draws}
 
--- two refusals that come to the same are the same, and no refusal is an answer of points
-refused-same : (q r : Refusal) → Refused q ≡ Refused r → q ≡ r
-refused-same q r e = cc
-
-refused-apart : (q : Refusal) (n : ℕ) → Refused q ≡ Points n → ⊥
-refused-apart q n e = let z : _≡_ {A = ℕ} 0 1 = cc in omega arith
-
-answer : Outcome → Drawn
-answer o = o .answer
+abbrev tells : Outcome → Told
+tells o = told (o .answer)
 
 module _ (s : Shape) (controls lent : List ℤ) where
-  pub refused-first : (r : Refusal) → draws s controls lent ≡ refuses lent r → First (drawRows s controls lent) r
-  unfolding draws answer
-  refused-first r e =
-      only-first (drawRows s controls lent) (refuses lent) (accepts (planOf s) controls lent) (λ q t h. refused-same q t (ap answer h)) (λ q h. refused-apart q _ (ap answer h)) r e
+  abbrev given : List ℤ
+  given = pos (points (planOf s)) ∷ []
 
-  pub first-refused : (r : Refusal) → First (drawRows s controls lent) r → draws s controls lent ≡ refuses lent r
+  pub exactly : Exactly (drawRows s controls lent) (tells (draws s controls lent)) lent (draws s controls lent .held) given (drawn (planOf s) controls lent)
   unfolding draws
-  first-refused r h = judge-first (drawRows s controls lent) (refuses lent) (accepts (planOf s) controls lent) r h
+  exactly =
+      any-call.exactly tells (drawRows s controls lent) (refuses lent) (accepts (planOf s) controls lent) given (λ r. refl) refl (λ o. o .held) lent (λ r. refl) refl
 
   -- whatever number of points is answered and whatever the list then holds
   pub points-none : (n : ℕ) (held : List ℤ) → draws s controls lent ≡ outcome (Points n) held → NoRow (drawRows s controls lent)
-  unfolding draws answer
-  points-none n held e =
-      only-none (drawRows s controls lent) (refuses lent) (accepts (planOf s) controls lent) (outcome (Points n) held) (λ q h. refused-apart q n (ap answer h)) e
+  points-none n held e = exactly .accepted .0 (ap (λ o. number (tells o)) e)
 
   pub none-drawn : NoRow (drawRows s controls lent) → draws s controls lent ≡ accepts (planOf s) controls lent
   unfolding draws
-  none-drawn h = judge-none (drawRows s controls lent) (refuses lent) (accepts (planOf s) controls lent) h
+  none-drawn none = judge-none (drawRows s controls lent) (refuses lent) (accepts (planOf s) controls lent) none

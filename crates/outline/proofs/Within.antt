@@ -16,7 +16,7 @@ use Rattle.shape.specs.declared.Plan.{Plan}
 use Rattle.shape.specs.Good.{Good, Lent}
 use Rattle.shape.specs.Refusals.{shapeRows, planOf}
 use Rattle.shape.specs.Shape.{pointsOf}
-use Rattle.shape.proofs.Refusals.{none-earlier, none-later, none-sound, sound-facts, none-fine, fine-facts, good-records, lent-inside}
+use Rattle.shape.proofs.Refusals.{none-earlier, none-later, good-plan, good-records, none-facts, lent-inside}
 use Rattle.shape.proofs.Tests.{either}
 use Rattle.spans.specs.Numbers.{number}
 use Rattle.spans.proofs.Filled.{in-filled}
@@ -59,8 +59,8 @@ drawn-within s controls lent n held answered q h =
     let came = sym answered ∙ none-drawn s controls lent none in
     let all : Points n ≡ Points (points p) = ap (λ (o : Outcome). o .answer) came in
     let few : n ≡ points p = cc in
-    let good = sound-facts s p (none-sound s (none-earlier (shapeRows s) (planRows (s .count) p controls lent) none)) in
-    let had = fine-facts (s .count) controls (points p) (length lent) (none-fine (s .count) controls (points p) (length lent) (none-later (shapeRows s) (planRows (s .count) p controls lent) none)) in
+    let good = good-plan s (none-earlier (shapeRows s) (planRows (s .count) p controls lent) none) in
+    let had = none-facts (s .count) controls (points p) (length lent) (none-later (shapeRows s) (planRows (s .count) p controls lent) none) in
     subst (λ z. natAbs z ≤ reach)
     (sym (in-filled (numbers p controls) 0 (2 * points p) lent q (omega arith) (omega arith) (omega (arith, had .points-room))) ∙ ap (λ l. getD l q (pos 0)) (sym (ap (λ (o : Outcome). o .held) came)))
     (number-within s p good controls (points p) (length lent) had q (omega (arith, few)))

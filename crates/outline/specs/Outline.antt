@@ -1,13 +1,14 @@
 -- What a drawing call comes to (document 01): the refusals in their order, or all points of the outline in the lent list and everything past them kept.
-use mathlib.Core.List.{List, _++_}
+use mathlib.Core.List.{List, [], _∷_, _++_}
 use Prim.Native.Nat.{ℕ, _*_}
-use lib.IntN.{ℤ}
+use lib.IntN.{ℤ, pos}
 use lib.ListN.{length}
 use Rattle.shape.specs.declared.Shape.{Shape}
 use Rattle.shape.specs.declared.Plan.{Plan}
 use Rattle.shape.specs.declared.Refusal.{Refusal}
 use Rattle.shape.specs.Refusals.{Row, judge, shapeRows, listRows, planOf}
 use Rattle.shape.specs.Shape.{pointsOf}
+use Rattle.shape.specs.Exactly.{Told, Refuses, Accepts}
 use Rattle.spans.specs.Numbers.{number, filled}
 use Rattle.outline.specs.declared.Drawn.{Drawn}
 use Rattle.outline.specs.declared.Drawn.the-variants.{Points, Refused}
@@ -25,6 +26,11 @@ planRows n p controls lent = listRows n controls (points p) (length lent)
 
 abbrev pub drawRows : Shape → List ℤ → List ℤ → List Row
 drawRows s controls lent = shapeRows s ++ planRows (s .count) (planOf s) controls lent
+
+-- What the answer tells: the number of points, or the refusal.
+abbrev pub told : Drawn → Told
+told (Points n) = Accepts (pos n ∷ [])
+told (Refused r) = Refuses r
 
 -- The answer, and the lent points as the call leaves them.
 pub record Outcome : Type 0 where

@@ -2,7 +2,7 @@
 -- value, rounded once.
 use mathlib.Core.Path.{_≡_, sym, ap, _∙_, subst}
 use mathlib.Core.Bool.{not}
-use mathlib.Core.List.{List, [], _∷_}
+use mathlib.Core.List.{List, [], _∷_, _++_}
 use mathlib.Core.Logic.{⊎-elim}
 use Prim.Native.Nat.{ℕ, suc, _+_, _*_, _-_, _/_, _%_, _^_, min, _≤_, _<_}
 use native.Mathlib.Nat.{le-trans, suc-mul, mod-lt, div-add-mod', min-eq-left, min-eq-right, min-le-right, pow-le-pow-right}
@@ -30,16 +30,17 @@ use Rattle.curve.proofs.Reflect.{p, i, h, num, weightedᵉ, sixfoldᵉ}
 use Rattle.curve.proofs.Tab.{length-tab, getD-tab}
 use Rattle.shape.specs.declared.Shape.{Shape}
 use Rattle.shape.specs.Shape.{pointsOf}
-use Rattle.shape.specs.Refusals.{planOf}
-use Rattle.shape.proofs.Refusals.{none-sound, sound-facts, none-fine, fine-facts}
+use Rattle.shape.specs.Refusals.{shapeRows, listRows, planOf}
+use Rattle.shape.proofs.Refusals.{none-earlier, none-later, row-fails, good-plan, none-facts}
 use Rattle.shape.proofs.Tests.{passes}
 use Rattle.doubles.specs.Exact.{Value, minusZero}
 use Rattle.doubles.proofs.Exact.{dyadic-exact, dyadic-not-minus-zero}
 use Rattle.preview.specs.declared.Previewed.the-variants.{Drawn}
-use Rattle.preview.specs.Preview.{sum, value, Outcome, both, drawing, previewing}
+use Rattle.preview.specs.Preview.{sum, value, bezierRow, previewRows, Outcome, both, drawing, previewing}
 use Rattle.preview.proofs.Spans.{points-are}
 use Rattle.preview.proofs.Numbers.{plain}
-use Rattle.preview.proofs.Rows.{bezier-inside, drawn-when, drawn-only-when}
+use Rattle.preview.proofs.Rows.{bezier-inside}
+use Rattle.preview.proofs.Exactly.{drawn-none, none-drawn}
 
 -- ---- a sum is below 2^53
 
@@ -98,18 +99,19 @@ pub drawn-exact : (s : Shape) (controls : List ℤ) (points : List Float) (n : �
     → Value (getD l q nan) (sum (s .depth) (planOf s .spans) controls q) (2 ^ (3 * s .depth)) × T (not (minusZero (getD l q nan)))
 unfolding planOf
 drawn-exact s controls points n l e q below =
-    let none = drawn-only-when s controls points n l e in
+    let none = drawn-none s controls points n l e in
     let plan = planOf s in
     let k = plan .depth in
     let m = plan .spans in
     let count = pointsOf k m in
-    let good = sound-facts s plan (none-sound s (none .0, (none .1 .0, (none .1 .1 .0, tt)))) in
-    let lent = fine-facts (s .count) controls count (length points) (none-fine (s .count) controls count (length points) (none .1 .1 .1 .1)) in
-    let first : s .basis ≡ 1 = eqb-true (s .basis) 1 (not-false (eqb (s .basis) 1) (none .1 .1 .1 .0)) in
+    let lists = listRows (s .count) controls count (length points) in
+    let good = good-plan s (none-earlier (shapeRows s) (bezierRow s ∷ lists) none) in
+    let lent = none-facts (s .count) controls count (length points) (none-later (shapeRows s ++ bezierRow s ∷ []) lists none) in
+    let first : s .basis ≡ 1 = eqb-true (s .basis) 1 (not-false (eqb (s .basis) 1) (row-fails 4 (previewRows s controls (length points)) none)) in
     let inside = bezier-inside s plan controls points good first count (length points) lent in
     let numbers = tab (value k m controls) 0 (2 * count) in
     let long = length-tab (value k m controls) 0 (2 * count) in
-    let drawn : both (Drawn n) l ≡ drawing plan controls points = sym e ∙ drawn-when s controls points none in
+    let drawn : both (Drawn n) l ≡ drawing plan controls points = sym e ∙ none-drawn s controls points none in
     let answer : Drawn n ≡ Drawn count = ap (λ (o : Outcome). o .answer) drawn in
     let all : n ≡ count = cc in
     let q-in : q < 2 * count = omega arith in

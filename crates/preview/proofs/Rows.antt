@@ -1,5 +1,5 @@
 -- The preview's table after the shape's rows: row 4 decides, or leaves the rest to the rows of the lent lists. The last record of a sound shape of basis 1
--- is where a next span would start, so what those rows find is what drawing needs. "Exactly when": an answer that refuses is never one that draws.
+-- is where a next span would start, so what those rows find is what drawing needs.
 use mathlib.Core.Path.{_≡_, refl, sym, ap, _∙_}
 use mathlib.Core.List.{List, [], _∷_}
 use mathlib.Core.Logic.{inl}
@@ -18,21 +18,18 @@ use Rattle.shape.specs.declared.Plan.{Plan}
 use Rattle.shape.specs.declared.Refusal.{Refusal}
 use Rattle.shape.specs.declared.Listed.the-variants.{Fine, Bad}
 use Rattle.shape.specs.Shape.{basisOf, recordsOf, pointsOf}
-use Rattle.shape.specs.Refusals.{judge, judgeLists, First, NoRow, listRows, planOf}
+use Rattle.shape.specs.Refusals.{judge, judgeLists, listRows}
 use Rattle.shape.specs.Good.{Good, Lent}
-use Rattle.shape.proofs.Refusals.{judge-first, judge-none, judge-append, bad-first, fine-none, only-first, only-none, lent-inside}
-use Rattle.preview.specs.declared.Previewed.the-variants.{Drawn, Refused}
+use Rattle.shape.proofs.Refusals.{judge-first, judge-none, judge-append, bad-first, fine-none, lent-inside}
+use Rattle.preview.specs.declared.Previewed.the-variants.{Drawn}
 use Rattle.preview.specs.Halving.{halved}
-use Rattle.preview.specs.Preview.{bezierRow, laterRows, previewRows, Outcome, both, refusing, drawing, previewing}
+use Rattle.preview.specs.Preview.{bezierRow, laterRows, both, refusing, drawing}
 use Rattle.preview.proofs.Spans.{records-before}
 use Rattle.preview.proofs.Numbers.{plain, halved-is}
 
 module _ (s : Shape) (p : Plan) (controls : List ℤ) (points : List Float) where
   abbrev count : ℕ
   count = pointsOf (p .depth) (p .spans)
-
-  abbrev lists : ℕ → Type 0
-  lists n = NoRow (listRows (s .count) controls n (length points))
 
   pub not-offered : (s .basis ≡ 1 → ⊥) → refusing points (record { number = 4; place = 0 }) ≡ judge (laterRows s p controls (length points)) (refusing points) (drawing p controls points)
   not-offered h =
@@ -73,36 +70,3 @@ module _ (s : Shape) (p : Plan) (controls : List ℤ) (points : List Float) wher
     drawn-is n len lent r c l f =
         let g = f ∙ ap (sets points 0) (halved-is (p .depth) (p .spans) controls (good .depth-most) (bezier-inside n len lent) (good .spans-least)) in
         λ k. both (Drawn (c k)) (g k)
-
--- ---- exactly when
-
-module _ (s : Shape) (controls : List ℤ) (points : List Float) where
-  refused-same : (q r : Refusal) → refusing points q ≡ refusing points r → q ≡ r
-  refused-same q r e = let a : Refused q ≡ Refused r = ap (λ (o : Outcome). o .answer) e in cc
-
-  refused-apart : (n : ℕ) (l : List Float) (q : Refusal) → refusing points q ≡ both (Drawn n) l → ⊥
-  refused-apart n l q e =
-      let a : Refused q ≡ Drawn n = ap (λ (o : Outcome). o .answer) e in
-      let z : _≡_ {A = ℕ} 0 1 = cc in
-      omega arith
-
-  abbrev drawn : Outcome
-  drawn = drawing (planOf s) controls points
-
-  -- a refusal is given exactly when its row is the first that holds
-  pub refused-when : (r : Refusal) → First (previewRows s controls (length points)) r → previewing s controls points ≡ refusing points r
-  unfolding previewing
-  refused-when r h = judge-first (previewRows s controls (length points)) (refusing points) drawn r h
-
-  pub refused-only-when : (r : Refusal) → previewing s controls points ≡ refusing points r → First (previewRows s controls (length points)) r
-  unfolding previewing
-  refused-only-when r e = only-first (previewRows s controls (length points)) (refusing points) drawn refused-same (refused-apart (pointsOf (planOf s .depth) (planOf s .spans)) (drawn .held)) r e
-
-  -- points are drawn exactly when no row holds
-  pub drawn-when : NoRow (previewRows s controls (length points)) → previewing s controls points ≡ drawn
-  unfolding previewing
-  drawn-when h = judge-none (previewRows s controls (length points)) (refusing points) drawn h
-
-  pub drawn-only-when : (n : ℕ) (l : List Float) → previewing s controls points ≡ both (Drawn n) l → NoRow (previewRows s controls (length points))
-  unfolding previewing
-  drawn-only-when n l e = only-none (previewRows s controls (length points)) (refusing points) drawn (both (Drawn n) l) (refused-apart n l) e

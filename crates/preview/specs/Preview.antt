@@ -16,6 +16,7 @@ use Rattle.shape.specs.declared.Plan.{Plan}
 use Rattle.shape.specs.declared.Refusal.{Refusal}
 use Rattle.shape.specs.Shape.{pointsOf}
 use Rattle.shape.specs.Refusals.{Row, row, judge, shapeRows, listRows, planOf}
+use Rattle.shape.specs.Exactly.{Told, Refuses, Accepts}
 use Rattle.doubles.specs.Exact.{dyadic}
 use Rattle.preview.specs.declared.Previewed.{Previewed}
 use Rattle.preview.specs.declared.Previewed.the-variants.{Drawn, Refused}
@@ -68,7 +69,7 @@ drawing p controls points =
 unfoldable pub previewing : Shape → List ℤ → List Float → Outcome
 previewing s controls points = judge (previewRows s controls (length points)) (refusing points) (drawing (planOf s) controls points)
 
--- Document 01's number and values for each answer: no refusal, 0, with how many points were drawn; or the refusal's number with its place.
-abbrev pub paper : Previewed → ℕ × List ℕ
-paper (Drawn n) = (0, n ∷ [])
-paper (Refused r) = (r .number, r .place ∷ [])
+-- What the answer tells: how many points were drawn, or the refusal.
+abbrev pub told : Previewed → Told
+told (Drawn n) = Accepts (pos n ∷ [])
+told (Refused r) = Refuses r

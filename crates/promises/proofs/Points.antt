@@ -23,9 +23,10 @@ use Rattle.curve.proofs.Table.{divisor-pos}
 use Rattle.curve.proofs.Ways.{halving-agrees, differences-agree}
 use Rattle.shape.specs.declared.Shape.{Shape}
 use Rattle.shape.specs.Refusals.{planOf}
+use Rattle.shape.proofs.Refusals.{row-fails}
 use Rattle.spans.specs.Numbers.{number}
 use Rattle.outline.specs.declared.Drawn.the-variants.{Points}
-use Rattle.outline.specs.Outline.{Outcome, outcome, numbers, points, drawn, draws}
+use Rattle.outline.specs.Outline.{Outcome, outcome, numbers, points, drawn, drawRows, draws}
 use Rattle.outline.proofs.Exactly.{points-none, none-drawn}
 use Rattle.spans.proofs.Filled.{in-filled}
 use Rattle.promises.specs.Points.{publishedNumber}
@@ -64,7 +65,7 @@ pub drawn-published :
 drawn-published s controls lent n held e q h =
     let p = planOf s in
     let none = points-none s controls lent n held e in
-    let room : 2 * points p ≤ length lent = ltb-false (length lent) (2 * points p) (none .1 .1 .1 .1 .1 .0) in
+    let room : 2 * points p ≤ length lent = ltb-false (length lent) (2 * points p) (row-fails 9 (drawRows s controls lent) none) in
     let is : held ≡ drawn p controls lent = ap (λ (o : Outcome). o .held) (sym e ∙ none-drawn s controls lent none) in
     ap (λ l. getD l q (pos 0)) is
     ∙ in-filled (numbers p controls) 0 (2 * points p) lent q (omega arith) (omega arith) (omega arith)

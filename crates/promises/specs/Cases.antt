@@ -9,10 +9,11 @@ use Rattle.curve.specs.Numbers.{neg}
 use Rattle.doubles.specs.Exact.{dyadic}
 use Rattle.doubles.specs.Number.{measure}
 use Rattle.doubles.specs.Number as number
+use Rattle.shape.specs.Exactly as answer
 use Rattle.edit.specs.declared.Edited.the-variants.{Done}
 use Rattle.edit.specs.Cases as edit
+use Rattle.edit.specs.Reading as reading
 use Rattle.edit.specs.Reading.{Outcome, outcome, edits}
-use Rattle.promises.specs.Answers.{editing}
 
 pub record Case : Type 0 where
   pub given : List ℤ
@@ -24,7 +25,7 @@ ofSpan c = record { given = span.given c; paper = c .points }
 
 -- P9 to P11: what an edit of the cardinal outline 0, 10, 20, 30, 40, 50 comes to: the number and the values of its answer, and what both lists then hold.
 abbrev pub told : Outcome → List ℤ
-told o = pos (editing (o .answer) .0) ∷ map pos (editing (o .answer) .1) ++ (o .controls ++ o .held)
+told o = pos (answer.number (reading.told (o .answer))) ∷ answer.values (reading.told (o .answer)) ++ (o .controls ++ o .held)
 
 abbrev pub ofEdit : edit.Case → Case
 ofEdit c =

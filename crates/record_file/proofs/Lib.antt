@@ -3,6 +3,8 @@ pub mod Records
 pub mod Filling
 pub mod Outside
 pub mod Readings
+pub mod Exactly
+pub mod Lists
 pub mod RoundTrip
 pub mod Unique
 pub mod Examples

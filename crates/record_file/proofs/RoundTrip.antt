@@ -15,14 +15,14 @@ use Rattle.curve.specs.Limits.{limit}
 use Rattle.curve.specs.Span.{coordinate}
 use Rattle.curve.proofs.Tab.{length-tab, getD-tab}
 use Rattle.shape.specs.declared.Shape.{Shape}
-use Rattle.shape.specs.Refusals.{Row, NoRow, planOf, shapeRows, controlsRow, limitsRow}
+use Rattle.shape.specs.Refusals.{NoRow, shapeRows, controlsRow, limitsRow}
 use Rattle.shape.specs.Good.{Lent}
-use Rattle.shape.proofs.Refusals.{none-sound, sound-facts, none-fine, fine-facts}
+use Rattle.shape.proofs.Refusals.{none-both, none-earlier, row-fails, good-plan, lent-facts}
 use Rattle.record_file.specs.declared.Reading.the-variants.{Read}
 use Rattle.record_file.specs.Format.{byte, word, signed, number, numbers, unsigned, encoded}
 use Rattle.record_file.specs.Rows.{mostBytes, recordRows, recordCount, laterRows, fileRows, shapeOf, both, accepting, reading}
 use Rattle.record_file.proofs.Words.{signed-low, signed-high}
-use Rattle.record_file.proofs.Readings.{read-when}
+use Rattle.record_file.proofs.Exactly.{none-read}
 
 -- ---- one coordinate
 
@@ -106,10 +106,6 @@ module _ (basis depth : ℕ) where
 
 -- ---- the rows
 
-no-rows : (xs ys : List Row) → NoRow xs → NoRow ys → NoRow (xs ++ ys)
-no-rows [] ys h k = k
-no-rows (x ∷ xs) ys h k = (h .0, no-rows xs ys (h .1) k)
-
 alike : (a b c d : ℕ) → a ≡ c → b ≡ d → not (eqb a c && eqb b d) ≡ false
 alike a b c d e f = simp (eq-eqb a c e, eq-eqb b d f)
 
@@ -141,8 +137,9 @@ module _ (basis depth n : ℕ) (records controls : List ℤ) (even : length reco
   -- Reading a file of given records gives them back, wherever the rows of the records themselves pass: 1, 2, 3, 7 and 8.
   pub read-back : NoRow (shapeRows given ++ (controlsRow n controls ∷ limitsRow n records ∷ [])) → reading file controls ≡ both (Read given) (sets controls 0 records)
   read-back h =
-      let good = sound-facts given (planOf given) (none-sound given (h .0, (h .1 .0, (h .1 .1 .0, tt)))) in
-      let lent = fine-facts n records 0 0 (none-fine n records 0 0 (le-ltb (length records) (2 * n) (omega arith), (h .1 .1 .1 .1 .0, (refl, tt)))) in
+      let lists = controlsRow n controls ∷ limitsRow n records ∷ [] in
+      let good = good-plan given (none-earlier (shapeRows given) lists h) in
+      let lent = lent-facts n records 0 0 (omega arith) (row-fails 8 (shapeRows given ++ lists) h) (omega arith) in
       let some : 4 ≤ n = omega (arith, good .spans-least, good .spans-most) in
       let few : n ≤ 64 = good .records-most in
       let long = length-encoded basis depth records n even in
@@ -155,12 +152,12 @@ module _ (basis depth n : ℕ) (records controls : List ℤ) (even : length reco
         (
           simp (eq-eqb (length file % 12) 0 (omega (arith, long))),
           subst (λ (m : ℕ). NoRow (recordRows file 0 m ++ laterRows file m controls)) (sym count)
-              (no-rows (recordRows file 0 n) (laterRows file n controls) (records-pass 0 n (omega arith))
+              (none-both (recordRows file 0 n) (laterRows file n controls) (records-pass 0 n (omega arith))
               (subst (λ s. NoRow (shapeRows s ++ (controlsRow n controls ∷ limitsRow n (numbers file n) ∷ []))) (sym shape)
               (subst (λ v. NoRow (shapeRows given ++ (controlsRow n controls ∷ limitsRow n v ∷ []))) (sym whole) h))),
         ),
       ) in
-      read-when file controls none ∙ ap (λ (m : ℕ). accepting file m controls) count ∙ (λ k. both (Read (shape k)) (sets controls 0 (whole k)))
+      none-read file controls none ∙ ap (λ (m : ℕ). accepting file m controls) count ∙ (λ k. both (Read (shape k)) (sets controls 0 (whole k)))
     where
       same : Lent n records 0 0 → numbers file n ≡ records
       same lent =

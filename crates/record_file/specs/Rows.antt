@@ -4,13 +4,14 @@ use mathlib.Core.Bool.{not, cond, _&&_, _||_}
 use mathlib.Core.List.{List, [], _∷_, _++_}
 use Prim.Native.Nat.{ℕ, zero, suc, _*_, _/_, _%_}
 use lib.Dec.{ltb, eqb}
-use lib.IntN.{ℤ}
+use lib.IntN.{ℤ, pos}
 use lib.ListN.{length}
 use lib.Seq.{sets}
 use Rattle.shape.specs.declared.Shape.{Shape}
 use Rattle.shape.specs.declared.Refusal.{Refusal}
 use Rattle.shape.specs.Shape.{mostRecords}
 use Rattle.shape.specs.Refusals.{Row, row, judge, shapeRows, controlsRow, limitsRow}
+use Rattle.shape.specs.Exactly.{Told, Refuses, Accepts}
 use Rattle.record_file.specs.declared.Reading.{Reading}
 use Rattle.record_file.specs.declared.Reading.the-variants.{Read, Refused}
 use Rattle.record_file.specs.Format.{recordBytes, byte, numbers}
@@ -26,6 +27,9 @@ lengthRow len = row (eqb len 0 || ltb mostBytes len) 3 0
 
 abbrev pub wholeRow : ℕ → Row
 wholeRow len = row (not (eqb (len % recordBytes) 0)) 13 0
+
+abbrev pub lengthRows : ℕ → List Row
+lengthRows len = lengthRow len ∷ wholeRow len ∷ []
 
 -- ---- rows 14 and 15: record by record
 
@@ -64,7 +68,7 @@ recordCount file = length file / recordBytes
 abbrev pub fileRows : List ℕ → List ℤ → List Row
 fileRows file controls =
     let n = recordCount file in
-    lengthRow (length file) ∷ wholeRow (length file) ∷ (recordRows file 0 n ++ laterRows file n controls)
+    lengthRows (length file) ++ (recordRows file 0 n ++ laterRows file n controls)
 
 -- An answer, and what the lent controls hold then.
 pub record Outcome : Type 0 where
@@ -85,7 +89,7 @@ accepting file n controls = both (Read (shapeOf file n)) (sets controls 0 (numbe
 unfoldable pub reading : List ℕ → List ℤ → Outcome
 reading file controls = judge (fileRows file controls) (refusing controls) (accepting file (recordCount file) controls)
 
--- Document 01's number and values for each answer: no refusal, 0, with basis, depth and control count; or the refusal's number with its place.
-abbrev pub paper : Reading → ℕ × List ℕ
-paper (Read s) = (0, s .basis ∷ s .depth ∷ s .count ∷ [])
-paper (Refused r) = (r .number, r .place ∷ [])
+-- What the answer tells: basis, depth and control count, or the refusal.
+abbrev pub told : Reading → Told
+told (Read s) = Accepts (pos (s .basis) ∷ pos (s .depth) ∷ pos (s .count) ∷ [])
+told (Refused r) = Refuses r

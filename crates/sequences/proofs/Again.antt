@@ -20,7 +20,7 @@ use Rattle.shape.specs.declared.Refusal.{Refusal}
 use Rattle.shape.specs.Good.{Good, Lent}
 use Rattle.shape.specs.Shape.{basisOf, recordsOf, spansOf, allowed, mostRecords}
 use Rattle.shape.specs.Refusals.{First, NoRow, outside, firstOutside, shapeRows, listRows, planOf}
-use Rattle.shape.proofs.Refusals.{verdict}
+use Rattle.shape.proofs.Refusals.{none-both, verdict}
 use Rattle.shape.proofs.Seek.{seek-none}
 use Rattle.shape.proofs.Spans.{spans-records}
 use Rattle.spans.proofs.Filled.{length-filled, same-filled}
@@ -99,7 +99,7 @@ module _ (e : Edit) (s : Shape) (j : ℕ) (controls lent : List ℤ) (none : NoR
   none-then =
       let sound = good-none (shapeAfter e s) p (good-then e s j controls lent none) in
       let lists = lent-none n (then .controls) (points p) (length (then .held)) still-lent in
-      (sound .0, (sound .1 .0, (sound .1 .1 .0, lists)))
+      none-both (shapeRows (shapeAfter e s)) (listRows n (then .controls) (points p) (length (then .held))) sound lists
 
 edit-redraws : (e : Edit) (s : Shape) (j : ℕ) (controls lent : List ℤ) → Redraws (record { shape = s; controls = controls; held = lent }) → Redraws (stateThen s (edits e s j controls lent))
 edit-redraws e s j controls lent again =

@@ -10,11 +10,11 @@ use lib.ListN.{getD, length}
 use Rattle.shape.specs.declared.Shape.{Shape}
 use Rattle.shape.specs.declared.Refusal.{Refusal}
 use Rattle.shape.specs.Refusals.{First, NoRow, planOf}
-use Rattle.shape.proofs.Refusals.{verdict}
+use Rattle.shape.proofs.Refusals.{row-fails, verdict}
 use Rattle.spans.proofs.Filled.{length-filled, in-filled}
 use Rattle.outline.specs.declared.Drawn.the-variants.{Points}
 use Rattle.outline.specs.Outline as outline
-use Rattle.outline.specs.Outline.{numbers, points, drawn, draws}
+use Rattle.outline.specs.Outline.{numbers, points, drawn, drawRows, draws}
 use Rattle.outline.proofs.Exactly.{points-none, none-drawn}
 use Rattle.asked.specs.declared.Edit.{Edit}
 use Rattle.asked.specs.Edits.{pointAt}
@@ -65,7 +65,7 @@ drawn-outlined s controls lent n held answered =
     let p = planOf s in
     let none = points-none s controls lent n held answered in
     let is : drawn p controls lent ≡ held = ap (λ (o : outline.Outcome). o .held) (sym (none-drawn s controls lent none) ∙ answered) in
-    let room : 2 * points p ≤ length lent = ltb-false (length lent) (2 * points p) (none .1 .1 .1 .1 .1 .0) in
+    let room : 2 * points p ≤ length lent = ltb-false (length lent) (2 * points p) (row-fails 9 (drawRows s controls lent) none) in
     subst (λ l. Outlined (record { shape = s; controls = controls; held = l })) is
     (record {
       room = omega (arith, room, length-filled (numbers p controls) 0 (2 * points p) lent);

@@ -2,4 +2,6 @@ pub mod Tests
 pub mod Spans
 pub mod Seek
 pub mod Refusals
+pub mod Exactly
+pub mod Lists
 pub mod Unique

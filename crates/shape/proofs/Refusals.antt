@@ -1,14 +1,14 @@
 -- A table of rows is read from the top: either some row holds first, and its refusal is the answer, or none holds. What each call's checks say follows, since an answer
 -- that refuses is never one that accepts.
 use mathlib.Core.Path.{_≡_, refl, sym, ap, _∙_, subst}
-use mathlib.Core.Bool.{true, false, cond, _&&_}
+use mathlib.Core.Bool.{Bool, true, false, cond, _&&_}
 use mathlib.Core.List.{List, [], _∷_, _++_}
 use mathlib.Core.Logic.{_⊎_, inl, inr, ⊎-elim}
 use Prim.Native.Nat.{ℕ, zero, suc, _+_, _*_, _≤_, _<_}
 use native.Mathlib.Nat.{le-trans}
 use native.Mathlib.Omega.{arith}
 use borrow.Author.Tests.{leb-true, ltb-false, not-false}
-use lib.Dec.{leb}
+use lib.Dec.{leb, eqb}
 use lib.IntN.{ℤ, natAbs}
 use lib.ListN.{length}
 use Rattle.curve.specs.Limits.{Inside, beyond, limit}
@@ -20,7 +20,7 @@ use Rattle.shape.specs.declared.Refusal.{Refusal}
 use Rattle.shape.specs.declared.Judged.the-variants.{Sound, Unsound}
 use Rattle.shape.specs.declared.Listed.the-variants.{Fine, Bad}
 use Rattle.shape.specs.Shape.{basisOf, spansOf, allowed}
-use Rattle.shape.specs.Refusals.{Row, judge, First, NoRow, shapeRows, planOf, judgeShape, outside, firstOutside, listRows, judgeLists}
+use Rattle.shape.specs.Refusals.{Row, judge, First, NoRow, shapeRows, planOf, judgeShape, outside, firstOutside, limitsRow, listRows, judgeLists}
 use Rattle.shape.specs.Good.{Good, Lent}
 use Rattle.shape.proofs.Tests.{passes, and-true, or-false}
 use Rattle.shape.proofs.Spans.{allowed-facts, spans-below, last-record}
@@ -52,7 +52,11 @@ unfolding judge
 judge-append [] rest f a = refl
 judge-append (x ∷ rows) rest f a = ap (cond (x .holds) (f (x .refusal))) (judge-append rows rest f a)
 
--- no row of a table holds, so none of its earlier part, and none of its later part
+-- no row of a longer table holds exactly when none of its first part does, and none of the rest
+pub none-both : (rows rest : List Row) → NoRow rows → NoRow rest → NoRow (rows ++ rest)
+none-both [] rest h k = k
+none-both (x ∷ rows) rest h k = (h .0, none-both rows rest (h .1) k)
+
 pub none-earlier : (rows rest : List Row) → NoRow (rows ++ rest) → NoRow rows
 none-earlier [] rest h = tt
 none-earlier (x ∷ rows) rest h = (h .0, none-earlier rows rest (h .1))
@@ -60,6 +64,37 @@ none-earlier (x ∷ rows) rest h = (h .0, none-earlier rows rest (h .1))
 pub none-later : (rows rest : List Row) → NoRow (rows ++ rest) → NoRow rest
 none-later [] rest h = h
 none-later (x ∷ rows) rest h = none-later rows rest (h .1)
+
+-- the test of the first row with a number: readers name a row by its number in document 01, wherever it stands in the table
+abbrev pub testOf : ℕ → List Row → Bool
+testOf n [] = false
+testOf n (x ∷ rows) = cond (eqb (x .refusal .number) n) (x .holds) (testOf n rows)
+
+pub row-fails : (n : ℕ) (rows : List Row) → NoRow rows → testOf n rows ≡ false
+row-fails n [] h = refl
+row-fails n (x ∷ rows) h = ⊎-elim (λ t. rw t (h .0)) (λ f. rw f (row-fails n rows (h .1))) (passes (eqb (x .refusal .number) n))
+
+-- the first row of a longer table that holds: in its first part, or where none of that holds, in the rest
+pub first-either : (rows rest : List Row) (r : Refusal) → First (rows ++ rest) r → First rows r ⊎ (NoRow rows × First rest r)
+first-either [] rest r f = inr (tt, f)
+first-either (x ∷ rows) rest r (inl f) = inl (inl f)
+first-either (x ∷ rows) rest r (inr f) =
+    ⊎-elim (λ (g : First rows r). inl (inr (f .0, g))) (λ (g : NoRow rows × First rest r). inr ((f .0, g .0), g .1)) (first-either rows rest r (f .1))
+
+-- what every row of a table would answer
+abbrev pub Each : (Refusal → Type 0) → List Row → Type 0
+Each P [] = Unit {0}
+Each P (x ∷ rows) = P (x .refusal) × Each P rows
+
+pub each-both : (P : Refusal → Type 0) (rows rest : List Row) → Each P rows → Each P rest → Each P (rows ++ rest)
+each-both P [] rest h k = k
+each-both P (x ∷ rows) rest h k = (h .0, each-both P rows rest (h .1) k)
+
+-- the first that holds answers so too
+pub each-first : (P : Refusal → Type 0) (rows : List Row) → Each P rows → (r : Refusal) → First rows r → P r
+each-first P [] h r f = absurd f
+each-first P (x ∷ rows) h r (inl f) = subst P (f .1) (h .0)
+each-first P (x ∷ rows) h r (inr f) = each-first P rows (h .1) r (f .1)
 
 pub verdict : (rows : List Row) → ((r : Refusal) × First rows r) ⊎ NoRow rows
 verdict [] = inr tt
@@ -123,18 +158,18 @@ unsound s r e rest f a = judge-append (shapeRows s) rest f a ∙ judge-first (sh
 pub sound {ℓ} : {A : Type ℓ} (s : Shape) (p : Plan) → judgeShape s ≡ Sound p → (rest : List Row) (f : Refusal → A) (a : A) → judge (shapeRows s ++ rest) f a ≡ judge rest f a
 sound s p e rest f a = judge-append (shapeRows s) rest f a ∙ judge-none (shapeRows s) f (judge rest f a) (sound-none s p e)
 
-good-plan : (s : Shape) → NoRow (shapeRows s) → Good s (planOf s)
+pub good-plan : (s : Shape) → NoRow (shapeRows s) → Good s (planOf s)
 unfolding planOf
 good-plan s h =
     let b = basisOf (s .basis) in
-    let (least, most) = and-true (leb 1 (s .basis)) (leb (s .basis) 4) (not-false (leb 1 (s .basis) && leb (s .basis) 4) (h .0)) in
-    let (records-most, spans, records) = allowed-facts b (s .count) (not-false (allowed b (s .count)) (h .1 .1 .0)) in
+    let (least, most) = and-true (leb 1 (s .basis)) (leb (s .basis) 4) (not-false (leb 1 (s .basis) && leb (s .basis) 4) (row-fails 1 (shapeRows s) h)) in
+    let (records-most, spans, records) = allowed-facts b (s .count) (not-false (allowed b (s .count)) (row-fails 3 (shapeRows s) h)) in
     record {
       basis = refl;
       basis-least = leb-true 1 (s .basis) least;
       basis-most = leb-true (s .basis) 4 most;
       depth = refl;
-      depth-most = ltb-false deepest (s .depth) (h .1 .0);
+      depth-most = ltb-false deepest (s .depth) (row-fails 2 (shapeRows s) h);
       spans-least = spans;
       spans-most = subst (λ n. spansOf b (s .count) + 3 ≤ n) records (spans-below b (spansOf b (s .count)) spans);
       records = records;
@@ -187,19 +222,27 @@ module _ (n : ℕ) (controls : List ℤ) (points len : ℕ) where
   unfolding judgeLists
   none-fine h = judge-none (listRows n controls points len) Bad Fine h
 
-  pub fine-facts : judgeLists n controls points len ≡ Fine → Lent n controls points len
+  -- room for n records, none of them outside, and room for the points
+  pub lent-facts : 2 * n ≤ length controls → limitsRow n controls .holds ≡ false → 2 * points ≤ len → Lent n controls points len
   unfolding outside
-  fine-facts e =
-      let h = fine-none e in
-      let all : n ≤ firstOutside controls n = ltb-false (firstOutside controls n) n (h .1 .0) in
+  lent-facts room inside points-room =
+      let all : n ≤ firstOutside controls n = ltb-false (firstOutside controls n) n inside in
       let both : (r : ℕ) → r < n → (beyond limit (coordinate controls 0 r) ≡ false) × (beyond limit (coordinate controls 1 r) ≡ false) =
       λ r l. or-false (beyond limit (coordinate controls 0 r)) (beyond limit (coordinate controls 1 r)) (seek-fails (outside controls) 0 n r (omega arith) (le-trans l all)) in
       record {
-        room = ltb-false (length controls) (2 * n) (h .0);
+        room = room;
         x = λ r l. ltb-false limit (natAbs (coordinate controls 0 r)) (both r l .0);
         y = λ r l. ltb-false limit (natAbs (coordinate controls 1 r)) (both r l .1);
-        points-room = ltb-false len (2 * points) (h .1 .1 .0);
+        points-room = points-room;
       }
+
+  pub none-facts : NoRow (listRows n controls points len) → Lent n controls points len
+  none-facts none =
+      let rows = listRows n controls points len in
+      lent-facts (ltb-false (length controls) (2 * n) (row-fails 7 rows none)) (row-fails 8 rows none) (ltb-false len (2 * points) (row-fails 9 rows none))
+
+  pub fine-facts : judgeLists n controls points len ≡ Fine → Lent n controls points len
+  fine-facts e = none-facts (fine-none e)
 
 -- the four records from a record on are inside the limits, on either axis
 pub lent-inside : (n : ℕ) (controls : List ℤ) (points len : ℕ) → Lent n controls points len → (axis r : ℕ) → axis < 2 → r + 3 < n → Inside limit (recordsFrom r (coordinate controls axis))

@@ -1,3 +1,5 @@
 pub mod Shape
 pub mod Refusals
 pub mod Good
+pub mod Exactly
+pub mod Lists

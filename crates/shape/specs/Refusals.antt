@@ -1,7 +1,7 @@
 -- The refusal table of document 01, as rows in the paper's order: a row is a test, its number and its place. A call is refused under the first row that holds, and
 -- accepted where none does. The rows that several calls share are here.
 use mathlib.Core.Bool.{Bool, true, false, not, cond, _&&_, _||_}
-use mathlib.Core.List.{List, [], _∷_}
+use mathlib.Core.List.{List, [], _∷_, _++_}
 use mathlib.Core.Logic.{_⊎_}
 use mathlib.Core.Path.{_≡_}
 use Prim.Native.Nat.{ℕ, zero, suc, _*_}
@@ -67,7 +67,7 @@ planOf s = record { basis = basisOf (s .basis); depth = s .depth; spans = spansO
 unfoldable pub judgeShape : Shape → Judged
 judgeShape s = judge (shapeRows s) Unsound (Sound (planOf s))
 
--- ---- rows 7, 8, 9: the lent lists
+-- ---- rows 7, 8: the controls
 
 -- The controls list holds n records.
 abbrev pub controlsRow : ℕ → List ℤ → Row
@@ -84,12 +84,23 @@ firstOutside controls n = seek (outside controls) 0 n
 abbrev pub limitsRow : ℕ → List ℤ → Row
 limitsRow n controls = row (ltb (firstOutside controls n) n) 8 (firstOutside controls n)
 
+-- Room for `most` records, of which the first n are inside the limits.
+abbrev pub controlRows : ℕ → ℕ → List ℤ → List Row
+controlRows most n controls = controlsRow most controls ∷ limitsRow n controls ∷ []
+
+-- ---- row 9: the points
+
 -- A list of `len` numbers holds `points` points.
 abbrev pub pointsRow : ℕ → ℕ → Row
 pointsRow points len = row (ltb len (2 * points)) 9 0
 
+abbrev pub pointRows : ℕ → ℕ → List Row
+pointRows points len = pointsRow points len ∷ []
+
+-- ---- rows 7, 8, 9: the lent lists of a call that has nothing to look at between them
+
 abbrev pub listRows : ℕ → List ℤ → ℕ → ℕ → List Row
-listRows n controls points len = controlsRow n controls ∷ limitsRow n controls ∷ pointsRow points len ∷ []
+listRows n controls points len = controlRows n n controls ++ pointRows points len
 
 unfoldable pub judgeLists : ℕ → List ℤ → ℕ → ℕ → Listed
 judgeLists n controls points len = judge (listRows n controls points len) Bad Fine

@@ -7,8 +7,8 @@ use borrow.Author.Tests.{eq-eqb, ne-eqb, lt-ltb, le-ltb}
 use lib.Dec.{ltb, eqb}
 use lib.ListN.{length}
 use Rattle.shape.specs.Refusals.{NoRow}
-use Rattle.record_file.specs.Rows.{mostBytes}
-use Rattle.record_file.proofs.Readings.{lengthRows, length-fails, record-fails, records-pass}
+use Rattle.record_file.specs.Rows.{mostBytes, lengthRows}
+use Rattle.record_file.proofs.Readings.{length-fails, record-fails, records-pass}
 use borrow.Author.Needs.{needs}
 use Rattle.record_file.proofs.read.Statement.{statement}
 use Rattle.record_file.proofs.read.Tie as tie
@@ -17,7 +17,7 @@ use Rattle.record_file.proofs.read.Tie as tie
 length-passed : (n : ℕ) → (n ≡ 0 → ⊥) → n ≤ mostBytes → (eqb n 0 || ltb mostBytes n) ≡ false
 length-passed n h k = simp (ne-eqb n 0 h, le-ltb mostBytes n k)
 
-passed : (c : tie.Else3) → NoRow (lengthRows (c .before .before .before .before .args .file .now))
+passed : (c : tie.Else3) → NoRow (lengthRows (length (c .before .before .before .before .args .file .now)))
 passed c =
     let n = length (c .before .before .before .before .args .file .now) in
     (length-passed n (c .before .before .if1 .left) (c .before .if2 .left), (simp (eq-eqb (n % 12) 0 (c .if3 .left)), tt))
