@@ -3,7 +3,7 @@ use mathlib.Core.Path.{_≡_, refl, sym, ap, _∙_}
 use mathlib.Core.List.{List}
 use Prim.Native.Nat.{ℕ}
 use lib.IntN.{ℤ}
-use Rattle.whole.proofs.Unique.{Unique}
+use Rattle.whole.specs.Unique.{Unique}
 use Rattle.bench.specs.Settings.{Outcome, outcome, Lists, lists}
 use Rattle.bench.proofs.Bench.new.Kinds as new
 use Rattle.bench.proofs.Bench.new.Reads as new-reads

@@ -1,6 +1,6 @@
 -- No second outcome meets a public call's contract: the contract equates the place that is answered and the text that is left with one page, so two outcomes that meet it are equal.
 use mathlib.Core.Path.{_≡_, refl, sym, ap, _∙_}
-use Rattle.whole.proofs.Unique.{Unique}
+use Rattle.whole.specs.Unique.{Unique}
 use Rattle.phrases.specs.Page.{Page, page}
 use Rattle.phrases.proofs.extent.length_of.Kinds as length-of
 use Rattle.phrases.proofs.extent.length_of.Reads as length-of-reads

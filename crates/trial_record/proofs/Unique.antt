@@ -1,6 +1,6 @@
 -- No second outcome meets a public call's contract: it says what the answer equals, and nothing is lent to be written.
 use mathlib.Core.Path.{refl, sym, _∙_}
-use Rattle.whole.proofs.Unique.{Unique}
+use Rattle.whole.specs.Unique.{Unique}
 use Rattle.trial_record.proofs.control.Kinds as control
 use Rattle.trial_record.proofs.control.Reads as control-reads
 use Rattle.trial_record.proofs.coordinate.Kinds as coordinate
