@@ -1,4 +1,5 @@
 pub mod Refusals
+pub mod Rounding
 pub mod Points
 pub mod Limits
 pub mod Listings
