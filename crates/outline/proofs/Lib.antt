@@ -2,4 +2,5 @@ pub mod Draws
 pub mod Within
 pub mod Views
 pub mod Exactly
+pub mod Held
 pub mod Unique

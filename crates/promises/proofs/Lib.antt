@@ -2,6 +2,9 @@ pub mod Refusals
 pub mod Rounding
 pub mod Points
 pub mod Limits
+pub mod View
+pub mod Preview
+pub mod Drawing
 pub mod Listings
 pub mod Editing
 pub mod Unique

@@ -1,13 +1,11 @@
 -- Demand 2: after an accepted drawing each point is the published curve of its basis at its step, worked exactly and rounded once.
 use mathlib.Core.Path.{_≡_, sym, ap, _∙_}
 use mathlib.Core.List.{List, [], _∷_}
-use Prim.Native.Nat.{ℕ, _*_, _-_, _/_, _%_, _^_, _≤_, _<_, min}
+use Prim.Native.Nat.{ℕ, _*_, _-_, _/_, _%_, _^_, _<_, min}
 use native.Mathlib.Nat.{mul-left-comm, mul-pos}
-use native.Mathlib.Omega.{arith}
-use borrow.Author.Tests.{ltb-false}
 use lib.Dec.{lit<}
 use lib.IntN.{ℤ, pos, _*ℤ_}
-use lib.ListN.{getD, length}
+use lib.ListN.{getD}
 use lib.Pow.{pow-pos}
 use Rattle.whole.specs.Nearest.{nearest, sixfold}
 use Rattle.whole.proofs.Nearest.{nearest-scale}
@@ -25,9 +23,8 @@ use Rattle.shape.specs.declared.Shape.{Shape}
 use Rattle.shape.specs.Refusals.{planOf}
 use Rattle.spans.specs.Numbers.{number}
 use Rattle.outline.specs.declared.Drawn.the-variants.{Points}
-use Rattle.outline.specs.Outline.{Outcome, outcome, numbers, points, drawn, draws}
-use Rattle.outline.proofs.Exactly.{points-none, none-drawn}
-use Rattle.spans.proofs.Filled.{in-filled}
+use Rattle.outline.specs.Outline.{outcome, points, draws}
+use Rattle.outline.proofs.Held.{held-number}
 use Rattle.promises.specs.Points.{publishedNumber}
 
 denominator-pos : (b : Basis) → 0 < denominator b
@@ -62,13 +59,7 @@ pub drawn-published :
     → q < 2 * points (planOf s)
     → getD held q (pos 0) ≡ publishedNumber (planOf s .basis) (planOf s .depth) (planOf s .spans) controls q
 drawn-published s controls lent n held e q h =
-    let p = planOf s in
-    let none = points-none s controls lent n held e in
-    let room : 2 * points p ≤ length lent = ltb-false (length lent) (2 * points p) (none .1 .1 .1 .1 .1 .0) in
-    let is : held ≡ drawn p controls lent = ap (λ (o : Outcome). o .held) (sym e ∙ none-drawn s controls lent none) in
-    ap (λ l. getD l q (pos 0)) is
-    ∙ in-filled (numbers p controls) 0 (2 * points p) lent q (omega arith) (omega arith) (omega arith)
-    ∙ number-published (p .basis) (p .depth) (p .spans) controls q
+    held-number s controls lent n held e q h ∙ number-published (planOf s .basis) (planOf s .depth) (planOf s .spans) controls q
 
 -- the three ways list the same sums of a span, at any depth
 pub three-ways : (k : ℕ) (q : Four) → (byHalving k q ≡ byWeights k q) × (byDifferences k q ≡ byWeights k q)

@@ -7,7 +7,12 @@ use Rattle.curve.specs.declared.Basis.{Basis}
 use Rattle.curve.specs.Published.{published, denominator}
 use Rattle.curve.specs.Span.{coordinate, records}
 
+-- The published curve of span s on an axis (0 is x, 1 is y) at t = i / 2^k.
+abbrev pub publishedPoint : Basis → ℕ → List ℤ → ℕ → ℕ → ℕ → ℤ
+publishedPoint b k controls s axis i = nearest (published b (records b s (coordinate controls axis)) (pos i) (pos (2 ^ k))) (denominator b * 2 ^ (3 * k))
+
+-- Number q of an outline of m spans.
 unfoldable pub publishedNumber : Basis → ℕ → ℕ → List ℤ → ℕ → ℤ
 publishedNumber b k m controls q =
     let s = min (q / 2 / 2 ^ k) (m - 1) in
-    nearest (published b (records b s (coordinate controls (q % 2))) (pos (q / 2 - s * 2 ^ k)) (pos (2 ^ k))) (denominator b * 2 ^ (3 * k))
+    publishedPoint b k controls s (q % 2) (q / 2 - s * 2 ^ k)

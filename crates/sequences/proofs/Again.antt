@@ -28,6 +28,7 @@ use Rattle.outline.specs.declared.Drawn.the-variants.{Points}
 use Rattle.outline.specs.Outline as outline
 use Rattle.outline.specs.Outline.{numbers, points, drawn, drawRows, draws}
 use Rattle.outline.proofs.Exactly.{points-none, none-drawn}
+use Rattle.outline.proofs.Held.{held-drawn}
 use Rattle.outline.proofs.Within.{drawn-within}
 use Rattle.asked.specs.declared.Edit.{Edit}
 use Rattle.asked.specs.Edits.{countAfter, pointAt}
@@ -126,11 +127,9 @@ played-redraws t (c ∷ calls) again = played-redraws (called t c) calls (called
 pub drawn-redraws : (s : Shape) (controls lent : List ℤ) (n : ℕ) (held : List ℤ) → draws s controls lent ≡ outline.outcome (Points n) held → Redraws (record { shape = s; controls = controls; held = held })
 drawn-redraws s controls lent n held answered =
     let p = planOf s in
-    let none = points-none s controls lent n held answered in
-    let is : drawn p controls lent ≡ held = ap (λ (o : outline.Outcome). o .held) (sym (none-drawn s controls lent none) ∙ answered) in
-    let long : length lent ≡ length held = sym (length-filled (numbers p controls) 0 (2 * points p) lent) ∙ ap length is in
+    let long : length lent ≡ length held = sym (length-filled (numbers p controls) 0 (2 * points p) lent) ∙ ap length (held-drawn s controls lent n held answered) in
     outlined-redraws (record { shape = s; controls = controls; held = held }) (drawn-outlined s controls lent n held answered)
-    (subst (λ (len : ℕ). NoRow (shapeRows s ++ listRows (s .count) controls (points p) len)) long none)
+    (subst (λ (len : ℕ). NoRow (shapeRows s ++ listRows (s .count) controls (points p) len)) long (points-none s controls lent n held answered))
 
 -- nor does it after any calls more
 pub drawn-played-redraws : (s : Shape) (controls lent : List ℤ) (n : ℕ) (held : List ℤ) (calls : List Call) → draws s controls lent ≡ outline.outcome (Points n) held → Redraws (played (record { shape = s; controls = controls; held = held }) calls)

@@ -2,11 +2,10 @@
 use mathlib.Core.Path.{_≡_, sym, ap, _∙_, subst}
 use mathlib.Core.Logic.{⊎-elim}
 use mathlib.Core.List.{List, [], _∷_}
-use Prim.Native.Nat.{ℕ, _*_, _≤_}
+use Prim.Native.Nat.{ℕ, _*_}
 use native.Mathlib.Omega.{arith}
-use borrow.Author.Tests.{ltb-false}
 use lib.IntN.{ℤ, pos}
-use lib.ListN.{getD, length}
+use lib.ListN.{getD}
 use Rattle.shape.specs.declared.Shape.{Shape}
 use Rattle.shape.specs.declared.Refusal.{Refusal}
 use Rattle.shape.specs.Refusals.{First, NoRow, planOf}
@@ -14,8 +13,8 @@ use Rattle.shape.proofs.Refusals.{verdict}
 use Rattle.spans.proofs.Filled.{length-filled, in-filled}
 use Rattle.outline.specs.declared.Drawn.the-variants.{Points}
 use Rattle.outline.specs.Outline as outline
-use Rattle.outline.specs.Outline.{numbers, points, drawn, draws}
-use Rattle.outline.proofs.Exactly.{points-none, none-drawn}
+use Rattle.outline.specs.Outline.{numbers, points, draws}
+use Rattle.outline.proofs.Held.{held-room, held-number}
 use Rattle.asked.specs.declared.Edit.{Edit}
 use Rattle.asked.specs.Edits.{pointAt}
 use Rattle.edit.specs.Reading.{shapeAfter, controlsAfter, accepts, edits}
@@ -61,16 +60,7 @@ played-outlined t (c ∷ calls) out = played-outlined (called t c) calls (called
 
 -- a drawing call that answers points leaves an outline
 pub drawn-outlined : (s : Shape) (controls lent : List ℤ) (n : ℕ) (held : List ℤ) → draws s controls lent ≡ outline.outcome (Points n) held → Outlined (record { shape = s; controls = controls; held = held })
-drawn-outlined s controls lent n held answered =
-    let p = planOf s in
-    let none = points-none s controls lent n held answered in
-    let is : drawn p controls lent ≡ held = ap (λ (o : outline.Outcome). o .held) (sym (none-drawn s controls lent none) ∙ answered) in
-    let room : 2 * points p ≤ length lent = ltb-false (length lent) (2 * points p) (none .1 .1 .1 .1 .1 .0) in
-    subst (λ l. Outlined (record { shape = s; controls = controls; held = l })) is
-    (record {
-      room = omega (arith, room, length-filled (numbers p controls) 0 (2 * points p) lent);
-      holds = λ q h. in-filled (numbers p controls) 0 (2 * points p) lent q (omega arith) (omega arith) (omega (arith, room));
-    })
+drawn-outlined s controls lent n held answered = record { room = held-room s controls lent n held answered; holds = held-number s controls lent n held answered }
 
 -- so a drawing and any calls after it do
 pub drawn-then-played : (s : Shape) (controls lent : List ℤ) (n : ℕ) (held : List ℤ) (calls : List Call) → draws s controls lent ≡ outline.outcome (Points n) held → Outlined (played (record { shape = s; controls = controls; held = held }) calls)
