@@ -7,5 +7,6 @@ pub mod Preview
 pub mod Drawing
 pub mod Listings
 pub mod Editing
+pub mod Sequences
 pub mod Unique
 pub mod Cases

@@ -16,7 +16,7 @@ use Rattle.shape.specs.Refusals.{planOf}
 use Rattle.outline.specs.declared.Drawn.the-variants.{Points}
 use Rattle.outline.specs.Outline.{outcome, points, draws}
 use Rattle.outline.proofs.Within as outline
-use Rattle.sequences.specs.Played.{Call, played}
+use Rattle.sequences.specs.Played.{Call, state, played}
 use Rattle.sequences.proofs.Again as sequences
 
 -- every Bezier point, and every B-spline point, lies in the box of its span's four controls
@@ -36,6 +36,6 @@ drawn-within = outline.drawn-within
 
 -- and after any sequence of edits that follow it, refused ones among them
 pub played-within : (s : Shape) (controls lent : List ℤ) (n : ℕ) (held : List ℤ) (calls : List Call) → draws s controls lent ≡ outcome (Points n) held
-    → (q : ℕ) → q < 2 * points (planOf (played (record { shape = s; controls = controls; held = held }) calls .shape))
-    → natAbs (getD (played (record { shape = s; controls = controls; held = held }) calls .held) q (pos 0)) ≤ reach
+    → (q : ℕ) → q < 2 * points (planOf (played (state s controls held) calls .shape))
+    → natAbs (getD (played (state s controls held) calls .held) q (pos 0)) ≤ reach
 played-within = sequences.drawn-played-within

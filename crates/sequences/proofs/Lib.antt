@@ -3,3 +3,4 @@ pub mod Kept
 pub mod Redrawn
 pub mod Played
 pub mod Again
+pub mod Calls
