@@ -9,4 +9,4 @@ pub mod Ways
 pub mod Table
 pub mod Limits
 pub mod Machine
-pub mod Cases
+pub mod Equal
