@@ -1,12 +1,19 @@
-pub mod Refusals
+-- The promises, in document 01's order. The curve, exactly:
 pub mod Rounding
 pub mod Points
 pub mod Limits
+-- Editing an outline:
+pub mod Editing
+pub mod Sequences
+-- Preview and drawing:
 pub mod View
 pub mod Preview
 pub mod Drawing
+-- Record file, and its listing:
 pub mod Listings
-pub mod Editing
-pub mod Sequences
-pub mod Unique
+-- Refusal numbers:
+pub mod Refusals
+-- Sums to hold it to:
 pub mod Cases
+-- How firmly each call is tied:
+pub mod Unique

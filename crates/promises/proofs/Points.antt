@@ -1,23 +1,16 @@
 -- Demand 2: after an accepted drawing each point is the published curve of its basis at its step, worked exactly and rounded once.
-use mathlib.Core.Path.{_≡_, sym, ap, _∙_}
-use mathlib.Core.List.{List, [], _∷_}
+use mathlib.Core.Path.{_≡_, _∙_}
+use mathlib.Core.List.{List}
 use Prim.Native.Nat.{ℕ, _*_, _-_, _/_, _%_, _^_, _<_, min}
-use native.Mathlib.Nat.{mul-left-comm, mul-pos}
-use lib.Dec.{lit<}
-use lib.IntN.{ℤ, pos, _*ℤ_}
+use lib.IntN.{ℤ, pos}
 use lib.ListN.{getD}
-use lib.Pow.{pow-pos}
-use Rattle.whole.specs.Nearest.{nearest, sixfold}
-use Rattle.whole.proofs.Nearest.{nearest-scale}
-use Rattle.whole.proofs.Ring.{var, _⊗_, solve}
+use Rattle.whole.specs.Nearest.{nearest}
 use Rattle.curve.specs.declared.Four.{Four}
 use Rattle.curve.specs.declared.Basis.{Basis}
-use Rattle.curve.specs.declared.Basis.the-variants.{Bezier, BSpline, Cardinal, Hermite}
 use Rattle.curve.specs.Published.{published, denominator}
-use Rattle.curve.specs.Span.{coordinate, records, sixfoldControls, weighted, divisor, point}
+use Rattle.curve.specs.Span.{coordinate, records, point}
 use Rattle.curve.specs.Ways.{byWeights, byHalving, byDifferences}
-use Rattle.curve.proofs.Span.{sixfold-is-published}
-use Rattle.curve.proofs.Table.{divisor-pos}
+use Rattle.curve.proofs.Span as curve
 use Rattle.curve.proofs.Ways.{halving-agrees, differences-agree}
 use Rattle.shape.specs.declared.Shape.{Shape}
 use Rattle.shape.specs.Refusals.{planOf}
@@ -27,25 +20,11 @@ use Rattle.outline.specs.Outline.{outcome, points, draws}
 use Rattle.outline.proofs.Held.{held-number}
 use Rattle.promises.specs.Points.{publishedNumber}
 
-denominator-pos : (b : Basis) → 0 < denominator b
-denominator-pos Bezier = lit< tt
-denominator-pos BSpline = lit< tt
-denominator-pos Cardinal = lit< tt
-denominator-pos Hermite = lit< tt
-
--- a point is the published value, rounded once
+-- a point of a span is the published value, rounded once
 pub point-published : (b : Basis) (k : ℕ) (p : Four) (i : ℕ) → point b k p i ≡ nearest (published b p (pos i) (pos (2 ^ k))) (denominator b * 2 ^ (3 * k))
-unfolding point
-point-published b k p i =
-    let w = weighted (sixfoldControls b p) (pos i) (pos (2 ^ k)) in
-    let v = published b p (pos i) (pos (2 ^ k)) in
-    let d = denominator b in
-    let swap : (x y : ℤ) → x *ℤ y ≡ y *ℤ x = λ x y. solve (x ∷ y ∷ []) (var 0 ⊗ var 1) (var 1 ⊗ var 0) tt in
-    sym (nearest-scale d w (divisor k) (denominator-pos b) (divisor-pos k))
-    ∙ ap (λ z. nearest z (d * divisor k)) (swap (pos d) w ∙ sixfold-is-published b p (pos i) (pos (2 ^ k)) ∙ swap v (pos sixfold))
-    ∙ ap (nearest (pos sixfold *ℤ v)) (mul-left-comm d sixfold (2 ^ (3 * k)))
-    ∙ nearest-scale sixfold v (d * 2 ^ (3 * k)) (lit< tt) (mul-pos (denominator-pos b) (pow-pos (3 * k)))
+point-published = curve.point-published
 
+-- so each number of an outline is
 pub number-published : (b : Basis) (k m : ℕ) (controls : List ℤ) (q : ℕ) → number b k m controls q ≡ publishedNumber b k m controls q
 unfolding number publishedNumber
 number-published b k m controls q =
