@@ -10,3 +10,4 @@ pub mod Table
 pub mod Limits
 pub mod Machine
 pub mod Equal
+pub mod Examples

@@ -142,7 +142,7 @@ module _ (b : Basis) (k m : ℕ) (controls : List ℤ) (t j : ℕ) (there : t < 
   next : 2 ^ k ≡ j / 2 → q / 2 ≡ suc t * 2 ^ k + 0
   next e = omega (arith, half, suc-mul t (2 ^ k))
 
-  pub span-point : j < perSpan k + 2 → number b k m controls q ≡ point b k (records b t at) (j / 2)
+  span-point : j < perSpan k + 2 → number b k m controls q ≡ point b k (records b t at) (j / 2)
   span-point within =
       ⊎-elim (λ (before : j / 2 < 2 ^ k). stands t (j / 2) (span-of t (j / 2) half before ∙ min-eq-left (omega arith)) half)
       (λ (past : 2 ^ k ≤ j / 2).
