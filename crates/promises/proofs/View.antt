@@ -2,10 +2,9 @@
 -- is `viewed (partOf ..)`, for every input.
 use mathlib.Core.Path.{_≡_, _∙_}
 use mathlib.Core.List.{List, []}
-use Prim.Native.Nat.{ℕ, _+_, _*_, _/_, _%_, _^_, _≤_, _<_}
+use Prim.Native.Nat.{ℕ, _+_, _*_, _^_, _≤_, _<_}
 use lib.IntN.{ℤ}
 use lib.ListN.{length}
-use Rattle.curve.specs.Numbers.{tab}
 use Rattle.curve.proofs.Tab.{tab-same}
 use Rattle.shape.specs.declared.Shape.{Shape}
 use Rattle.shape.specs.declared.Plan.{Plan}
@@ -16,7 +15,7 @@ use Rattle.outline.specs.declared.Drawn.the-variants.{Points}
 use Rattle.outline.specs.Outline.{outcome, draws}
 use Rattle.outline.specs.View.{partOf, viewed, Unseen}
 use Rattle.outline.proofs.Views as outline
-use Rattle.promises.specs.Points.{publishedPoint}
+use Rattle.promises.specs.Points.{publishedSpan}
 use Rattle.promises.proofs.Points.{point-published}
 
 -- it is empty for a bad shape, s not below m, or a list shorter than all points, and for nothing else
@@ -28,8 +27,8 @@ pub good-view : (s : Shape) (p : Plan) (t : ℕ) (l : List ℤ) → judgeShape s
     → length (viewed (partOf s t l) l) ≡ 2 * (2 ^ p .depth + 1)
 good-view = outline.good-view
 
--- after an accepted drawing it is span t's published points, from t = 0 to t = 1, x then y
+-- after an accepted drawing it is the span's published points, the first of them and the last
 pub drawn-view : (s : Shape) (controls lent : List ℤ) (n : ℕ) (held : List ℤ) → draws s controls lent ≡ outcome (Points n) held → (t : ℕ) → t < planOf s .spans
-    → viewed (partOf s t held) held ≡ tab (λ (j : ℕ). publishedPoint (planOf s .basis) (planOf s .depth) controls t (j % 2) (j / 2)) 0 (2 * (2 ^ planOf s .depth + 1))
+    → viewed (partOf s t held) held ≡ publishedSpan (planOf s .basis) (planOf s .depth) controls t
 drawn-view s controls lent n held answered t there =
     outline.drawn-view s controls lent n held answered t there ∙ tab-same _ _ 0 0 (2 * (2 ^ planOf s .depth + 1)) (λ j h. point-published (planOf s .basis) (planOf s .depth) _ _)
