@@ -9,4 +9,5 @@ pub mod Ways
 pub mod Table
 pub mod Limits
 pub mod Machine
-pub mod Cases
+pub mod Equal
+pub mod Examples

@@ -1,16 +1,22 @@
 -- The sixfold Bezier controls of document 01 draw the published curves, and a span ends where the next one starts. Each is an identity of polynomials.
 use mathlib.Core.Path.{_≡_, sym, ap, _∙_}
-use Prim.Native.Nat.{ℕ, suc, _+_, _*_, _^_}
+use mathlib.Core.List.{[], _∷_}
+use Prim.Native.Nat.{ℕ, suc, _+_, _*_, _^_, _<_}
+use native.Mathlib.Nat.{mul-left-comm, mul-pos}
 use native.Mathlib.Omega.{arith}
-use lib.IntN.{ℤ, pos, _+ℤ_, _*ℤ_}
+use lib.Dec.{lit<}
+use lib.IntN.{ℤ, pos, _*ℤ_}
+use lib.Pow.{pow-pos}
 use Rattle.whole.specs.Nearest.{nearest, sixfold}
-use Rattle.whole.proofs.Ring.{var, _⊕_, _⊖_, _⊗_, solve}
+use Rattle.whole.proofs.Nearest.{nearest-scale}
+use Rattle.whole.proofs.Ring.{var, _⊗_, solve}
 use Rattle.curve.specs.declared.Four.{Four}
 use Rattle.curve.specs.declared.Basis.{Basis}
 use Rattle.curve.specs.declared.Basis.the-variants.{Bezier, BSpline, Cardinal, Hermite}
-use Rattle.curve.specs.Numbers.{four, dot}
+use Rattle.curve.specs.Numbers.{dot}
 use Rattle.curve.specs.Published.{published, denominator, cubic, weights, bezierMatrix, hermiteMatrix, cardinalMatrix, bSplineMatrix}
 use Rattle.curve.specs.Span.{firstRecord, recordsFrom, records, sixfoldControls, weighted, divisor, point}
+use Rattle.curve.proofs.Table.{divisor-pos}
 use Rattle.curve.proofs.Reflect.{fourᵉ, num, p, i, h, values, cubicᵉ, weightedᵉ, sixfoldᵉ}
 
 -- For every basis, i and h: the weighted sum of the sixfold controls over 6·h^3 is the published value, a numerator over `denominator`·h^3.
@@ -20,6 +26,25 @@ sixfold-is-published Bezier q x y = solve (values q x y) (weightedᵉ (sixfold�
 sixfold-is-published BSpline q x y = solve (values q x y) (weightedᵉ (sixfoldᵉ BSpline p) i h ⊗ num 6) (cubicᵉ bSplineMatrix p i h ⊗ num 6) tt
 sixfold-is-published Cardinal q x y = solve (values q x y) (weightedᵉ (sixfoldᵉ Cardinal p) i h ⊗ num 2) (cubicᵉ (cardinalMatrix (pos 1) (pos 2)) p i h ⊗ num 6) tt
 sixfold-is-published Hermite q x y = solve (values q x y) (weightedᵉ (sixfoldᵉ Hermite p) i h ⊗ num 1) (cubicᵉ hermiteMatrix (fourᵉ (p .a) (p .c) (p .b) (p .d)) i h ⊗ num 6) tt
+
+denominator-pos : (b : Basis) → 0 < denominator b
+denominator-pos Bezier = lit< tt
+denominator-pos BSpline = lit< tt
+denominator-pos Cardinal = lit< tt
+denominator-pos Hermite = lit< tt
+
+-- So a point is the published value, rounded once.
+pub point-published : (b : Basis) (k : ℕ) (p : Four) (i : ℕ) → point b k p i ≡ nearest (published b p (pos i) (pos (2 ^ k))) (denominator b * 2 ^ (3 * k))
+unfolding point
+point-published b k p i =
+    let w = weighted (sixfoldControls b p) (pos i) (pos (2 ^ k)) in
+    let v = published b p (pos i) (pos (2 ^ k)) in
+    let d = denominator b in
+    let swap : (x y : ℤ) → x *ℤ y ≡ y *ℤ x = λ x y. solve (x ∷ y ∷ []) (var 0 ⊗ var 1) (var 1 ⊗ var 0) tt in
+    sym (nearest-scale d w (divisor k) (denominator-pos b) (divisor-pos k))
+    ∙ ap (λ z. nearest z (d * divisor k)) (swap (pos d) w ∙ sixfold-is-published b p (pos i) (pos (2 ^ k)) ∙ swap v (pos sixfold))
+    ∙ ap (nearest (pos sixfold *ℤ v)) (mul-left-comm d sixfold (2 ^ (3 * k)))
+    ∙ nearest-scale sixfold v (d * 2 ^ (3 * k)) (lit< tt) (mul-pos (denominator-pos b) (pow-pos (3 * k)))
 
 -- ---- joints
 

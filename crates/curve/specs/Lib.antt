@@ -4,4 +4,3 @@ pub mod BSpline
 pub mod Span
 pub mod Ways
 pub mod Limits
-pub mod Cases

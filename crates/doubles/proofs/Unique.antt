@@ -1,7 +1,7 @@
 -- No second outcome: over the contract of each public call as it is generated from the source, two results and two sets of last values of what was lent that both
 -- meet it at the same arguments are the same. Each contract says what the result equals, and nothing is lent.
 use mathlib.Core.Path.{refl, sym, _∙_}
-use Rattle.whole.proofs.Unique.{Unique}
+use Rattle.whole.specs.Unique.{Unique}
 use Rattle.doubles.proofs.double_of.Kinds as double-of-kinds
 use Rattle.doubles.proofs.double_of.Reads as double-of-reads
 use Rattle.doubles.proofs.midpoint.Kinds as midpoint-kinds

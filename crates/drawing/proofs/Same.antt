@@ -9,7 +9,7 @@ use mir.Syntax.{Width}
 use mir.Val.{SFits, toZ, ofZ}
 use Rattle.whole.proofs.Fit.{kept-is}
 use Rattle.curve.specs.Numbers.{equal}
-use Rattle.curve.proofs.Cases.{equal-same}
+use Rattle.curve.proofs.Equal.{equal-same}
 use Rattle.shape.proofs.Tests.{passes, and-true}
 use Rattle.drawing.specs.declared.Control.{Control}
 use Rattle.drawing.specs.Drawing.{same}

@@ -1,7 +1,7 @@
 -- No second outcome: over the contract of each public call as it is generated from the source, two results and two sets of last values of what was lent that both
 -- meet it at the same arguments are the same. The contract of `step` says what the answer and the lent controls equal together, so each is determined.
 use mathlib.Core.Path.{_≡_, refl, sym, ap, _∙_}
-use Rattle.whole.proofs.Unique.{Unique}
+use Rattle.whole.specs.Unique.{Unique}
 use Rattle.drawing.specs.Reading.{Outcome, both}
 use Rattle.drawing.proofs.State.new.Kinds as new-kinds
 use Rattle.drawing.proofs.State.new.Reads as new-reads

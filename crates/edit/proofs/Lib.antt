@@ -3,4 +3,3 @@ pub mod Rows
 pub mod Unique
 pub mod Exactly
 pub mod Passed
-pub mod Cases

@@ -1,7 +1,7 @@
 -- No second outcome: over the contract of each public edit as it is generated from the source, two answers, each with what both lent lists hold at the end, that both
 -- meet it at the same arguments are the same.
 use mathlib.Core.Path.{_≡_, sym, ap, _∙_}
-use Rattle.whole.proofs.Unique.{Unique}
+use Rattle.whole.specs.Unique.{Unique}
 use Rattle.edit.specs.Reading.{Outcome, outcome}
 use Rattle.edit.proofs.move_record.Kinds as move
 use Rattle.edit.proofs.move_record.Reads as move-reads

@@ -1,7 +1,7 @@
 -- No second outcome: over the contract of the public call as it is generated from the source, two answers, each with what the lent text holds at the end, that both meet it
 -- are the same, since it equates both with one reading.
 use mathlib.Core.Path.{_≡_, sym, ap, _∙_}
-use Rattle.whole.proofs.Unique.{Unique}
+use Rattle.whole.specs.Unique.{Unique}
 use Rattle.file_list.specs.Files.{Outcome, outcome}
 use Rattle.file_list.proofs.list_file.Kinds as list-file
 use Rattle.file_list.proofs.list_file.Reads as list-file-reads

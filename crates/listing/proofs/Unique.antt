@@ -1,6 +1,6 @@
 -- No second outcome meets a public call's contract: the contract equates the answer and the text that is left with one reading, so two outcomes that meet it are equal.
 use mathlib.Core.Path.{_≡_, sym, ap, _∙_}
-use Rattle.whole.proofs.Unique.{Unique}
+use Rattle.whole.specs.Unique.{Unique}
 use Rattle.listing.specs.Written.{Outcome, outcome}
 use Rattle.listing.proofs.number.put_decimal.Kinds as put-decimal
 use Rattle.listing.proofs.number.put_decimal.Reads as put-decimal-reads

@@ -4,7 +4,7 @@ use mathlib.Core.Path.{_≡_, refl, sym, ap, _∙_}
 use borrow.Fn.Kinds.{Dens, resT, endedOf}
 use contract.Lifetimes.{Lfts}
 use denote.Triple.Clauses.{Lasts, atExit}
-use Rattle.whole.proofs.Unique.{Unique}
+use Rattle.whole.specs.Unique.{Unique}
 use Rattle.outline.specs.Outline.{Outcome, outcome}
 use Rattle.outline.proofs.by_weights.Kinds as weights
 use Rattle.outline.proofs.by_weights.Reads as weights-reads

@@ -1,23 +1,37 @@
--- Which part a view is, by the checks that were made; and that no good view is empty.
+-- Which part a view is, by the checks that were made; that it is empty in the paper's cases and no others; and that after a drawing it is its span's points.
 use mathlib.Core.Path.{_≡_, sym, ap, _∙_}
 use mathlib.Core.Bool.{cond, _||_}
 use mathlib.Core.List.{List, []}
-use Prim.Native.Nat.{ℕ, suc, _+_, _*_, _-_, _^_, min, _≤_, _<_}
-use native.Mathlib.Nat.{mul-left-comm, mul-le-mul-right, suc-mul, min-eq-left}
+use mathlib.Core.Logic.{inl, inr, ⊎-elim}
+use Prim.Native.Nat.{ℕ, suc, _+_, _*_, _-_, _/_, _%_, _^_, min, _≤_, _<_}
+use native.Mathlib.Nat.{zero-add, mul-left-comm, mul-le-mul-right, suc-mul, min-eq-left, min-eq-right}
 use native.Mathlib.Omega.{arith}
 use borrow.Author.Tests.{le-leb, lt-leb, lt-ltb, le-ltb}
+use lib.Arith.{digits-div}
 use lib.Dec.{ltb}
-use lib.IntN.{ℤ}
+use lib.IntN.{ℤ, pos}
 use lib.ListN.{length, take, drop, length-take, length-drop}
+use lib.Pow.{pow-pos}
+use lib.Seq.{ext-getD, getD-take, getD-drop}
+use Rattle.curve.specs.declared.Basis.{Basis}
+use Rattle.curve.specs.Numbers.{tab}
+use Rattle.curve.specs.Span.{coordinate, records, point}
+use Rattle.curve.proofs.Span.{joint}
+use Rattle.curve.proofs.Tab.{length-tab, getD-tab}
 use Rattle.shape.specs.declared.Shape.{Shape}
 use Rattle.shape.specs.declared.Plan.{Plan}
 use Rattle.shape.specs.declared.Refusal.{Refusal}
 use Rattle.shape.specs.declared.Judged.the-variants.{Sound, Unsound}
-use Rattle.shape.specs.Refusals.{judge, judgeShape, planOf}
+use Rattle.shape.specs.Refusals.{First, judge, shapeRows, judgeShape, planOf}
 use Rattle.shape.specs.Shape.{pointsOf}
-use Rattle.shape.proofs.Refusals.{sound, unsound, sound-plan}
-use Rattle.spans.specs.Numbers.{perSpan}
-use Rattle.outline.specs.View.{Part, emptyPart, outOfSight, partOf, viewed}
+use Rattle.shape.proofs.Refusals.{verdict, sound, unsound, sound-plan, first-unsound, none-sound}
+use Rattle.shape.proofs.Tests.{either}
+use Rattle.spans.specs.Numbers.{number, perSpan}
+use Rattle.spans.proofs.Numbers.{per-span, located}
+use Rattle.outline.specs.declared.Drawn.the-variants.{Points}
+use Rattle.outline.specs.Outline.{outcome, draws}
+use Rattle.outline.specs.View.{Part, emptyPart, outOfSight, partOf, viewed, Unseen}
+use Rattle.outline.proofs.Held.{held-sound, held-room, held-number}
 
 -- where span t of a plan lies in the list
 abbrev pub spanPart : Plan → ℕ → Part
@@ -67,3 +81,102 @@ good-view s p t l e h long =
     ∙ ap (min n) (length-drop (t * perSpan k) l)
     ∙ min-eq-left room
     ∙ two
+
+-- ---- empty in the paper's cases, and in no others
+
+refused-empty : (s : Shape) (t : ℕ) (l : List ℤ) → (r : Refusal) × First (shapeRows s) r → viewed (partOf s t l) l ≡ []
+unfolding viewed
+refused-empty s t l (r, first) = ap (λ v. viewed v l) (part-unsound s r t l (first-unsound s r first))
+
+pub unseen-empty : (s : Shape) (t : ℕ) (l : List ℤ) → Unseen s t l → viewed (partOf s t l) l ≡ []
+unfolding viewed
+unseen-empty s t l (inl refused) = refused-empty s t l refused
+unseen-empty s t l (inr unseen) =
+    ⊎-elim (refused-empty s t l)
+    (λ none.
+    let e = none-sound s none in
+    ap (λ v. viewed v l)
+    (⊎-elim (part-past s (planOf s) t l e)
+    (λ short. ⊎-elim (λ h. part-short s (planOf s) t l e h short) (part-past s (planOf s) t l e) (either t (planOf s .spans)))
+    unseen))
+    (verdict (shapeRows s))
+
+pub empty-unseen : (s : Shape) (t : ℕ) (l : List ℤ) → viewed (partOf s t l) l ≡ [] → Unseen s t l
+empty-unseen s t l empty =
+    let p = planOf s in
+    ⊎-elim (λ (v : (r : Refusal) × First (shapeRows s) r). inl v)
+    (λ none.
+    inr
+    (⊎-elim
+    (λ there.
+    ⊎-elim (λ short. inr short)
+    (λ long. absurd (omega (arith, good-view s p t l (none-sound s none) there long, ap length empty)))
+    (either (length l) (2 * pointsOf (p .depth) (p .spans))))
+    (λ past. inl past)
+    (either t (p .spans))))
+    (verdict (shapeRows s))
+
+-- ---- after a drawing
+
+-- number j of the 2^k + 1 points of span t, its end among them: the next span's start where there is one
+module _ (b : Basis) (k m : ℕ) (controls : List ℤ) (t j : ℕ) (there : t < m) where
+  abbrev q : ℕ
+  q = t * perSpan k + j
+
+  abbrev at : ℕ → ℤ
+  at = coordinate controls (j % 2)
+
+  half : q / 2 ≡ t * 2 ^ k + j / 2
+  half = omega (arith, per-span t k)
+
+  -- as the outline has it: step i of span s
+  stands : (s i : ℕ) → min (q / 2 / 2 ^ k) (m - 1) ≡ s → q / 2 ≡ s * 2 ^ k + i → number b k m controls q ≡ point b k (records b s at) i
+  stands s i span step =
+      let axis : q % 2 ≡ j % 2 = omega (arith, per-span t k) in
+      located b k m controls q s i span step ∙ ap (λ (a : ℕ). point b k (records b s (coordinate controls a)) i) axis
+
+  -- the span of a point that is i steps from the start of span s
+  span-of : (s i : ℕ) → q / 2 ≡ s * 2 ^ k + i → i < 2 ^ k → min (q / 2 / 2 ^ k) (m - 1) ≡ min s (m - 1)
+  span-of s i e h = ap (λ (n : ℕ). min (n / 2 ^ k) (m - 1)) e ∙ ap (λ (n : ℕ). min n (m - 1)) (digits-div s h)
+
+  next : 2 ^ k ≡ j / 2 → q / 2 ≡ suc t * 2 ^ k + 0
+  next e = omega (arith, half, suc-mul t (2 ^ k))
+
+  span-point : j < perSpan k + 2 → number b k m controls q ≡ point b k (records b t at) (j / 2)
+  span-point within =
+      ⊎-elim (λ (before : j / 2 < 2 ^ k). stands t (j / 2) (span-of t (j / 2) half before ∙ min-eq-left (omega arith)) half)
+      (λ (past : 2 ^ k ≤ j / 2).
+      let end : 2 ^ k ≡ j / 2 = omega arith in
+      let on = span-of (suc t) 0 (next end) (pow-pos k) in
+      ⊎-elim (λ (more : suc t < m). stands (suc t) 0 (on ∙ min-eq-left (omega arith)) (next end) ∙ sym (joint b k t at) ∙ ap (point b k (records b t at)) end)
+      (λ (last : m ≤ suc t).
+      let final : m - 1 ≡ t = omega arith in
+      stands t (j / 2) (on ∙ min-eq-right (omega arith) ∙ final) half)
+      (either (suc t) m))
+      (either (j / 2) (2 ^ k))
+
+-- the view of a span is the span's own 2^k + 1 points, x then y
+pub drawn-view : (s : Shape) (controls lent : List ℤ) (n : ℕ) (held : List ℤ) → draws s controls lent ≡ outcome (Points n) held → (t : ℕ) → t < planOf s .spans
+    → viewed (partOf s t held) held ≡ tab (λ (j : ℕ). point (planOf s .basis) (planOf s .depth) (records (planOf s .basis) t (coordinate controls (j % 2))) (j / 2)) 0 (2 * (2 ^ planOf s .depth + 1))
+unfolding viewed
+drawn-view s controls lent n held answered t there =
+    let p = planOf s in
+    let k = p .depth in
+    let size = 2 * (2 ^ k + 1) in
+    let f : ℕ → ℤ = λ j. point (p .basis) k (records (p .basis) t (coordinate controls (j % 2))) (j / 2) in
+    let sound = held-sound s controls lent n held answered in
+    let long = held-room s controls lent n held answered in
+    let part = part-good s p t held sound there long in
+    let two : perSpan k + 2 ≡ size = omega arith in
+    let shown : viewed (partOf s t held) held ≡ take size (drop (t * perSpan k) held) = ap (λ v. viewed v held) part ∙ ap (λ (i : ℕ). take i (drop (t * perSpan k) held)) two in
+    let many : length (take size (drop (t * perSpan k) held)) ≡ size = ap length (sym shown) ∙ good-view s p t held sound there long in
+    shown
+    ∙ ext-getD (pos 0) (take size (drop (t * perSpan k) held)) (tab f 0 size) (many ∙ sym (length-tab f 0 size))
+    (λ j h.
+    let below : j < size = omega (arith, many) in
+    getD-take size (drop (t * perSpan k) held) j (pos 0) below
+    ∙ getD-drop (t * perSpan k) held j (pos 0)
+    ∙ held-number s controls lent n held answered (t * perSpan k + j) (omega (arith, span-within k (p .spans) t there))
+    ∙ span-point (p .basis) k (p .spans) controls t j there (omega arith)
+    ∙ ap f (sym (zero-add j))
+    ∙ sym (getD-tab f 0 size j below (pos 0)))

@@ -19,10 +19,10 @@ use Rattle.shape.specs.Shape.{pointsOf}
 use Rattle.shape.proofs.Refusals.{none-earlier, none-later, good-plan, good-records, none-facts, lent-inside}
 use Rattle.shape.proofs.Tests.{either}
 use Rattle.spans.specs.Numbers.{number}
-use Rattle.spans.proofs.Filled.{in-filled}
 use Rattle.outline.specs.declared.Drawn.the-variants.{Points}
 use Rattle.outline.specs.Outline.{Outcome, outcome, numbers, points, planRows, draws}
 use Rattle.outline.proofs.Exactly.{points-none, none-drawn}
+use Rattle.outline.proofs.Held.{held-sound, held-number}
 
 -- point g of m spans of d steps is at most d steps past its span's start: the last one at the last span's end
 step-within : (g m d : ℕ) → 0 < d → 1 ≤ m → g ≤ m * d → g - min (g / d) (m - 1) * d ≤ d
@@ -56,11 +56,9 @@ pub drawn-within : (s : Shape) (controls lent : List ℤ) (n : ℕ) (held : List
 drawn-within s controls lent n held answered q h =
     let p = planOf s in
     let none = points-none s controls lent n held answered in
-    let came = sym answered ∙ none-drawn s controls lent none in
-    let all : Points n ≡ Points (points p) = ap (λ (o : Outcome). o .answer) came in
+    let all : Points n ≡ Points (points p) = ap (λ (o : Outcome). o .answer) (sym answered ∙ none-drawn s controls lent none) in
     let few : n ≡ points p = cc in
+    let within : q < 2 * points p = omega (arith, few) in
     let good = good-plan s (none-earlier (shapeRows s) (planRows (s .count) p controls lent) none) in
     let had = none-facts (s .count) controls (points p) (length lent) (none-later (shapeRows s) (planRows (s .count) p controls lent) none) in
-    subst (λ z. natAbs z ≤ reach)
-    (sym (in-filled (numbers p controls) 0 (2 * points p) lent q (omega arith) (omega arith) (omega (arith, had .points-room))) ∙ ap (λ l. getD l q (pos 0)) (sym (ap (λ (o : Outcome). o .held) came)))
-    (number-within s p good controls (points p) (length lent) had q (omega (arith, few)))
+    subst (λ z. natAbs z ≤ reach) (sym (held-number s controls lent n held answered q within)) (number-within s p good controls (points p) (length lent) had q within)

@@ -1,2 +1,3 @@
 pub mod Outline
 pub mod View
+pub mod Cases

@@ -2,13 +2,15 @@
 -- would refuse, s not below m, or a list shorter than all points.
 use mathlib.Core.Bool.{Bool, cond, _||_}
 use mathlib.Core.List.{List}
-use Prim.Native.Nat.{ℕ, _+_, _*_}
+use mathlib.Core.Logic.{_⊎_}
+use Prim.Native.Nat.{ℕ, _+_, _*_, _≤_, _<_}
 use lib.Dec.{ltb, leb}
 use lib.IntN.{ℤ}
 use lib.ListN.{length, take, drop}
 use Rattle.shape.specs.declared.Shape.{Shape}
 use Rattle.shape.specs.declared.Plan.{Plan}
-use Rattle.shape.specs.Refusals.{judge, shapeRows, planOf}
+use Rattle.shape.specs.declared.Refusal.{Refusal}
+use Rattle.shape.specs.Refusals.{First, judge, shapeRows, planOf}
 use Rattle.shape.specs.Shape.{pointsOf}
 use Rattle.spans.specs.Numbers.{perSpan}
 
@@ -31,3 +33,9 @@ partOf sh s lent =
 
 unfoldable pub viewed : Part → List ℤ → List ℤ
 viewed v lent = take (v .size) (drop (v .start) lent)
+
+-- The paper's cases of the empty part: a shape that 1, 2 or 3 refuses, s not below m, or a list shorter than all points.
+abbrev pub Unseen : Shape → ℕ → List ℤ → Type 0
+Unseen sh s lent =
+    let p = planOf sh in
+    ((r : Refusal) × First (shapeRows sh) r) ⊎ ((p .spans ≤ s) ⊎ (length lent < 2 * pointsOf (p .depth) (p .spans)))

@@ -1,5 +1,5 @@
--- Demand 3: any sequence of edits, refused ones among them, leaves the outline of the controls as they now stand; an edit works afresh exactly the spans that it touches,
--- and every other span holds what an old one held, in place or one span on or back.
+-- Demand 3, one edit, in terms of its answer and for any contents of the lent points: it works afresh exactly the spans that it touches, and every other span holds what an
+-- old one held, in place or one span on or back. What any sequence of edits leaves is in `Sequences`.
 use mathlib.Core.Path.{_≡_, _∙_}
 use mathlib.Core.Logic.{_↔_}
 use mathlib.Core.List.{List}
@@ -18,26 +18,10 @@ use Rattle.edit.specs.declared.Change.{Change}
 use Rattle.edit.specs.declared.Edited.the-variants.{Done}
 use Rattle.edit.specs.Reading.{outcome, shapeAfter, edits}
 use Rattle.sequences.specs.Touched.{Touched, InRun, Fresh, oldSpan}
-use Rattle.sequences.specs.Played.{State, Call, Outlined, played}
 use Rattle.sequences.proofs.Touched.{held-within}
 use Rattle.sequences.proofs.Answered.{answered-shape, answered-controls, answered-run, answered-nought, answered-every, answered-fresh, answered-other, answered-past, answered-past-controls, answered-records, answered-needed}
-use Rattle.sequences.proofs.Played.{played-outlined}
 use Rattle.promises.specs.Points.{publishedNumber}
 use Rattle.promises.proofs.Points.{number-published}
-
--- from any drawn outline, after any list of calls, each point is the published curve's for the controls as they then stand
-pub after-any-calls :
-    (t : State) (calls : List Call)
-    → Outlined t
-    → (q : ℕ)
-    → q < 2 * points (planOf (played t calls .shape))
-    → getD (played t calls .held) q (pos 0)
-    ≡ publishedNumber (planOf (played t calls .shape) .basis) (planOf (played t calls .shape) .depth) (planOf (played t calls .shape) .spans) (played t calls .controls) q
-after-any-calls t calls out q h =
-    let p = planOf (played t calls .shape) in
-    played-outlined t calls out .holds q h ∙ number-published (p .basis) (p .depth) (p .spans) (played t calls .controls) q
-
--- ---- one edit, in terms of its answer and for any contents of the lent points
 
 -- The call answered c, and left the controls `new` and the points `held`.
 module _ (e : Edit) (s : Shape) (j : ℕ) (controls lent : List ℤ) (c : Change) (new held : List ℤ) (done : edits e s j controls lent ≡ outcome (Done c) new held) where

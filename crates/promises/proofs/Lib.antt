@@ -1,8 +1,20 @@
-pub mod Refusals
-pub mod Lists
+-- The promises, in document 01's order. The curve, exactly:
+pub mod Rounding
 pub mod Points
 pub mod Limits
-pub mod Listings
+-- Editing an outline:
 pub mod Editing
-pub mod Unique
+pub mod Sequences
+-- Preview and drawing:
+pub mod View
+pub mod Preview
+pub mod Drawing
+-- Record file, and its listing:
+pub mod Listings
+-- Refusal numbers:
+pub mod Refusals
+pub mod Lists
+-- Sums to hold it to:
 pub mod Cases
+-- How firmly each call is tied:
+pub mod Unique

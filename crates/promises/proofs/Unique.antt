@@ -4,7 +4,7 @@ use mathlib.Core.Path.{_≡_}
 use borrow.Fn.Kinds.{Dens, resT, endedOf}
 use contract.Lifetimes.{Lfts}
 use denote.Triple.Clauses.{Lasts, atExit}
-use Rattle.whole.proofs.Unique.{Unique}
+use Rattle.whole.specs.Unique.{Unique}
 use Rattle.shape.proofs.Unique as shape
 use Rattle.shape.proofs.check_shape.Kinds as check-shape-kinds
 use Rattle.shape.proofs.check_shape.Reads as check-shape-reads

@@ -1,11 +1,14 @@
--- P1 to P12 of document 01 ("Sums to hold it to") as one list of cases. A case is what the definitions give and what the paper gives, each as a list of whole numbers.
-use mathlib.Core.Bool.{Bool, true, _&&_}
+-- P1 to P12 of document 01 ("Sums to hold it to") as one list of cases. A case is what the definitions give and what the paper gives, each as a list of whole numbers: of
+-- P1 to P11 the number and the values of the call's answer and what the lent lists then hold.
 use mathlib.Core.List.{List, [], _∷_, _++_, map}
 use Prim.Native.Nat.{ℕ, _+_, _*_, _^_}
 use lib.IntN.{ℤ, pos}
-use Rattle.curve.specs.Cases as span
-use Rattle.curve.specs.Cases.{alike}
+use lib.ListN.{replicate}
 use Rattle.curve.specs.Numbers.{neg}
+use Rattle.outline.specs.declared.Drawn.the-variants.{Points}
+use Rattle.outline.specs.Outline as outline
+use Rattle.outline.specs.Outline.{draws}
+use Rattle.outline.specs.Cases as outline-cases
 use Rattle.doubles.specs.Exact.{dyadic}
 use Rattle.doubles.specs.Number.{measure}
 use Rattle.doubles.specs.Number as number
@@ -19,11 +22,22 @@ pub record Case : Type 0 where
   pub given : List ℤ
   pub paper : List ℤ
 
--- P1 to P8: the points of a span.
-abbrev pub ofSpan : span.Case → Case
-ofSpan c = record { given = span.given c; paper = c .points }
+-- P1 to P8: what drawing a span comes to.
+abbrev pub toldDrawn : outline.Outcome → List ℤ
+toldDrawn o = pos (answer.number (outline.told (o .answer))) ∷ answer.values (outline.told (o .answer)) ++ o .held
 
--- P9 to P11: what an edit of the cardinal outline 0, 10, 20, 30, 40, 50 comes to: the number and the values of its answer, and what both lists then hold.
+abbrev pub ofDrawing : outline-cases.Case → Case
+ofDrawing c = record { given = toldDrawn (outline-cases.given c); paper = toldDrawn (outline-cases.paper c) }
+
+-- The cardinal outline 0, 10, 20, 30, 40, 50, which gives 10, 20, 30, 40 and from which each of the next three starts.
+abbrev pub start : Case
+start =
+    record {
+      given = toldDrawn (draws (edit.cardinal 6) edit.controlsBefore (replicate 10 (neg 1)));
+      paper = toldDrawn (outline.outcome (Points 4) edit.heldBefore);
+    }
+
+-- P9 to P11: what an edit of it comes to.
 abbrev pub told : Outcome → List ℤ
 told o = pos (answer.number (reading.told (o .answer))) ∷ answer.values (reading.told (o .answer)) ++ (o .controls ++ o .held)
 
@@ -47,9 +61,4 @@ p12 =
     }
 
 abbrev pub cases : List Case
-cases = map ofSpan span.cases ++ (map ofEdit edit.cases ++ (p12 ∷ []))
-
--- The definitions give what the paper gives, for every case of a list.
-unfoldable pub allHold : List Case → Bool
-allHold [] = true
-allHold (c ∷ cs) = alike (c .given) (c .paper) && allHold cs
+cases = map ofDrawing outline-cases.cases ++ (start ∷ map ofEdit edit.cases ++ (p12 ∷ []))

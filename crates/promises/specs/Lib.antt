@@ -1,2 +1,3 @@
 pub mod Cases
 pub mod Points
+pub mod Sequences

@@ -1,7 +1,7 @@
 -- No second outcome: over the contract of the public call as it is generated from the source, two answers, each with what the lent controls hold at the end, that both
 -- meet it are the same, since it equates both with one reading.
 use mathlib.Core.Path.{_≡_, sym, ap, _∙_}
-use Rattle.whole.proofs.Unique.{Unique}
+use Rattle.whole.specs.Unique.{Unique}
 use Rattle.record_file.specs.Rows.{Outcome, both}
 use Rattle.record_file.proofs.read.Kinds as read
 use Rattle.record_file.proofs.read.Reads as read-reads

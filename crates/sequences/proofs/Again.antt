@@ -28,12 +28,13 @@ use Rattle.outline.specs.declared.Drawn.the-variants.{Points}
 use Rattle.outline.specs.Outline as outline
 use Rattle.outline.specs.Outline.{numbers, points, drawn, drawRows, draws}
 use Rattle.outline.proofs.Exactly.{points-none, none-drawn}
+use Rattle.outline.proofs.Held.{held-drawn}
 use Rattle.outline.proofs.Within.{drawn-within}
 use Rattle.asked.specs.declared.Edit.{Edit}
 use Rattle.asked.specs.Edits.{countAfter, pointAt}
 use Rattle.edit.specs.Reading.{shapeAfter, accepts, edits}
 use Rattle.edit.proofs.Exactly.{callRows, first-refused, none-done}
-use Rattle.sequences.specs.Played.{State, Call, stateThen, called, played, Outlined, Redraws}
+use Rattle.sequences.specs.Played.{State, Call, state, stateThen, called, played, Outlined, Redraws}
 use Rattle.sequences.proofs.Redrawn.{good-then, room-then, lent-then}
 use Rattle.sequences.proofs.Played.{done-outlined, drawn-outlined}
 
@@ -101,7 +102,7 @@ module _ (e : Edit) (s : Shape) (j : ℕ) (controls lent : List ℤ) (none : NoR
       let lists = lent-none n (then .controls) (points p) (length (then .held)) still-lent in
       none-both (shapeRows (shapeAfter e s)) (listRows n (then .controls) (points p) (length (then .held))) sound lists
 
-edit-redraws : (e : Edit) (s : Shape) (j : ℕ) (controls lent : List ℤ) → Redraws (record { shape = s; controls = controls; held = lent }) → Redraws (stateThen s (edits e s j controls lent))
+edit-redraws : (e : Edit) (s : Shape) (j : ℕ) (controls lent : List ℤ) → Redraws (state s controls lent) → Redraws (stateThen s (edits e s j controls lent))
 edit-redraws e s j controls lent again =
     ⊎-elim (λ (v : (r : Refusal) × First (callRows e s j controls lent) r). subst (λ o. Redraws (stateThen s o)) (sym (first-refused e s j controls lent (v .0) (v .1))) again)
     (λ none.
@@ -123,23 +124,21 @@ played-redraws t (c ∷ calls) again = played-redraws (called t c) calls (called
 -- ---- from the first drawing on
 
 -- after a drawing call that answers points, drawing again changes nothing
-pub drawn-redraws : (s : Shape) (controls lent : List ℤ) (n : ℕ) (held : List ℤ) → draws s controls lent ≡ outline.outcome (Points n) held → Redraws (record { shape = s; controls = controls; held = held })
+pub drawn-redraws : (s : Shape) (controls lent : List ℤ) (n : ℕ) (held : List ℤ) → draws s controls lent ≡ outline.outcome (Points n) held → Redraws (state s controls held)
 drawn-redraws s controls lent n held answered =
     let p = planOf s in
-    let none = points-none s controls lent n held answered in
-    let is : drawn p controls lent ≡ held = ap (λ (o : outline.Outcome). o .held) (sym (none-drawn s controls lent none) ∙ answered) in
-    let long : length lent ≡ length held = sym (length-filled (numbers p controls) 0 (2 * points p) lent) ∙ ap length is in
-    outlined-redraws (record { shape = s; controls = controls; held = held }) (drawn-outlined s controls lent n held answered)
-    (subst (λ (len : ℕ). NoRow (shapeRows s ++ listRows (s .count) controls (points p) len)) long none)
+    let long : length lent ≡ length held = sym (length-filled (numbers p controls) 0 (2 * points p) lent) ∙ ap length (held-drawn s controls lent n held answered) in
+    outlined-redraws (state s controls held) (drawn-outlined s controls lent n held answered)
+    (subst (λ (len : ℕ). NoRow (shapeRows s ++ listRows (s .count) controls (points p) len)) long (points-none s controls lent n held answered))
 
 -- nor does it after any calls more
-pub drawn-played-redraws : (s : Shape) (controls lent : List ℤ) (n : ℕ) (held : List ℤ) (calls : List Call) → draws s controls lent ≡ outline.outcome (Points n) held → Redraws (played (record { shape = s; controls = controls; held = held }) calls)
-drawn-played-redraws s controls lent n held calls answered = played-redraws (record { shape = s; controls = controls; held = held }) calls (drawn-redraws s controls lent n held answered)
+pub drawn-played-redraws : (s : Shape) (controls lent : List ℤ) (n : ℕ) (held : List ℤ) (calls : List Call) → draws s controls lent ≡ outline.outcome (Points n) held → Redraws (played (state s controls held) calls)
+drawn-played-redraws s controls lent n held calls answered = played-redraws (state s controls held) calls (drawn-redraws s controls lent n held answered)
 
 -- and every number of the outline is then within 5,000,000 either way
 pub drawn-played-within : (s : Shape) (controls lent : List ℤ) (n : ℕ) (held : List ℤ) (calls : List Call) → draws s controls lent ≡ outline.outcome (Points n) held
-    → (q : ℕ) → q < 2 * points (planOf (played (record { shape = s; controls = controls; held = held }) calls .shape))
-    → natAbs (getD (played (record { shape = s; controls = controls; held = held }) calls .held) q (pos 0)) ≤ reach
+    → (q : ℕ) → q < 2 * points (planOf (played (state s controls held) calls .shape))
+    → natAbs (getD (played (state s controls held) calls .held) q (pos 0)) ≤ reach
 drawn-played-within s controls lent n held calls answered q h =
-    let t = played (record { shape = s; controls = controls; held = held }) calls in
+    let t = played (state s controls held) calls in
     drawn-within (t .shape) (t .controls) (t .held) (points (planOf (t .shape))) (t .held) (drawn-played-redraws s controls lent n held calls answered) q h

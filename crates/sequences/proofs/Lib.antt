@@ -6,3 +6,4 @@ pub mod Answered
 pub mod Redrawn
 pub mod Played
 pub mod Again
+pub mod Calls

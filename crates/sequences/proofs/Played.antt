@@ -2,11 +2,10 @@
 use mathlib.Core.Path.{_≡_, sym, ap, _∙_, subst}
 use mathlib.Core.Logic.{⊎-elim}
 use mathlib.Core.List.{List, [], _∷_}
-use Prim.Native.Nat.{ℕ, _*_, _≤_}
+use Prim.Native.Nat.{ℕ, _*_}
 use native.Mathlib.Omega.{arith}
-use borrow.Author.Tests.{ltb-false}
 use lib.IntN.{ℤ, pos}
-use lib.ListN.{getD, length}
+use lib.ListN.{getD}
 use Rattle.shape.specs.declared.Shape.{Shape}
 use Rattle.shape.specs.declared.Refusal.{Refusal}
 use Rattle.shape.specs.Refusals.{First, NoRow, planOf}
@@ -14,20 +13,23 @@ use Rattle.shape.proofs.Refusals.{row-fails, verdict}
 use Rattle.spans.proofs.Filled.{length-filled, in-filled}
 use Rattle.outline.specs.declared.Drawn.the-variants.{Points}
 use Rattle.outline.specs.Outline as outline
-use Rattle.outline.specs.Outline.{numbers, points, drawn, drawRows, draws}
-use Rattle.outline.proofs.Exactly.{points-none, none-drawn}
+use Rattle.outline.specs.Outline.{numbers, points, draws}
+use Rattle.outline.proofs.Held.{held-room, held-number}
 use Rattle.asked.specs.declared.Edit.{Edit}
 use Rattle.asked.specs.Edits.{pointAt}
-use Rattle.edit.specs.Reading.{shapeAfter, controlsAfter, accepts, edits}
+use Rattle.edit.specs.declared.Change.{Change}
+use Rattle.edit.specs.declared.Edited.{Edited}
+use Rattle.edit.specs.declared.Edited.the-variants.{Done, Refused}
+use Rattle.edit.specs.Reading.{Outcome, shapeAfter, controlsAfter, accepts, edits}
 use Rattle.edit.proofs.Exactly.{callRows, first-refused, none-done}
-use Rattle.sequences.specs.Played.{State, Call, stateThen, called, played, Outlined}
+use Rattle.sequences.specs.Played.{State, Call, state, stateThen, answered, called, played, Outlined}
 use Rattle.sequences.proofs.Redrawn.{room-then, edit-draws}
 
 -- ---- one call
 
 module _ (e : Edit) (s : Shape) (j : ℕ) (controls lent : List ℤ) where
   -- an edit that is done
-  pub done-outlined : NoRow (callRows e s j controls lent) → Outlined (record { shape = s; controls = controls; held = lent }) → Outlined (stateThen s (accepts e s (planOf (shapeAfter e s)) j controls lent))
+  pub done-outlined : NoRow (callRows e s j controls lent) → Outlined (state s controls lent) → Outlined (stateThen s (accepts e s (planOf (shapeAfter e s)) j controls lent))
   done-outlined none out =
       let p = planOf (shapeAfter e s) in
       let new = controlsAfter e s j controls in
@@ -40,7 +42,7 @@ module _ (e : Edit) (s : Shape) (j : ℕ) (controls lent : List ℤ) where
       }
 
   -- any edit
-  edit-outlined : Outlined (record { shape = s; controls = controls; held = lent }) → Outlined (stateThen s (edits e s j controls lent))
+  edit-outlined : Outlined (state s controls lent) → Outlined (stateThen s (edits e s j controls lent))
   edit-outlined out =
       ⊎-elim (λ (v : (r : Refusal) × First (callRows e s j controls lent) r). subst (λ o. Outlined (stateThen s o)) (sym (first-refused e s j controls lent (v .0) (v .1))) out)
       (λ none. subst (λ o. Outlined (stateThen s o)) (sym (none-done e s j controls lent none)) (done-outlined none out))
@@ -49,6 +51,19 @@ module _ (e : Edit) (s : Shape) (j : ℕ) (controls lent : List ℤ) where
 pub called-outlined : (t : State) (c : Call) → Outlined t → Outlined (called t c)
 unfolding called
 called-outlined t c out = edit-outlined (c .edit) (t .shape) (c .place) (t .controls) (t .held) out
+
+-- a call that is refused leaves the state as it was
+refused-apart : (a : Edited) (c : Change) (r : Refusal) → a ≡ Done c → a ≡ Refused r → ⊥
+refused-apart a c r done refused = let z : _≡_ {A = ℕ} 0 1 = cc in omega arith
+
+pub refused-keeps : (t : State) (c : Call) (r : Refusal) → answered t c .answer ≡ Refused r → called t c ≡ t
+unfolding called
+refused-keeps t c r refused =
+    let rows = callRows (c .edit) (t .shape) (c .place) (t .controls) (t .held) in
+    ⊎-elim
+    (λ (v : (q : Refusal) × First rows q). ap (stateThen (t .shape)) (first-refused (c .edit) (t .shape) (c .place) (t .controls) (t .held) (v .0) (v .1)))
+    (λ (none : NoRow rows). absurd (refused-apart _ _ r (ap (λ (o : Outcome). o .answer) (none-done (c .edit) (t .shape) (c .place) (t .controls) (t .held) none)) refused))
+    (verdict rows)
 
 -- ---- every list of calls
 
@@ -60,18 +75,5 @@ played-outlined t (c ∷ calls) out = played-outlined (called t c) calls (called
 -- ---- from the first drawing on
 
 -- a drawing call that answers points leaves an outline
-pub drawn-outlined : (s : Shape) (controls lent : List ℤ) (n : ℕ) (held : List ℤ) → draws s controls lent ≡ outline.outcome (Points n) held → Outlined (record { shape = s; controls = controls; held = held })
-drawn-outlined s controls lent n held answered =
-    let p = planOf s in
-    let none = points-none s controls lent n held answered in
-    let is : drawn p controls lent ≡ held = ap (λ (o : outline.Outcome). o .held) (sym (none-drawn s controls lent none) ∙ answered) in
-    let room : 2 * points p ≤ length lent = ltb-false (length lent) (2 * points p) (row-fails 9 (drawRows s controls lent) none) in
-    subst (λ l. Outlined (record { shape = s; controls = controls; held = l })) is
-    (record {
-      room = omega (arith, room, length-filled (numbers p controls) 0 (2 * points p) lent);
-      holds = λ q h. in-filled (numbers p controls) 0 (2 * points p) lent q (omega arith) (omega arith) (omega (arith, room));
-    })
-
--- so a drawing and any calls after it do
-pub drawn-then-played : (s : Shape) (controls lent : List ℤ) (n : ℕ) (held : List ℤ) (calls : List Call) → draws s controls lent ≡ outline.outcome (Points n) held → Outlined (played (record { shape = s; controls = controls; held = held }) calls)
-drawn-then-played s controls lent n held calls answered = played-outlined (record { shape = s; controls = controls; held = held }) calls (drawn-outlined s controls lent n held answered)
+pub drawn-outlined : (s : Shape) (controls lent : List ℤ) (n : ℕ) (held : List ℤ) → draws s controls lent ≡ outline.outcome (Points n) held → Outlined (state s controls held)
+drawn-outlined s controls lent n held answered = record { room = held-room s controls lent n held answered; holds = held-number s controls lent n held answered }

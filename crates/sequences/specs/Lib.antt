@@ -1,2 +1,3 @@
 pub mod Touched
 pub mod Played
+pub mod Calls

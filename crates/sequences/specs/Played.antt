@@ -20,6 +20,9 @@ pub record State : Type 0 where
   pub controls : List ℤ
   pub held : List ℤ
 
+abbrev pub state : Shape → List ℤ → List ℤ → State
+state s controls held = record { shape = s; controls = controls; held = held }
+
 pub record Call : Type 0 where
   pub edit : Edit
   pub place : ℕ
@@ -30,10 +33,14 @@ shapeThen s (Done c) = c .shape
 shapeThen s (Refused r) = s
 
 abbrev pub stateThen : Shape → Outcome → State
-stateThen s o = record { shape = shapeThen s (o .answer); controls = o .controls; held = o .held }
+stateThen s o = state (shapeThen s (o .answer)) (o .controls) (o .held)
+
+-- What a call comes to on a state, and the state that it leaves.
+abbrev pub answered : State → Call → Outcome
+answered t c = edits (c .edit) (t .shape) (c .place) (t .controls) (t .held)
 
 unfoldable pub called : State → Call → State
-called t c = stateThen (t .shape) (edits (c .edit) (t .shape) (c .place) (t .controls) (t .held))
+called t c = stateThen (t .shape) (answered t c)
 
 unfoldable pub played : State → List Call → State
 played t [] = t

@@ -1,7 +1,7 @@
 -- No second outcome: over the contract of each public call as it is generated from the source, two results and two sets of last values of what was lent that both
 -- meet it at the same arguments are the same. Each contract says what the result equals, and what is lent is only read.
 use mathlib.Core.Path.{refl, sym, _∙_}
-use Rattle.whole.proofs.Unique.{Unique}
+use Rattle.whole.specs.Unique.{Unique}
 use Rattle.shape.proofs.Plan.steps.Kinds as steps-kinds
 use Rattle.shape.proofs.Plan.steps.Reads as steps-reads
 use Rattle.shape.proofs.Plan.points.Kinds as points-kinds

@@ -3,5 +3,4 @@ pub mod Order
 pub mod Floor
 pub mod Nearest
 pub mod Fit
-pub mod Unique
 pub mod Writes

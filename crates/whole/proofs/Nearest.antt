@@ -4,9 +4,10 @@ use mathlib.Core.List.{[], _∷_}
 use Prim.Native.Nat.{ℕ, zero, suc, _+_, _*_, _-_, _≤_, _<_}
 use native.Mathlib.Omega.{arith}
 use native.Mathlib.Nat.{mul-comm, mul-left-comm, mul-pos, mul-zero}
-use lib.IntN.{ℤ, pos, negℤ, natAbs, _+ℤ_, _-ℤ_, _*ℤ_, *ℤ-zero}
-use lib.Signed.{_≤ℤ_, _<ℤ_}
-use Rattle.whole.specs.Nearest.{floor, nearest}
+use lib.Dec.{T, lt→ltb}
+use lib.IntN.{ℤ, pos, negsuc, negℤ, natAbs, _+ℤ_, _-ℤ_, _*ℤ_, +ℤ-idl, *ℤ-zero}
+use lib.Signed.{_≤ℤ_, _<ℤ_, ltZ}
+use Rattle.whole.specs.Nearest.{floor, nearest, Rounded}
 use Rattle.whole.proofs.Ring.{var, lit, _⊕_, _⊖_, _⊗_, solve}
 use Rattle.whole.proofs.Order.{le-gap, le-of, lt-gap, lt-of, *-mono, pos-injective, size-above, size-below, size-between}
 use Rattle.whole.proofs.Floor.{rest, rest-lt, floor-rest, floor-unique, floor-add, floor-scale, floor-floor, floor-mono}
@@ -53,6 +54,76 @@ nearest-unique z d n lo hi =
     (solve (z ∷ pos d ∷ n ∷ []) (lit (pos 2) ⊗ var 0 ⊕ var 1) (lit (pos 2) ⊗ (var 0 ⊖ var 1 ⊗ var 2) ⊕ lit (pos 2) ⊗ var 1 ⊗ var 2 ⊕ var 1) tt
     ∙ ap (λ x. x +ℤ pos (2 * d) *ℤ n +ℤ pos d) e
     ∙ solve (pos d ∷ n ∷ pos r ∷ []) (lit (pos 0) ⊖ var 0 ⊕ var 2 ⊕ lit (pos 2) ⊗ var 0 ⊗ var 1 ⊕ var 0) (lit (pos 2) ⊗ var 0 ⊗ var 1 ⊕ var 2) tt)
+
+-- ---- the same in the paper's words
+
+-- twice a distance is the size of its double
+double-size : (w : ℤ) → natAbs (pos 2 *ℤ w) ≡ 2 * natAbs w
+double-size (pos m) = refl
+double-size (negsuc m) = minus-size (2 * suc m)
+  where
+    minus-size : (n : ℕ) → natAbs (negℤ (pos n)) ≡ n
+    minus-size zero = refl
+    minus-size (suc n) = refl
+
+-- with w the distance z - d·n: its double is below d exactly where a half away is a half below n
+module _ (z : ℤ) (d : ℕ) (n : ℤ) (some : 0 < d) where
+  half-below : (w : ℤ) → z -ℤ pos d *ℤ n ≡ w → (pos 2 *ℤ w) <ℤ pos d → 2 * natAbs w ≡ d → z ≤ℤ (pos d *ℤ n)
+  half-below (pos m) e less half = let (s, f) = lt-gap less in absurd (omega (arith, pos-injective f))
+  half-below (negsuc m) e less half =
+      le-of (suc m) (solve (z ∷ pos d ∷ n ∷ []) (var 1 ⊗ var 2) (var 0 ⊖ (var 0 ⊖ var 1 ⊗ var 2)) tt ∙ ap (λ x. z -ℤ x) e)
+
+  below-half : (w : ℤ) → z -ℤ pos d *ℤ n ≡ w → 2 * natAbs w ≤ d → (2 * natAbs w ≡ d → z ≤ℤ (pos d *ℤ n)) → (pos 2 *ℤ w) <ℤ pos d
+  below-half (pos m) e most greater =
+      let not-half : 2 * m ≡ d → ⊥ =
+      λ half.
+      let (g, f) = le-gap (greater half) in
+      let nought : pos 0 ≡ pos (m + g) =
+      solve (z ∷ pos d ∷ n ∷ []) (lit (pos 0)) (var 0 ⊖ var 1 ⊗ var 2 ⊕ var 1 ⊗ var 2 ⊖ var 0) tt
+      ∙ ap (λ x. z -ℤ pos d *ℤ n +ℤ x -ℤ z) f
+      ∙ solve (z ∷ pos d ∷ n ∷ pos g ∷ []) (var 0 ⊖ var 1 ⊗ var 2 ⊕ (var 0 ⊕ var 3) ⊖ var 0) (var 0 ⊖ var 1 ⊗ var 2 ⊕ var 3) tt
+      ∙ ap (λ x. x +ℤ pos g) e in
+      omega (arith, pos-injective nought) in
+      let less : 2 * m < d = omega arith in
+      record { lt = lt→ltb (2 * m) d less }
+  below-half (negsuc m) e most greater = record { lt = minus-less (2 * suc m) }
+    where
+      minus-less : (a : ℕ) → T (ltZ (negℤ (pos a)) (pos d))
+      minus-less zero = lt→ltb 0 d some
+      minus-less (suc a) = tt
+
+pub nearest-rounded : (z : ℤ) (d : ℕ) → 0 < d → Rounded z d (nearest z d)
+nearest-rounded z d h =
+    let w = z -ℤ pos d *ℤ nearest z d in
+    let low : negℤ (pos d) ≤ℤ (pos 2 *ℤ w) = subst (λ x. x ≤ℤ (pos 2 *ℤ w)) (+ℤ-idl (negℤ (pos d))) (nearest-low z d h) in
+    let high = nearest-high z d h in
+    let (s, f) = lt-gap high in
+    record {
+      close = subst (λ (m : ℕ). m ≤ d) (double-size w) (size-between low (le-of (suc s) f));
+      greater = half-below z d (nearest z d) h w refl high;
+    }
+
+-- no other number does
+pub rounded-nearest : (z : ℤ) (d : ℕ) (n : ℤ) → 0 < d → Rounded z d n → n ≡ nearest z d
+rounded-nearest z d n h r =
+    let w = z -ℤ pos d *ℤ n in
+    let size : natAbs (pos 2 *ℤ w) ≤ d = subst (λ (m : ℕ). m ≤ d) (sym (double-size w)) (r .close) in
+    sym (nearest-unique z d n (subst (λ x. x ≤ℤ (pos 2 *ℤ w)) (sym (+ℤ-idl (negℤ (pos d)))) (size-below size)) (below-half z d n h w refl (r .close) (r .greater)))
+
+-- n and a half goes to n + 1, above zero and below
+pub half-up : (z : ℤ) (d : ℕ) (n : ℤ) → 0 < d → pos 2 *ℤ z ≡ pos d *ℤ (pos 2 *ℤ n +ℤ pos 1) → nearest z d ≡ n +ℤ pos 1
+half-up z d n h half =
+    let away : pos 2 *ℤ (z -ℤ pos d *ℤ (n +ℤ pos 1)) ≡ pos 0 -ℤ pos d =
+    solve (z ∷ pos d ∷ n ∷ []) (lit (pos 2) ⊗ (var 0 ⊖ var 1 ⊗ (var 2 ⊕ lit (pos 1)))) (lit (pos 2) ⊗ var 0 ⊖ lit (pos 2) ⊗ var 1 ⊗ (var 2 ⊕ lit (pos 1))) tt
+    ∙ ap (λ x. x -ℤ pos 2 *ℤ pos d *ℤ (n +ℤ pos 1)) half
+    ∙ solve (pos d ∷ n ∷ []) (var 0 ⊗ (lit (pos 2) ⊗ var 1 ⊕ lit (pos 1)) ⊖ lit (pos 2) ⊗ var 0 ⊗ (var 1 ⊕ lit (pos 1))) (lit (pos 0) ⊖ var 0) tt in
+    let twice : suc (2 * d - 1) ≡ 2 * d = omega arith in
+    nearest-unique z d (n +ℤ pos 1)
+    (le-of 0 (away ∙ solve (pos d ∷ []) (lit (pos 0) ⊖ var 0) (lit (pos 0) ⊖ var 0 ⊕ lit (pos 0)) tt))
+    (lt-of (2 * d - 1)
+    (solve (pos d ∷ []) (var 0) (lit (pos 0) ⊖ var 0 ⊕ lit (pos 2) ⊗ var 0) tt
+    ∙ ap (λ (m : ℕ). pos 0 -ℤ pos d +ℤ pos m) (sym twice)
+    ∙ ap (λ x. x +ℤ pos (suc (2 * d - 1))) (sym away)))
 
 -- ---- laws
 

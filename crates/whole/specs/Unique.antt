@@ -1,5 +1,5 @@
--- What "no second outcome meets it" says of a contract: over the reading that is generated from the source, two answers, each with what the lent lists hold at the
--- end, that both meet it at the same arguments are the same. Every crate proves it of its public calls.
+-- "No second outcome satisfies it" (document 01, "How firmly each call is tied"), of a contract: over the reading that is generated from the source, two answers, each
+-- with what the lent lists hold at the end, that both meet it at the same arguments are the same. Every crate proves it of its public calls. Definitions only.
 use mathlib.Core.Path.{_≡_}
 use mathlib.Core.List.{List}
 use Prim.Native.Nat.{ℕ}

@@ -1,0 +1,34 @@
+-- What stands in the lent points after an accepted drawing: all numbers of the outline, from the list's start.
+use mathlib.Core.Path.{_≡_, sym, ap, _∙_, subst}
+use mathlib.Core.List.{List}
+use Prim.Native.Nat.{ℕ, _*_, _≤_, _<_}
+use native.Mathlib.Omega.{arith}
+use borrow.Author.Tests.{ltb-false}
+use lib.IntN.{ℤ, pos}
+use lib.ListN.{getD, length}
+use Rattle.shape.specs.declared.Shape.{Shape}
+use Rattle.shape.specs.declared.Judged.the-variants.{Sound}
+use Rattle.shape.specs.Refusals.{shapeRows, judgeShape, planOf}
+use Rattle.shape.proofs.Refusals.{none-earlier, none-sound, row-fails}
+use Rattle.spans.proofs.Filled.{length-filled, in-filled}
+use Rattle.outline.specs.declared.Drawn.the-variants.{Points}
+use Rattle.outline.specs.Outline.{Outcome, outcome, numbers, points, drawn, planRows, drawRows, draws}
+use Rattle.outline.proofs.Exactly.{points-none, none-drawn}
+
+module _ (s : Shape) (controls lent : List ℤ) (n : ℕ) (held : List ℤ) (answered : draws s controls lent ≡ outcome (Points n) held) where
+  pub held-sound : judgeShape s ≡ Sound (planOf s)
+  held-sound = none-sound s (none-earlier (shapeRows s) (planRows (s .count) (planOf s) controls lent) (points-none s controls lent n held answered))
+
+  pub held-drawn : drawn (planOf s) controls lent ≡ held
+  held-drawn = ap (λ (o : Outcome). o .held) (sym (none-drawn s controls lent (points-none s controls lent n held answered)) ∙ answered)
+
+  room : 2 * points (planOf s) ≤ length lent
+  room = ltb-false (length lent) (2 * points (planOf s)) (row-fails 9 (drawRows s controls lent) (points-none s controls lent n held answered))
+
+  pub held-room : 2 * points (planOf s) ≤ length held
+  held-room = subst (λ l. 2 * points (planOf s) ≤ length l) held-drawn (omega (arith, room, length-filled (numbers (planOf s) controls) 0 (2 * points (planOf s)) lent))
+
+  pub held-number : (q : ℕ) → q < 2 * points (planOf s) → getD held q (pos 0) ≡ numbers (planOf s) controls q
+  held-number q h =
+      ap (λ l. getD l q (pos 0)) (sym held-drawn)
+      ∙ in-filled (numbers (planOf s) controls) 0 (2 * points (planOf s)) lent q (omega arith) (omega arith) (omega (arith, room))

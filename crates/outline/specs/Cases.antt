@@ -1,0 +1,60 @@
+-- Document 01's "Sums to hold it to" for a drawing, P1 to P8, as one list. Each is one span of four records, on the x axis as the paper gives it; y is 0 throughout. The lent
+-- points have room for one point more than the outline, and hold -1.
+use mathlib.Core.List.{List, [], _∷_, _++_}
+use Prim.Native.Nat.{ℕ, _+_, _*_}
+use lib.IntN.{ℤ, pos}
+use lib.ListN.{length, replicate}
+use Rattle.curve.specs.Numbers.{neg}
+use Rattle.outline.specs.declared.Drawn.the-variants.{Points}
+use Rattle.outline.specs.Outline.{Outcome, outcome, draws}
+
+-- The basis by its number, the depth, the records' x, and the points' x that the paper gives, from t = 0 to t = 1. Where the paper gives the middle alone (P4, P6, P8), the
+-- span's two ends stand beside it.
+pub record Case : Type 0 where
+  pub basis : ℕ
+  pub depth : ℕ
+  pub records : List ℤ
+  pub points : List ℤ
+
+-- Records or points on the x axis.
+unfoldable pub onX : List ℤ → List ℤ
+onX [] = []
+onX (x ∷ l) = x ∷ pos 0 ∷ onX l
+
+-- What the drawing call comes to, and what the paper gives: so many points, these, and past them what was there.
+abbrev pub given : Case → Outcome
+given c = draws (record { basis = c .basis; depth = c .depth; count = length (c .records) }) (onX (c .records)) (replicate (2 * length (c .points) + 2) (neg 1))
+
+abbrev pub paper : Case → Outcome
+paper c = outcome (Points (length (c .points))) (onX (c .points) ++ neg 1 ∷ neg 1 ∷ [])
+
+-- A half goes to the greater, above zero and below.
+abbrev pub p1 : Case
+p1 = record { basis = 1; depth = 1; records = pos 0 ∷ pos 0 ∷ pos 0 ∷ pos 4 ∷ []; points = pos 0 ∷ pos 1 ∷ pos 4 ∷ [] }
+
+abbrev pub p2 : Case
+p2 = record { basis = 1; depth = 1; records = pos 0 ∷ pos 0 ∷ pos 0 ∷ neg 4 ∷ []; points = pos 0 ∷ pos 0 ∷ neg 4 ∷ [] }
+
+abbrev pub p3 : Case
+p3 = record { basis = 2; depth = 1; records = pos 0 ∷ pos 6 ∷ pos 12 ∷ pos 18 ∷ []; points = pos 6 ∷ pos 9 ∷ pos 12 ∷ [] }
+
+-- The middle is 23/48. Were the converted controls 2/3, 2/3, 1/3, 1/6 rounded first, it would come out as 1.
+abbrev pub p4 : Case
+p4 = record { basis = 2; depth = 1; records = pos 0 ∷ pos 1 ∷ pos 0 ∷ pos 0 ∷ []; points = pos 1 ∷ pos 0 ∷ pos 0 ∷ [] }
+
+abbrev pub p5 : Case
+p5 = record { basis = 3; depth = 1; records = pos 0 ∷ pos 1000 ∷ pos 1000 ∷ pos 0 ∷ []; points = pos 1000 ∷ pos 1125 ∷ pos 1000 ∷ [] }
+
+-- The farthest that a cardinal span goes: its middle is at 5,000,000, and it is accepted.
+abbrev pub p6 : Case
+p6 = record { basis = 3; depth = 1; records = neg 4000000 ∷ pos 4000000 ∷ pos 4000000 ∷ neg 4000000 ∷ []; points = pos 4000000 ∷ pos 5000000 ∷ pos 4000000 ∷ [] }
+
+-- Hermite records are start, start tangent, end, end tangent.
+abbrev pub p7 : Case
+p7 = record { basis = 4; depth = 2; records = pos 0 ∷ pos 0 ∷ pos 1000 ∷ pos 0 ∷ []; points = pos 0 ∷ pos 156 ∷ pos 500 ∷ pos 844 ∷ pos 1000 ∷ [] }
+
+abbrev pub p8 : Case
+p8 = record { basis = 4; depth = 1; records = pos 0 ∷ pos 8 ∷ pos 0 ∷ neg 8 ∷ []; points = pos 0 ∷ pos 2 ∷ pos 0 ∷ [] }
+
+abbrev pub cases : List Case
+cases = p1 ∷ p2 ∷ p3 ∷ p4 ∷ p5 ∷ p6 ∷ p7 ∷ p8 ∷ []
