@@ -6,5 +6,6 @@ pub mod Sequences
 pub mod Shapes
 pub mod Exactly
 pub mod Lists
+pub mod Begun
 pub mod Lines
 pub mod Unique
