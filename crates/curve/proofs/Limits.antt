@@ -9,7 +9,7 @@ use native.Mathlib.Decide.{decLe}
 use native.Mathlib.Omega.{arith}
 use lib.IntN.{ℤ, pos, natAbs, _+ℤ_, _*ℤ_}
 use lib.Signed.{_≤ℤ_}
-use Rattle.whole.specs.Nearest.{nearest, sixfold}
+use Rattle.whole.specs.Nearest.{nearest}
 use Rattle.whole.proofs.Ring.{Ex, var, lit, _⊕_, _⊖_, _⊗_, ev, solve}
 use Rattle.whole.proofs.Order.{le-gap, le-of, +-mono, *-mono, pos-injective}
 use Rattle.whole.proofs.Nearest.{nearest-above, nearest-below, nearest-size}

@@ -7,7 +7,7 @@ use native.Mathlib.Omega.{arith}
 use lib.Dec.{lit<}
 use lib.IntN.{ℤ, pos, _*ℤ_}
 use lib.Pow.{pow-pos}
-use Rattle.whole.specs.Nearest.{nearest, sixfold}
+use Rattle.whole.specs.Nearest.{nearest}
 use Rattle.whole.proofs.Nearest.{nearest-scale}
 use Rattle.whole.proofs.Ring.{var, _⊗_, solve}
 use Rattle.curve.specs.declared.Four.{Four}
@@ -15,7 +15,7 @@ use Rattle.curve.specs.declared.Basis.{Basis}
 use Rattle.curve.specs.declared.Basis.the-variants.{Bezier, BSpline, Cardinal, Hermite}
 use Rattle.curve.specs.Numbers.{dot}
 use Rattle.curve.specs.Published.{published, denominator, cubic, weights, bezierMatrix, hermiteMatrix, cardinalMatrix, bSplineMatrix}
-use Rattle.curve.specs.Span.{firstRecord, recordsFrom, records, sixfoldControls, weighted, divisor, point}
+use Rattle.curve.specs.Span.{sixfold, firstRecord, recordsFrom, records, sixfoldControls, weighted, divisor, point}
 use Rattle.curve.proofs.Table.{divisor-pos}
 use Rattle.curve.proofs.Reflect.{fourᵉ, num, p, i, h, values, cubicᵉ, weightedᵉ, sixfoldᵉ}
 

@@ -6,14 +6,14 @@ use native.Mathlib.Omega.{arith}
 use lib.Dec.{lit<, lit≤}
 use lib.Pow.{pow-add, pow-pos}
 use lib.IntN.{ℤ, pos, natAbs, _+ℤ_, _*ℤ_}
-use Rattle.whole.specs.Nearest.{nearest, sixfold}
+use Rattle.whole.specs.Nearest.{nearest}
 use Rattle.whole.proofs.Ring.{var, lit, _⊕_, _⊖_, _⊗_, solve}
 use Rattle.whole.proofs.Fit.{ev-size, natAbs-mul}
 use Rattle.whole.proofs.Nearest.{nearest-scale}
 use Rattle.curve.specs.declared.Four.{Four}
 use Rattle.curve.specs.Numbers.{dot}
 use Rattle.curve.specs.Published.{weights}
-use Rattle.curve.specs.Span.{weighted, divisor}
+use Rattle.curve.specs.Span.{sixfold, weighted, divisor}
 use Rattle.curve.specs.Ways.{deepest, row, nth, tableEntry}
 use Rattle.curve.proofs.Powers.{cube, cube-mul, cube-pos, thrice}
 use Rattle.curve.proofs.Reflect.{num, p, i, h, weightsᵉ, weightedᵉ}

@@ -3,7 +3,7 @@ use mathlib.Core.List.{List}
 use Prim.Native.Nat.{ℕ, _+_, _*_, _^_}
 use lib.IntN.{ℤ, pos, _+ℤ_, _-ℤ_, _*ℤ_}
 use lib.ListN.{getD}
-use Rattle.whole.specs.Nearest.{nearest, sixfold}
+use Rattle.whole.specs.Nearest.{nearest}
 use Rattle.curve.specs.declared.Four.{Four}
 use Rattle.curve.specs.declared.Basis.{Basis}
 use Rattle.curve.specs.declared.Basis.the-variants.{Bezier, BSpline, Cardinal, Hermite}
@@ -28,6 +28,10 @@ recordsFrom r at = four (at r) (at (r + 1)) (at (r + 2)) (at (r + 3))
 -- The four records of span s.
 abbrev pub records : Basis → ℕ → (ℕ → ℤ) → Four
 records b s at = recordsFrom (firstRecord b s) at
+
+-- Six times the Bezier controls of a span are whole for every basis, so a sum of them is rounded over six times a power of two.
+abbrev pub sixfold : ℕ
+sixfold = 6
 
 -- Six times the four Bezier controls.
 unfoldable pub sixfoldControls : Basis → Four → Four

@@ -6,6 +6,8 @@ ghost use Rattle.whole.specs.Nearest.{nearest};
 ghost use Rattle.curve.specs.Limits.{reach};
 ghost use Rattle.curve.specs.Span.{divisor};
 ghost use Rattle.curve.specs.Ways.{deepest};
+use crate::SIXFOLD;
+use whole::round_over;
 
 // The point of a sixfold sum at a depth: the whole number nearest to sum / (6 · 2^(3 depth)).
 pub fn rounded(sum: i64, depth: usize) -> i32
@@ -14,5 +16,5 @@ pub fn rounded(sum: i64, depth: usize) -> i32
     ensures { λ r. ⌜ r ≡ nearest sum (divisor depth) ⌝ }
 {
     let bits = (3 * depth) as u32;
-    whole::round_sixfold(sum, bits) as i32
+    round_over(sum, SIXFOLD, bits) as i32
 }

@@ -10,12 +10,12 @@ use lib.Arith.{digits-div}
 use lib.Dec.{eqb, lit<}
 use lib.IntN.{ℤ, pos, _*ℤ_}
 use lib.Pow.{pow-pos}
-use Rattle.whole.specs.Nearest.{nearest, sixfold}
+use Rattle.whole.specs.Nearest.{nearest}
 use Rattle.whole.proofs.Nearest.{nearest-scale}
 use Rattle.curve.specs.declared.Four.{Four}
 use Rattle.curve.specs.declared.Basis.{Basis}
 use Rattle.curve.specs.Numbers.{tab}
-use Rattle.curve.specs.Span.{coordinate, records, sixfoldControls, weighted, divisor, point}
+use Rattle.curve.specs.Span.{sixfold, coordinate, records, sixfoldControls, weighted, divisor, point}
 use Rattle.curve.proofs.Tab.{tab-append, tab-same}
 use Rattle.curve.proofs.Span.{weighted-end}
 use Rattle.curve.proofs.Powers.{cube, cube-pos, thrice}
