@@ -49,10 +49,14 @@ sixfoldControls Hermite p = four (pos 6 *ℤ p .a) (pos 6 *ℤ p .a +ℤ pos 2 *
 unfoldable pub weighted : Four → ℤ → ℤ → ℤ
 weighted q i h = dot (weights i h) q
 
--- What the sixfold sum at depth k is divided by: 6 · 2^(3k).
-abbrev pub divisor : ℕ → ℕ
-divisor k = sixfold * 2 ^ (3 * k)
+-- What a sixfold sum is divided by, by its bits: 6 · 2^bits.
+abbrev pub divisorOf : ℕ → ℕ
+divisorOf bits = sixfold * 2 ^ bits
+
+-- What the sum of a basis at depth k is divided by: 6 · 2^(3k), whichever the basis.
+abbrev pub divisor : Basis → ℕ → ℕ
+divisor b k = divisorOf (3 * k)
 
 -- The point of a span at t = i / 2^k: worked exactly and rounded once.
 unfoldable pub point : Basis → ℕ → Four → ℕ → ℤ
-point b k p i = nearest (weighted (sixfoldControls b p) (pos i) (pos (2 ^ k))) (divisor k)
+point b k p i = nearest (weighted (sixfoldControls b p) (pos i) (pos (2 ^ k))) (divisor b k)

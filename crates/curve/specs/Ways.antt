@@ -17,6 +17,10 @@ byWeights k q = tab (λ i. weighted q (pos i) (pos (2 ^ k))) 0 (suc (2 ^ k))
 abbrev pub deepest : ℕ
 deepest = 6
 
+-- The most bits of a divisor.
+abbrev pub mostBits : ℕ
+mostBits = 3 * deepest
+
 unfoldable pub row : ℕ → ℕ → ℕ
 row k i = i * 2 ^ (deepest - k)
 

@@ -1,40 +1,27 @@
 -- The shift is the floor over 2^bits, and adding half the multiple before the floor over it rounds to the nearest (`nearest-by-steps`).
-use mathlib.Core.Path.{_≡_, refl, sym, ap, _∙_, subst}
+use mathlib.Core.Path.{_≡_, sym, ap, _∙_, subst}
 use Prim.Native.Nat.{ℕ, _*_, _-_, _/_, _^_, _<_}
-use native.Mathlib.Nat.{lt-of-le-of-lt}
 use native.Mathlib.Omega.{arith}
 use borrow.Author.Needs.{needs}
 use lib.Pow.{pow-pos}
-use lib.IntN.{ℤ, pos, negsuc, _+ℤ_}
-use lib.Signed.{mag, shrZ, mag-shr}
+use lib.IntN.{ℤ, pos, _+ℤ_}
+use lib.Signed.{mag, shrZ}
 use mir.Syntax.{w64}
 use mir.Val.{SFits, toZ}
 use mir.ValLaws.{toZ-pos}
 use Rattle.whole.specs.Nearest.{floor, nearest}
 use Rattle.whole.proofs.Nearest.{nearest-by-steps}
-use Rattle.whole.proofs.Fit.{kept, kept-is, mag-add-pos}
+use Rattle.whole.proofs.Fit.{kept, kept-is, shift-kept, mag-floor, mag-add-pos}
 use Rattle.whole.proofs.round_over.Statement.{statement}
 use Rattle.whole.proofs.round_over.Tie as tie
-
--- the shift of the machine is the floor
-shift-floor : (z : ℤ) (d : ℕ) → shrZ z d ≡ floor z d
-unfolding floor
-shift-floor (pos n) d = refl
-shift-floor (negsuc n) d = refl
-
-shift-fits : (z : ℤ) (d : ℕ) → SFits w64 z → SFits w64 (shrZ z d)
-shift-fits z d f = record { sfits = lt-of-le-of-lt (mag-shr z d) (f .sfits) }
-
-shifted : (z : ℤ) (d : ℕ) → SFits w64 z → kept w64 (shrZ (kept w64 z) d) ≡ shrZ z d
-shifted z d f = ap (λ x. kept w64 (shrZ x d)) (kept-is w64 z f) ∙ kept-is w64 (shrZ z d) (shift-fits z d f)
 
 -- half the multiple, as the machine reads it
 half-is : (n : ℕ) → n < 2 ^ 32 → toZ w64 (n / 2) ≡ pos (n / 2)
 half-is n h = toZ-pos w64 (n / 2) (omega arith)
 
 -- which more stays in range
-more-fits : (z : ℤ) (d n : ℕ) → mag z < 2 ^ 63 - 2 ^ 31 → n < 2 ^ 32 → SFits w64 (shrZ z d +ℤ pos (n / 2))
-more-fits z d n h k = record { sfits = omega (arith, mag-add-pos (shrZ z d) (n / 2), mag-shr z d) }
+more-fits : (z : ℤ) (d n : ℕ) → mag z < 2 ^ 63 - 2 ^ 31 → n < 2 ^ 32 → SFits w64 (floor z d +ℤ pos (n / 2))
+more-fits z d n h k = record { sfits = omega (arith, mag-add-pos (floor z d) (n / 2), mag-floor z d) }
 
 cast-floor-over : tie.Need-cast-floor-over
 cast-floor-over c = search needs
@@ -49,11 +36,11 @@ short : (c : tie.Start) → c .args .multiple < 2 ^ 32
 short c = omega arith
 
 -- what is divided, before the machine keeps it
-dividend : (c : tie.Start) → kept w64 (shrZ (kept w64 (c .args .sum)) (2 ^ c .args .bits)) +ℤ toZ w64 (c .args .multiple / 2) ≡ shrZ (c .args .sum) (2 ^ c .args .bits) +ℤ pos (c .args .multiple / 2)
+dividend : (c : tie.Start) → kept w64 (shrZ (kept w64 (c .args .sum)) (2 ^ c .args .bits)) +ℤ toZ w64 (c .args .multiple / 2) ≡ floor (c .args .sum) (2 ^ c .args .bits) +ℤ pos (c .args .multiple / 2)
 dividend c =
     let d = 2 ^ c .args .bits in
     let n = c .args .multiple in
-    ap (λ x. x +ℤ toZ w64 (n / 2)) (shifted (c .args .sum) d (c .fits .sum)) ∙ ap (λ x. shrZ (c .args .sum) d +ℤ x) (half-is n (short c))
+    ap (λ x. x +ℤ toZ w64 (n / 2)) (shift-kept (c .args .sum) d (c .fits .sum)) ∙ ap (λ x. floor (c .args .sum) d +ℤ x) (half-is n (short c))
 
 add-floor-over : tie.Need-add-floor-over
 add-floor-over c = subst (SFits w64) (sym (dividend c)) (more-fits (c .args .sum) (2 ^ c .args .bits) (c .args .multiple) (c .pre .0 .0) (short c))
@@ -70,7 +57,7 @@ returns c =
     let even : 2 * (n / 2) ≡ n = omega (arith, s .pre .1) in
     kept-is w64 (c .floor-over .result) (record { sfits = c .floor-over .ok })
     ∙ c .floor-over .ensures
-    ∙ ap (λ x. floor x n) (ap (kept w64) (dividend s) ∙ kept-is w64 (shrZ z d +ℤ pos (n / 2)) (more-fits z d n (s .pre .0 .0) (short s)) ∙ ap (λ x. x +ℤ pos (n / 2)) (shift-floor z d))
+    ∙ ap (λ x. floor x n) (ap (kept w64) (dividend s) ∙ kept-is w64 (floor z d +ℤ pos (n / 2)) (more-fits z d n (s .pre .0 .0) (short s)))
     ∙ ap (floor (floor z d +ℤ pos (n / 2))) (sym even)
     ∙ sym (nearest-by-steps z (n / 2) d (omega (arith, s .pre .1)) (pow-pos (s .args .bits)))
     ∙ ap (λ (m : ℕ). nearest z (m * d)) even
