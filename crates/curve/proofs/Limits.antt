@@ -18,7 +18,7 @@ use Rattle.curve.specs.declared.Basis.{Basis}
 use Rattle.curve.specs.declared.Basis.the-variants.{Bezier, BSpline, Cardinal, Hermite}
 use Rattle.curve.specs.Numbers.{four, dot}
 use Rattle.curve.specs.Published.{weights}
-use Rattle.curve.specs.Span.{sixfoldControls, weighted, divisor, point}
+use Rattle.curve.specs.Span.{sixfold, sixfoldControls, weighted, divisor, point}
 use Rattle.curve.specs.Limits.{limit, reach, Inside, AtMost, all, Box}
 use Rattle.curve.proofs.Powers.{cube, thrice}
 use Rattle.curve.proofs.Span.{divisor-pos}
@@ -174,13 +174,13 @@ weights-size Cardinal l i j = le-of-eq (pos-injective (solve (pos l ∷ pos 0 �
 weights-size Hermite l i j = le-of-eq (pos-injective (solve (pos l ∷ pos 0 ∷ pos 0 ∷ pos 0 ∷ pos i ∷ pos j ∷ []) (added (wide Hermite alike)) whole-sizeᵉ tt))
 
 -- 4·i·j is at most h^2, by the square of the difference of i and j: so with L at 4,000,000 the whole is at most 5,000,000 times 6h^3
-near : (i d : ℕ) → whole-size limit i (i + d) + 6000000 * ((i + (i + d)) * (d * d)) ≡ 6 * ((i + (i + d)) * (i + (i + d)) * (i + (i + d))) * reach
+near : (i d : ℕ) → whole-size limit i (i + d) + sixfold * (reach - limit) * ((i + (i + d)) * (d * d)) ≡ 6 * ((i + (i + d)) * (i + (i + d)) * (i + (i + d))) * reach
 unfolding whole-size
 near i d =
     let h = var 0 ⊕ (var 0 ⊕ var 1) in
     pos-injective
     (solve (pos i ∷ pos d ∷ [])
-    (num limit ⊗ (num 6 ⊗ (h ⊗ h ⊗ h) ⊕ num 6 ⊗ (var 0 ⊗ (var 0 ⊕ var 1) ⊗ h)) ⊕ num 6000000 ⊗ (h ⊗ (var 1 ⊗ var 1)))
+    (num limit ⊗ (num 6 ⊗ (h ⊗ h ⊗ h) ⊕ num 6 ⊗ (var 0 ⊗ (var 0 ⊕ var 1) ⊗ h)) ⊕ num (sixfold * (reach - limit)) ⊗ (h ⊗ (var 1 ⊗ var 1)))
     (num 6 ⊗ (h ⊗ h ⊗ h) ⊗ num reach)
     tt)
 

@@ -12,7 +12,7 @@ use Rattle.curve.specs.declared.Four.{Four}
 use Rattle.curve.specs.Numbers.{dot}
 use Rattle.curve.specs.Published.{weights}
 use Rattle.curve.specs.Span.{weighted}
-use Rattle.curve.specs.Ways.{deepest, row, nth, tableEntry}
+use Rattle.curve.specs.Ways.{deepest, mostBits, row, nth, tableEntry}
 use Rattle.curve.proofs.Powers.{cube, thrice}
 use Rattle.curve.proofs.Reflect.{num, p, i, h, weightsᵉ, weightedᵉ}
 use mathlib.Core.List.{[], _∷_}
@@ -56,20 +56,23 @@ row-entry m r k = entry-of (omega arith) (omega arith)
     entry-of : (4 * m + r) / 4 ≡ m → (4 * m + r) % 4 ≡ r → nth (weights (pos ((4 * m + r) / 4)) (pos (2 ^ deepest))) ((4 * m + r) % 4) ≡ nth (weights (pos m) (pos (2 ^ deepest))) r
     entry-of e f = rw (e, f)
 
--- the rule's four numbers in a row sum to 64^3, for every row
-pub row-sum : (m : ℕ) → tableEntry (4 * m + 0) +ℤ tableEntry (4 * m + 1) +ℤ tableEntry (4 * m + 2) +ℤ tableEntry (4 * m + 3) ≡ pos 262144
+-- the rule's four numbers in a row sum to 64^3 = 262,144, for every row
+pub row-sum : (m : ℕ) → tableEntry (4 * m + 0) +ℤ tableEntry (4 * m + 1) +ℤ tableEntry (4 * m + 2) +ℤ tableEntry (4 * m + 3) ≡ pos (2 ^ mostBits)
 unfolding nth weights
 row-sum m =
     cong (row-entry m 0 (omega arith)) (row-entry m 1 (omega arith)) (row-entry m 2 (omega arith)) (row-entry m 3 (omega arith))
-    ∙ solve (pos m ∷ []) (weightsᵉ (var 0) (num 64) .a ⊕ weightsᵉ (var 0) (num 64) .b ⊕ weightsᵉ (var 0) (num 64) .c ⊕ weightsᵉ (var 0) (num 64) .d) (num 262144) tt
+    ∙ solve (pos m ∷ []) (weightsᵉ (var 0) (num (2 ^ deepest)) .a ⊕ weightsᵉ (var 0) (num (2 ^ deepest)) .b ⊕ weightsᵉ (var 0) (num (2 ^ deepest)) .c ⊕ weightsᵉ (var 0) (num (2 ^ deepest)) .d) (num (2 ^ mostBits)) tt
   where
     cong : {a b c d a′ b′ c′ d′ : ℤ} → a ≡ a′ → b ≡ b′ → c ≡ c′ → d ≡ d′ → a +ℤ b +ℤ c +ℤ d ≡ a′ +ℤ b′ +ℤ c′ +ℤ d′
     cong e f g k = cc
 
--- no weight of the table is above 2^22
-pub weight-size : (m r : ℕ) → m ≤ 2 ^ deepest → natAbs (nth (weights (pos m) (pos (2 ^ deepest))) r) ≤ 2 ^ 22
+-- no weight of the table is above this
+abbrev pub heaviest : ℕ
+heaviest = 2 ^ (mostBits + 4)
+
+pub weight-size : (m r : ℕ) → m ≤ 2 ^ deepest → natAbs (nth (weights (pos m) (pos (2 ^ deepest))) r) ≤ heaviest
 unfolding nth weights
-weight-size m zero k = le-trans (ev-size (pos m ∷ []) (64 ∷ []) (k, tt) (weightsᵉ (var 0) (num 64) .a)) (lit≤ tt)
-weight-size m (suc zero) k = le-trans (ev-size (pos m ∷ []) (64 ∷ []) (k, tt) (weightsᵉ (var 0) (num 64) .b)) (lit≤ tt)
-weight-size m (suc (suc zero)) k = le-trans (ev-size (pos m ∷ []) (64 ∷ []) (k, tt) (weightsᵉ (var 0) (num 64) .c)) (lit≤ tt)
-weight-size m (suc (suc (suc r))) k = le-trans (ev-size (pos m ∷ []) (64 ∷ []) (k, tt) (weightsᵉ (var 0) (num 64) .d)) (lit≤ tt)
+weight-size m zero k = le-trans (ev-size (pos m ∷ []) (2 ^ deepest ∷ []) (k, tt) (weightsᵉ (var 0) (num (2 ^ deepest)) .a)) (lit≤ tt)
+weight-size m (suc zero) k = le-trans (ev-size (pos m ∷ []) (2 ^ deepest ∷ []) (k, tt) (weightsᵉ (var 0) (num (2 ^ deepest)) .b)) (lit≤ tt)
+weight-size m (suc (suc zero)) k = le-trans (ev-size (pos m ∷ []) (2 ^ deepest ∷ []) (k, tt) (weightsᵉ (var 0) (num (2 ^ deepest)) .c)) (lit≤ tt)
+weight-size m (suc (suc (suc r))) k = le-trans (ev-size (pos m ∷ []) (2 ^ deepest ∷ []) (k, tt) (weightsᵉ (var 0) (num (2 ^ deepest)) .d)) (lit≤ tt)

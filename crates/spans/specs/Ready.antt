@@ -9,6 +9,7 @@ use Rattle.curve.specs.declared.Differences.{Differences}
 use Rattle.curve.specs.Limits.{Inside, Small, limit, widest, reach}
 use Rattle.curve.specs.Span.{firstRecord, coordinate, records, weighted}
 use Rattle.curve.specs.Ways.{deepest}
+use Rattle.shape.specs.Shape.{mostRecords}
 use Rattle.spans.specs.Numbers.{after}
 
 pub record Ready (k d : ℕ) (q : Four) : Type 0 where
@@ -27,6 +28,6 @@ pub record Steady (k d : ℕ) (s : Differences) : Type 0 where
 
 -- A list of controls that m spans of a basis can be drawn from: each span's four records are in the list and inside the limits.
 pub record Drawable (b : Basis) (m : ℕ) (controls : List ℤ) : Type 0 where
-  pub few : m ≤ 64
+  pub few : m ≤ mostRecords
   pub held : (s : ℕ) → s < m → 2 * firstRecord b s + 8 ≤ length controls
   pub inside : (s axis : ℕ) → s < m → axis < 2 → Inside limit (records b s (coordinate controls axis))

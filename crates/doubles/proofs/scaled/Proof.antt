@@ -16,25 +16,25 @@ use Rattle.doubles.specs.Number.{thousand, within}
 use Rattle.doubles.proofs.scaled.Statement.{statement}
 use Rattle.doubles.proofs.scaled.Tie as tie
 
-product : {n : ℕ} → n < 2 ^ 53 → n * 1000 < 2 ^ 63 - 2 ^ 31
+product : {n : ℕ} → n < 2 ^ 53 → n * thousand < 2 ^ 63 - 2 ^ 31
 product h = omega arith
 
-product-fits : {n : ℕ} → n < 2 ^ 53 → SFits w64 (pos (n * 1000))
+product-fits : {n : ℕ} → n < 2 ^ 53 → SFits w64 (pos (n * thousand))
 product-fits h = record { sfits = omega arith }
 
 mag-neg : (n : ℕ) → mag (negℤ (pos n)) ≤ n
 mag-neg zero = le-refl 0
 mag-neg (suc n) = omega arith
 
-negated-fits : (n : ℕ) → n < 2 ^ 53 → SFits w64 (negℤ (pos (n * 1000)))
-negated-fits n h = record { sfits = omega (arith, mag-neg (n * 1000), product h) }
+negated-fits : (n : ℕ) → n < 2 ^ 53 → SFits w64 (negℤ (pos (n * thousand)))
+negated-fits n h = record { sfits = omega (arith, mag-neg (n * thousand), product h) }
 
 -- the difference from 0, as the machine has it
-difference : (n : ℕ) → n < 2 ^ 53 → pos 0 -ℤ kept w64 (pos (n * 1000)) ≡ negℤ (pos (n * 1000))
-difference n h = ap (λ x. pos 0 -ℤ x) (kept-is w64 (pos (n * 1000)) (product-fits h)) ∙ +ℤ-idl (negℤ (pos (n * 1000)))
+difference : (n : ℕ) → n < 2 ^ 53 → pos 0 -ℤ kept w64 (pos (n * thousand)) ≡ negℤ (pos (n * thousand))
+difference n h = ap (λ x. pos 0 -ℤ x) (kept-is w64 (pos (n * thousand)) (product-fits h)) ∙ +ℤ-idl (negℤ (pos (n * thousand)))
 
-negated : (n : ℕ) → n < 2 ^ 53 → kept w64 (pos 0 -ℤ kept w64 (pos (n * 1000))) ≡ negℤ (pos (n * 1000))
-negated n h = ap (kept w64) (difference n h) ∙ kept-is w64 (negℤ (pos (n * 1000))) (negated-fits n h)
+negated : (n : ℕ) → n < 2 ^ 53 → kept w64 (pos 0 -ℤ kept w64 (pos (n * thousand))) ≡ negℤ (pos (n * thousand))
+negated n h = ap (kept w64) (difference n h) ∙ kept-is w64 (negℤ (pos (n * thousand))) (negated-fits n h)
 
 mul-z : tie.Need-mul-z
 mul-z c = search needs
@@ -55,7 +55,7 @@ round-over-requires : tie.Need-round-over-requires
 round-over-requires c κs =
     let n = c .before .args .digits in
     let h = c .before .pre .0 in
-    ((subst (λ x. mag x < 2 ^ 63 - 2 ^ 31) (sym (negated n h)) (lt-of-le-of-lt (mag-neg (n * 1000)) (product h)), c .before .pre .1), whole-fours)
+    ((subst (λ x. mag x < 2 ^ 63 - 2 ^ 31) (sym (negated n h)) (lt-of-le-of-lt (mag-neg (n * thousand)) (product h)), c .before .pre .1), whole-fours)
 
 coordinate-requires : tie.Need-coordinate-requires
 coordinate-requires c κs = search needs
@@ -64,7 +64,7 @@ round-over-requires-2 : tie.Need-round-over-requires-2
 round-over-requires-2 c κs =
     let n = c .before .args .digits in
     let h = c .before .pre .0 in
-    ((subst (λ x. mag x < 2 ^ 63 - 2 ^ 31) (sym (kept-is w64 (pos (n * 1000)) (product-fits h))) (product h), c .before .pre .1), whole-fours)
+    ((subst (λ x. mag x < 2 ^ 63 - 2 ^ 31) (sym (kept-is w64 (pos (n * thousand)) (product-fits h))) (product h), c .before .pre .1), whole-fours)
 
 coordinate-requires-2 : tie.Need-coordinate-requires-2
 coordinate-requires-2 c κs = search needs
@@ -90,7 +90,7 @@ returns-2 c =
     ∙ ap within
     (kept-is w64 (c .before .round-over2 .result) (record { sfits = c .before .round-over2 .ok })
     ∙ c .before .round-over2 .ensures
-    ∙ ap (λ x. nearest x d) (kept-is w64 (pos (n * 1000)) (product-fits (start .pre .0))))
+    ∙ ap (λ x. nearest x d) (kept-is w64 (pos (n * thousand)) (product-fits (start .pre .0))))
     ∙ ap (λ s. within (nearest (signed s (n * thousand)) d)) (sym (c .before .before .if1 .left))
 
 pub scaled-spec : {M : Type 1} → statement M

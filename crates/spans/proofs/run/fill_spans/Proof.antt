@@ -15,6 +15,7 @@ use Rattle.curve.specs.Numbers.{tab}
 use Rattle.curve.specs.Span.{divisor}
 use Rattle.curve.specs.Ways.{deepest, mostBits}
 use Rattle.curve.proofs.Tab.{length-tab}
+use Rattle.shape.specs.Shape.{mostRecords}
 use Rattle.spans.specs.Numbers.{number, paired, ending, perSpan, filled}
 use Rattle.spans.specs.Ready.{Ready}
 use Rattle.whole.proofs.Writes.{sets-append}
@@ -49,8 +50,8 @@ mul-bits c = omega arith
 cast-bits : tie.Need-cast-bits Inv-loop μ-loop
 cast-bits c = omega arith
 
--- a place in a run of at most 64 spans
-place-small : (k s : ℕ) → k ≤ deepest → s ≤ 64 → s * perSpan k ≤ 64 * 128
+-- a place in a run of spans
+place-small : (k s : ℕ) → k ≤ deepest → s ≤ mostRecords → s * perSpan k ≤ mostRecords * perSpan deepest
 place-small k s h b = mul-le-mul b (mul-le-mul (le-refl 2) (pow-mono {i = k} {j = deepest} h))
 
 shl-stride : tie.Need-shl-stride Inv-loop μ-loop
