@@ -12,7 +12,7 @@ use Rattle.whole.proofs.Ring.{Ex, var, lit, _⊕_, _⊖_, _⊗_, solve}
 use Rattle.whole.proofs.Fit.{Bounded, ev-size}
 use Rattle.curve.specs.declared.Four.{Four}
 use Rattle.curve.specs.declared.Differences.{Differences}
-use Rattle.curve.specs.Numbers.{four, dot, tab}
+use Rattle.curve.specs.Numbers.{dot, tab}
 use Rattle.curve.specs.Published.{weights, bezierMatrix}
 use Rattle.curve.specs.Limits.{Inside, widest, Small}
 use Rattle.curve.specs.Span.{weighted}

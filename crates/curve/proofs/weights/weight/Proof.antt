@@ -1,5 +1,5 @@
 -- The constant is the rule's list, entry by entry: antt computes the rule at all 260 entries and finds the same numbers.
-use lib.IntN.{ℤ, pos}
+use lib.IntN.{pos}
 use borrow.Author.Needs.{needs}
 use mathlib.Core.Path.{_∙_, ap}
 use native.Mathlib.Nat.{zero-add}
