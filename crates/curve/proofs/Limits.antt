@@ -9,7 +9,6 @@ use native.Mathlib.Decide.{decLe}
 use native.Mathlib.Omega.{arith}
 use lib.IntN.{ℤ, pos, natAbs, _+ℤ_, _*ℤ_}
 use lib.Signed.{_≤ℤ_}
-use Rattle.whole.specs.Nearest.{nearest, sixfold}
 use Rattle.whole.proofs.Ring.{Ex, var, lit, _⊕_, _⊖_, _⊗_, ev, solve}
 use Rattle.whole.proofs.Order.{le-gap, le-of, +-mono, *-mono, pos-injective}
 use Rattle.whole.proofs.Nearest.{nearest-above, nearest-below, nearest-size}
@@ -19,10 +18,10 @@ use Rattle.curve.specs.declared.Basis.{Basis}
 use Rattle.curve.specs.declared.Basis.the-variants.{Bezier, BSpline, Cardinal, Hermite}
 use Rattle.curve.specs.Numbers.{four, dot}
 use Rattle.curve.specs.Published.{weights}
-use Rattle.curve.specs.Span.{sixfoldControls, weighted, divisor, point}
+use Rattle.curve.specs.Span.{sixfold, sixfoldControls, weighted, divisor, point}
 use Rattle.curve.specs.Limits.{limit, reach, Inside, AtMost, all, Box}
 use Rattle.curve.proofs.Powers.{cube, thrice}
-use Rattle.curve.proofs.Table.{divisor-pos}
+use Rattle.curve.proofs.Span.{divisor-pos}
 use Rattle.curve.proofs.Reflect.{Fourᵉ, fourᵉ, num, p, weightedᵉ, sixfoldᵉ}
 
 -- ---- boxes
@@ -45,9 +44,9 @@ weighted-mono i j q r below =
     tt)
 
 -- four equal controls, six times z: the curve is z
-level : (k i : ℕ) (z : ℤ) → weighted (all (pos 6 *ℤ z)) (pos i) (pos (2 ^ k)) ≡ pos (divisor k) *ℤ z
+level : (b : Basis) (k i : ℕ) (z : ℤ) → weighted (all (pos 6 *ℤ z)) (pos i) (pos (2 ^ k)) ≡ pos (divisor b k) *ℤ z
 unfolding weighted weights dot cube
-level k i z =
+level b k i z =
     solve (z ∷ pos i ∷ pos (2 ^ k) ∷ []) (weightedᵉ (record { a = num 6 ⊗ var 0; b = num 6 ⊗ var 0; c = num 6 ⊗ var 0; d = num 6 ⊗ var 0 }) (var 1) (var 2)) (num 6 ⊗ (var 2 ⊗ var 2 ⊗ var 2) ⊗ var 0) tt
     ∙ ap (λ (n : ℕ). pos (6 * n) *ℤ z) (sym (thrice k))
 
@@ -58,11 +57,11 @@ boxed : (b : Basis) (k i : ℕ) (q : Four) (lo hi : ℤ) → i ≤ 2 ^ k
 unfolding point
 boxed b k i q lo hi within above below =
     let e : i + (2 ^ k - i) ≡ 2 ^ k = omega arith in (
-      nearest-above (divisor k) (divisor-pos k)
-          (subst (λ z. z ≤ℤ weighted (sixfoldControls b q) (pos i) (pos (2 ^ k))) (level k i lo)
+      nearest-above (divisor b k) (divisor-pos b k)
+          (subst (λ z. z ≤ℤ weighted (sixfoldControls b q) (pos i) (pos (2 ^ k))) (level b k i lo)
           (subst (λ (n : ℕ). weighted (all (pos 6 *ℤ lo)) (pos i) (pos n) ≤ℤ weighted (sixfoldControls b q) (pos i) (pos n)) e (weighted-mono i (2 ^ k - i) (all (pos 6 *ℤ lo)) (sixfoldControls b q) above))),
-      nearest-below (divisor k) (divisor-pos k)
-          (subst (λ z. weighted (sixfoldControls b q) (pos i) (pos (2 ^ k)) ≤ℤ z) (level k i hi)
+      nearest-below (divisor b k) (divisor-pos b k)
+          (subst (λ z. weighted (sixfoldControls b q) (pos i) (pos (2 ^ k)) ≤ℤ z) (level b k i hi)
           (subst (λ (n : ℕ). weighted (sixfoldControls b q) (pos i) (pos n) ≤ℤ weighted (all (pos 6 *ℤ hi)) (pos i) (pos n)) e (weighted-mono i (2 ^ k - i) (sixfoldControls b q) (all (pos 6 *ℤ hi)) below))),
     )
 
@@ -175,13 +174,13 @@ weights-size Cardinal l i j = le-of-eq (pos-injective (solve (pos l ∷ pos 0 �
 weights-size Hermite l i j = le-of-eq (pos-injective (solve (pos l ∷ pos 0 ∷ pos 0 ∷ pos 0 ∷ pos i ∷ pos j ∷ []) (added (wide Hermite alike)) whole-sizeᵉ tt))
 
 -- 4·i·j is at most h^2, by the square of the difference of i and j: so with L at 4,000,000 the whole is at most 5,000,000 times 6h^3
-near : (i d : ℕ) → whole-size limit i (i + d) + 6000000 * ((i + (i + d)) * (d * d)) ≡ 6 * ((i + (i + d)) * (i + (i + d)) * (i + (i + d))) * reach
+near : (i d : ℕ) → whole-size limit i (i + d) + sixfold * (reach - limit) * ((i + (i + d)) * (d * d)) ≡ 6 * ((i + (i + d)) * (i + (i + d)) * (i + (i + d))) * reach
 unfolding whole-size
 near i d =
     let h = var 0 ⊕ (var 0 ⊕ var 1) in
     pos-injective
     (solve (pos i ∷ pos d ∷ [])
-    (num limit ⊗ (num 6 ⊗ (h ⊗ h ⊗ h) ⊕ num 6 ⊗ (var 0 ⊗ (var 0 ⊕ var 1) ⊗ h)) ⊕ num 6000000 ⊗ (h ⊗ (var 1 ⊗ var 1)))
+    (num limit ⊗ (num 6 ⊗ (h ⊗ h ⊗ h) ⊕ num 6 ⊗ (var 0 ⊗ (var 0 ⊕ var 1) ⊗ h)) ⊕ num (sixfold * (reach - limit)) ⊗ (h ⊗ (var 1 ⊗ var 1)))
     (num 6 ⊗ (h ⊗ h ⊗ h) ⊗ num reach)
     tt)
 
@@ -202,13 +201,13 @@ fair i j = go (decLe i j)
     go (no n) = subst₂ (λ (m n : ℕ). m ≤ 6 * (n * n * n) * reach) (swap limit j i) (add-comm j i) (ordered j i (omega arith))
 
 -- Every sum of a span inside the limits is within the divisor times 5,000,000, at each of its 2^k + 1 steps.
-pub sum-size : (b : Basis) (k i : ℕ) (q : Four) → i ≤ 2 ^ k → Inside limit q → natAbs (weighted (sixfoldControls b q) (pos i) (pos (2 ^ k))) ≤ divisor k * reach
+pub sum-size : (b : Basis) (k i : ℕ) (q : Four) → i ≤ 2 ^ k → Inside limit q → natAbs (weighted (sixfoldControls b q) (pos i) (pos (2 ^ k))) ≤ divisor b k * reach
 unfolding bounds cube
 sum-size b k i q within inside =
     let j = 2 ^ k - i in
     let e : i + j ≡ 2 ^ k = omega arith in
     let ok : Bounded (q .a ∷ q .b ∷ q .c ∷ q .d ∷ pos i ∷ pos j ∷ []) (bounds limit i j) = (inside .a, (inside .b, (inside .c, (inside .d, (le-refl i, (le-refl j, tt)))))) in
-    subst (λ z. natAbs z ≤ divisor k * reach) (sym (ap (λ (n : ℕ). weighted (sixfoldControls b q) (pos i) (pos n)) (sym e) ∙ wide-is b q i j))
+    subst (λ z. natAbs z ≤ divisor b k * reach) (sym (ap (λ (n : ℕ). weighted (sixfoldControls b q) (pos i) (pos n)) (sym e) ∙ wide-is b q i j))
     (le-trans (ev-size (q .a ∷ q .b ∷ q .c ∷ q .d ∷ pos i ∷ pos j ∷ []) (bounds limit i j) ok (wide b p))
     (le-trans (weights-size b limit i j)
     (subst (λ (n : ℕ). whole-size limit i j ≤ 6 * n * reach) (ap cube e ∙ sym (thrice k)) (fair i j))))
@@ -216,4 +215,4 @@ sum-size b k i q within inside =
 -- No point of any basis is beyond 5,000,000 either way.
 pub point-size : (b : Basis) (k i : ℕ) (q : Four) → i ≤ 2 ^ k → Inside limit q → natAbs (point b k q i) ≤ reach
 unfolding point
-point-size b k i q within inside = nearest-size (weighted (sixfoldControls b q) (pos i) (pos (2 ^ k))) (divisor k) reach (divisor-pos k) (sum-size b k i q within inside)
+point-size b k i q within inside = nearest-size (weighted (sixfoldControls b q) (pos i) (pos (2 ^ k))) (divisor b k) reach (divisor-pos b k) (sum-size b k i q within inside)

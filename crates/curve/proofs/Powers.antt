@@ -2,11 +2,11 @@
 use mathlib.Core.Path.{_≡_, refl, sym, ap, _∙_}
 use mathlib.Core.List.{[], _∷_}
 use Prim.Native.Nat.{ℕ, zero, suc, _+_, _*_, _-_, _%_, _^_, _<_}
-use native.Mathlib.Nat.{pow-suc, mul-pos, one-mul, mod-eq-of-lt}
+use native.Mathlib.Nat.{pow-suc, one-mul, mod-eq-of-lt}
 use native.Mathlib.Omega.{arith}
 use lib.Pow.{pow-add, pow-lt}
-use lib.IntN.{ℤ, pos, _*ℤ_}
-use Rattle.whole.proofs.Ring.{var, _⊕_, _⊗_, solve}
+use lib.IntN.{pos}
+use Rattle.whole.proofs.Ring.{var, _⊗_, solve}
 use Rattle.whole.proofs.Order.{pos-injective}
 
 pub doubled : (l : ℕ) → 2 * 2 ^ l ≡ 2 ^ suc l
@@ -36,7 +36,3 @@ pub eights : (k : ℕ) → 8 ^ k ≡ cube (2 ^ k)
 unfolding cube
 eights zero = refl
 eights (suc k) = pow-suc 8 k ∙ ap (λ (n : ℕ). n * 8) (eights k) ∙ sym (ap cube (pow-suc 2 k) ∙ cube-mul (2 ^ k) 2)
-
-pub cube-pos : (n : ℕ) → 0 < n → 0 < cube n
-unfolding cube
-cube-pos n h = mul-pos (mul-pos h h) h

@@ -2,7 +2,7 @@
 use mathlib.Core.Path.{_≡_, refl}
 use Prim.Native.Nat.{ℕ}
 use lib.IntN.{ℤ, pos, _+ℤ_, _-ℤ_, _*ℤ_}
-use Rattle.whole.proofs.Ring.{Ex, var, lit, _⊕_, _⊖_, _⊗_, ev, Same, solve}
+use Rattle.whole.proofs.Ring.{Ex, lit, _⊕_, _⊖_, _⊗_, ev, Same, solve}
 use Rattle.curve.specs.declared.Four.{Four}
 use Rattle.curve.specs.Numbers.{neg, four, dot}
 use Rattle.curve.specs.Published.{Matrix, Ends, cubic, tangent, curvature, bezierMatrix, hermiteMatrix, cardinalMatrix, bSplineMatrix, weights, blending}

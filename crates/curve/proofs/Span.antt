@@ -7,7 +7,7 @@ use native.Mathlib.Omega.{arith}
 use lib.Dec.{lit<}
 use lib.IntN.{ℤ, pos, _*ℤ_}
 use lib.Pow.{pow-pos}
-use Rattle.whole.specs.Nearest.{nearest, sixfold}
+use Rattle.whole.specs.Nearest.{nearest}
 use Rattle.whole.proofs.Nearest.{nearest-scale}
 use Rattle.whole.proofs.Ring.{var, _⊗_, solve}
 use Rattle.curve.specs.declared.Four.{Four}
@@ -15,8 +15,7 @@ use Rattle.curve.specs.declared.Basis.{Basis}
 use Rattle.curve.specs.declared.Basis.the-variants.{Bezier, BSpline, Cardinal, Hermite}
 use Rattle.curve.specs.Numbers.{dot}
 use Rattle.curve.specs.Published.{published, denominator, cubic, weights, bezierMatrix, hermiteMatrix, cardinalMatrix, bSplineMatrix}
-use Rattle.curve.specs.Span.{firstRecord, recordsFrom, records, sixfoldControls, weighted, divisor, point}
-use Rattle.curve.proofs.Table.{divisor-pos}
+use Rattle.curve.specs.Span.{sixfold, firstRecord, recordsFrom, records, sixfoldControls, weighted, divisor, point}
 use Rattle.curve.proofs.Reflect.{fourᵉ, num, p, i, h, values, cubicᵉ, weightedᵉ, sixfoldᵉ}
 
 -- For every basis, i and h: the weighted sum of the sixfold controls over 6·h^3 is the published value, a numerator over `denominator`·h^3.
@@ -33,6 +32,9 @@ denominator-pos BSpline = lit< tt
 denominator-pos Cardinal = lit< tt
 denominator-pos Hermite = lit< tt
 
+pub divisor-pos : (b : Basis) (k : ℕ) → 0 < divisor b k
+divisor-pos b k = mul-pos (lit< tt) (pow-pos (3 * k))
+
 -- So a point is the published value, rounded once.
 pub point-published : (b : Basis) (k : ℕ) (p : Four) (i : ℕ) → point b k p i ≡ nearest (published b p (pos i) (pos (2 ^ k))) (denominator b * 2 ^ (3 * k))
 unfolding point
@@ -41,8 +43,8 @@ point-published b k p i =
     let v = published b p (pos i) (pos (2 ^ k)) in
     let d = denominator b in
     let swap : (x y : ℤ) → x *ℤ y ≡ y *ℤ x = λ x y. solve (x ∷ y ∷ []) (var 0 ⊗ var 1) (var 1 ⊗ var 0) tt in
-    sym (nearest-scale d w (divisor k) (denominator-pos b) (divisor-pos k))
-    ∙ ap (λ z. nearest z (d * divisor k)) (swap (pos d) w ∙ sixfold-is-published b p (pos i) (pos (2 ^ k)) ∙ swap v (pos sixfold))
+    sym (nearest-scale d w (divisor b k) (denominator-pos b) (divisor-pos b k))
+    ∙ ap (λ z. nearest z (d * divisor b k)) (swap (pos d) w ∙ sixfold-is-published b p (pos i) (pos (2 ^ k)) ∙ swap v (pos sixfold))
     ∙ ap (nearest (pos sixfold *ℤ v)) (mul-left-comm d sixfold (2 ^ (3 * k)))
     ∙ nearest-scale sixfold v (d * 2 ^ (3 * k)) (lit< tt) (mul-pos (denominator-pos b) (pow-pos (3 * k)))
 
@@ -73,7 +75,7 @@ controls-meet Hermite s at = ap (λ r. pos 6 *ℤ at r) (omega arith)
 pub joint : (b : Basis) (k s : ℕ) (at : ℕ → ℤ) → point b k (records b s at) (2 ^ k) ≡ point b k (records b (suc s) at) 0
 unfolding point
 joint b k s at =
-    ap (λ z. nearest z (divisor k))
+    ap (λ z. nearest z (divisor b k))
     (weighted-end (sixfoldControls b (records b s at)) (pos (2 ^ k))
     ∙ ap (λ z. pos (2 ^ k) *ℤ pos (2 ^ k) *ℤ pos (2 ^ k) *ℤ z) (controls-meet b s at)
     ∙ sym (weighted-start (sixfoldControls b (records b (suc s) at)) (pos (2 ^ k))))

@@ -12,7 +12,7 @@ use Rattle.whole.proofs.Ring.{Ex, var, lit, _⊕_, _⊖_, _⊗_, solve}
 use Rattle.whole.proofs.Fit.{Bounded, ev-size}
 use Rattle.curve.specs.declared.Four.{Four}
 use Rattle.curve.specs.declared.Differences.{Differences}
-use Rattle.curve.specs.Numbers.{four, dot, tab}
+use Rattle.curve.specs.Numbers.{dot, tab}
 use Rattle.curve.specs.Published.{weights, bezierMatrix}
 use Rattle.curve.specs.Limits.{Inside, widest, Small}
 use Rattle.curve.specs.Span.{weighted}
@@ -139,7 +139,7 @@ pub state-small : (q : Four) (j m : ℕ) → Inside widest q → j ≤ 2 ^ deepe
 unfolding state weighted weights dot at firstᵉ secondᵉ thirdᵉ
 state-small q j m inside hj hm =
     let r = R.values q (pos j) (pos m) in
-    let bs = widest ∷ widest ∷ widest ∷ widest ∷ 64 ∷ 64 ∷ [] in
+    let bs = widest ∷ widest ∷ widest ∷ widest ∷ 2 ^ deepest ∷ 2 ^ deepest ∷ [] in
     let ok : Bounded r bs = (inside .a, (inside .b, (inside .c, (inside .d, (hj, (hm, tt)))))) in
     record {
       value = le-trans (ev-size r bs ok (at i)) (lit≤ tt);

@@ -3,7 +3,7 @@ use mathlib.Core.List.{List}
 use Prim.Native.Nat.{ℕ, _+_, _*_, _^_}
 use lib.IntN.{ℤ, pos, _+ℤ_, _-ℤ_, _*ℤ_}
 use lib.ListN.{getD}
-use Rattle.whole.specs.Nearest.{nearest, sixfold}
+use Rattle.whole.specs.Nearest.{nearest}
 use Rattle.curve.specs.declared.Four.{Four}
 use Rattle.curve.specs.declared.Basis.{Basis}
 use Rattle.curve.specs.declared.Basis.the-variants.{Bezier, BSpline, Cardinal, Hermite}
@@ -29,6 +29,10 @@ recordsFrom r at = four (at r) (at (r + 1)) (at (r + 2)) (at (r + 3))
 abbrev pub records : Basis → ℕ → (ℕ → ℤ) → Four
 records b s at = recordsFrom (firstRecord b s) at
 
+-- Six times the Bezier controls of a span are whole for every basis, so a sum of them is rounded over six times a power of two.
+abbrev pub sixfold : ℕ
+sixfold = 6
+
 -- Six times the four Bezier controls.
 unfoldable pub sixfoldControls : Basis → Four → Four
 sixfoldControls Bezier p = four (pos 6 *ℤ p .a) (pos 6 *ℤ p .b) (pos 6 *ℤ p .c) (pos 6 *ℤ p .d)
@@ -45,10 +49,14 @@ sixfoldControls Hermite p = four (pos 6 *ℤ p .a) (pos 6 *ℤ p .a +ℤ pos 2 *
 unfoldable pub weighted : Four → ℤ → ℤ → ℤ
 weighted q i h = dot (weights i h) q
 
--- What the sixfold sum at depth k is divided by: 6 · 2^(3k).
-abbrev pub divisor : ℕ → ℕ
-divisor k = sixfold * 2 ^ (3 * k)
+-- What a sixfold sum is divided by, by its bits: 6 · 2^bits.
+abbrev pub divisorOf : ℕ → ℕ
+divisorOf bits = sixfold * 2 ^ bits
+
+-- What the sum of a basis at depth k is divided by: 6 · 2^(3k), whichever the basis.
+abbrev pub divisor : Basis → ℕ → ℕ
+divisor b k = divisorOf (3 * k)
 
 -- The point of a span at t = i / 2^k: worked exactly and rounded once.
 unfoldable pub point : Basis → ℕ → Four → ℕ → ℤ
-point b k p i = nearest (weighted (sixfoldControls b p) (pos i) (pos (2 ^ k))) (divisor k)
+point b k p i = nearest (weighted (sixfoldControls b p) (pos i) (pos (2 ^ k))) (divisor b k)

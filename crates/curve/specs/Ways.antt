@@ -17,10 +17,17 @@ byWeights k q = tab (λ i. weighted q (pos i) (pos (2 ^ k))) 0 (suc (2 ^ k))
 abbrev pub deepest : ℕ
 deepest = 6
 
+-- The most bits of a divisor.
+abbrev pub mostBits : ℕ
+mostBits = 3 * deepest
+
 unfoldable pub row : ℕ → ℕ → ℕ
 row k i = i * 2 ^ (deepest - k)
 
--- Entry e of the table of 260: of row e / 4, and there weight number e % 4.
+-- Four weights for each i from 0 to 64: 260 in all. Entry e is of row e / 4, and there weight number e % 4.
+abbrev pub tableSize : ℕ
+tableSize = 4 * suc (2 ^ deepest)
+
 unfoldable pub nth : Four → ℕ → ℤ
 nth w zero = w .a
 nth w (suc zero) = w .b

@@ -31,6 +31,8 @@ pub struct Differences {
     pub third: i64,
 }
 
+// The controls of a span are taken six-fold, so that they are whole for every basis.
+pub const SIXFOLD: u32 = 6;
 // A control coordinate is at most this far from zero, in micrometres.
 pub const LIMIT: i32 = 4_000_000;
 // The deepest outline: a span has at most 2^6 steps.

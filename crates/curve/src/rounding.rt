@@ -4,15 +4,16 @@ ghost use Prim.Native.Nat.{_*_, _≤_};
 ghost use lib.IntN.{natAbs};
 ghost use Rattle.whole.specs.Nearest.{nearest};
 ghost use Rattle.curve.specs.Limits.{reach};
-ghost use Rattle.curve.specs.Span.{divisor};
-ghost use Rattle.curve.specs.Ways.{deepest};
+ghost use Rattle.curve.specs.Span.{divisorOf};
+ghost use Rattle.curve.specs.Ways.{mostBits};
+use crate::SIXFOLD;
+use whole::round_over;
 
-// The point of a sixfold sum at a depth: the whole number nearest to sum / (6 · 2^(3 depth)).
-pub fn rounded(sum: i64, depth: usize) -> i32
-    requires { ⌜ depth ≤ deepest ⌝ }
-    requires { ⌜ natAbs sum ≤ divisor depth * reach ⌝ }
-    ensures { λ r. ⌜ r ≡ nearest sum (divisor depth) ⌝ }
+// The coordinate of a sixfold sum: the whole number nearest to sum / (6 · 2^bits).
+pub fn rounded(sum: i64, bits: u32) -> i32
+    requires { ⌜ bits ≤ mostBits ⌝ }
+    requires { ⌜ natAbs sum ≤ divisorOf bits * reach ⌝ }
+    ensures { λ r. ⌜ r ≡ nearest sum (divisorOf bits) ⌝ }
 {
-    let bits = (3 * depth) as u32;
-    whole::round_sixfold(sum, bits) as i32
+    round_over(sum, SIXFOLD, bits) as i32
 }

@@ -4,7 +4,7 @@ ghost use Prim.Native.Nat.{_≤_, _<_, _^_};
 ghost use lib.IntN.{pos};
 ghost use Rattle.curve.specs.Limits.{Inside, widest};
 ghost use Rattle.curve.specs.Span.{weighted};
-ghost use Rattle.curve.specs.Ways.{deepest, tableEntry};
+ghost use Rattle.curve.specs.Ways.{deepest, tableEntry, tableSize};
 use crate::Four;
 
 // Four weights for each i from 0 to 64: the binomials 1, 3, 3, 1 times i^r · (64 - i)^(3 - r). Each row sums to 64^3 = 262,144.
@@ -273,7 +273,7 @@ const WEIGHTS: [i64; 260] = [
 
 // One weight of the table: of row entry / 4, and there the one numbered entry % 4.
 fn weight(entry: usize) -> i64
-    requires { ⌜ entry < 260 ⌝ }
+    requires { ⌜ entry < tableSize ⌝ }
     ensures { λ r. ⌜ r ≡ tableEntry entry ⌝ }
 {
     WEIGHTS[entry]

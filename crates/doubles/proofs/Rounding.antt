@@ -1,5 +1,5 @@
 -- What this crate asks of `nearest`, by its laws in crate `whole`: equal fractions round alike, less than a half rounds to nothing, and from a whole bound on the
--- rounded number keeps the bound. A change of the rounding rule is answered here and in `round_quarters`.
+-- rounded number keeps the bound. A change of the rounding rule is answered here.
 use mathlib.Core.Path.{_≡_, sym, ap, _∙_}
 use mathlib.Core.Bool.{Bool, true, false}
 use mathlib.Core.List.{[], _∷_}

@@ -1,13 +1,13 @@
 // Doubles: midpoints of exact doubles, and a drawing number in millimetres as whole micrometres. No public call has a `requires`.
 ghost use mathlib.Core.Path.{_≡_};
-ghost use Prim.Native.Nat.{_*_, _-_, _^_, _<_};
-ghost use lib.Signed.{mag};
+ghost use Prim.Native.Nat.{_*_, _^_, _<_};
 ghost use lib.Ieee.{binary64, ofBits};
 ghost use Rattle.whole.specs.Nearest.{nearest};
 ghost use Rattle.doubles.specs.Exact.{signed, dyadic};
 ghost use Rattle.doubles.specs.Midpoint.{mid, midPair};
 ghost use Rattle.doubles.specs.Number.{thousand, within, measure};
 use curve::LIMIT;
+use whole::round_over;
 
 // A point of the preview: a pair of doubles, in micrometres.
 pub struct Pair {
@@ -46,6 +46,9 @@ const LARGE: u64 = 1034;
 // 1075, less the two places of a quarter.
 const QUARTERS: u64 = 1073;
 
+// Quarters in a whole.
+const FOUR: u32 = 4;
+
 // A coordinate as a double: nothing is lost, and zero is +0.
 pub fn double_of(z: i32) -> f64
     ensures { λ r. ⌜ r ≡ dyadic z 0 ⌝ }
@@ -70,14 +73,6 @@ pub fn midpoint_pair(a: Pair, b: Pair) -> Pair
     }
 }
 
-// The whole number nearest to z / (4 · 2^bits), an exact half to the greater: the floor in quarters, two quarters more, and the floor over four.
-fn round_quarters(z: i64, bits: u32) -> i64
-    requires { ⌜ (mag z < 2 ^ 63 - 2) × (bits < 64) ⌝ }
-    ensures { λ r. ⌜ r ≡ nearest z (4 * 2 ^ bits) ⌝ }
-{
-    ((z >> bits) + 2) >> 2
-}
-
 // A rounded value as a coordinate, if it is within limits.
 fn coordinate(n: i64) -> Measure
     ensures { λ r. ⌜ r ≡ within n ⌝ }
@@ -98,9 +93,9 @@ fn scaled(negative: bool, digits: u64, bits: u32) -> Measure
 {
     let z = (digits * THOUSAND) as i64;
     if negative {
-        coordinate(round_quarters(-z, bits))
+        coordinate(round_over(-z, FOUR, bits))
     } else {
-        coordinate(round_quarters(z, bits))
+        coordinate(round_over(z, FOUR, bits))
     }
 }
 

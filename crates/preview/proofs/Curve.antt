@@ -14,7 +14,7 @@ use lib.Ieee.{Float, nan}
 use lib.ListN.{length, getD, drop, List·getD-append}
 use lib.Pow.{pow-pos}
 use lib.Seq.{sets, sets-eq}
-use Rattle.whole.specs.Nearest.{nearest, sixfold}
+use Rattle.whole.specs.Nearest.{nearest}
 use Rattle.whole.proofs.Fit.{Bounded, ev-size}
 use Rattle.whole.proofs.Nearest.{nearest-scale}
 use Rattle.whole.proofs.Ring.{_⊗_, solve}
@@ -23,7 +23,7 @@ use Rattle.curve.specs.declared.Basis.the-variants.{Bezier}
 use Rattle.curve.specs.Limits.{Inside, limit}
 use Rattle.curve.specs.Numbers.{tab, dot}
 use Rattle.curve.specs.Published.{weights}
-use Rattle.curve.specs.Span.{weighted, sixfoldControls, point}
+use Rattle.curve.specs.Span.{sixfold, divisor, weighted, sixfoldControls, point}
 use Rattle.curve.specs.Ways.{deepest}
 use Rattle.curve.proofs.Reflect as R
 use Rattle.curve.proofs.Reflect.{p, i, h, num, weightedᵉ, sixfoldᵉ}
@@ -133,4 +133,4 @@ sixfold-sum q x y = solve (R.values q x y) (weightedᵉ (sixfoldᵉ Bezier p) i 
 pub point-rounds : (k : ℕ) (q : Four) (j : ℕ) → point Bezier k q j ≡ nearest (weighted q (pos j) (pos (2 ^ k))) (2 ^ (3 * k))
 unfolding point
 point-rounds k q j =
-    ap (λ z. nearest z (sixfold * 2 ^ (3 * k))) (sixfold-sum q (pos j) (pos (2 ^ k))) ∙ nearest-scale sixfold (weighted q (pos j) (pos (2 ^ k))) (2 ^ (3 * k)) (lit< tt) (pow-pos (3 * k))
+    ap (λ z. nearest z (divisor Bezier k)) (sixfold-sum q (pos j) (pos (2 ^ k))) ∙ nearest-scale sixfold (weighted q (pos j) (pos (2 ^ k))) (2 ^ (3 * k)) (lit< tt) (pow-pos (3 * k))

@@ -1,23 +1,21 @@
--- What a list of controls that spans can be drawn from gives: each span's sixfold controls are ready on both axes, and its end is within the reach.
-use mathlib.Core.Path.{ap, _∙_, subst}
+-- What a list of controls that spans can be drawn from gives: each span's sixfold controls are ready on both axes, over the divisor of the basis.
 use mathlib.Core.List.{List, [], _∷_}
-use Prim.Native.Nat.{ℕ, _+_, _*_, _≤_, _<_}
-use native.Mathlib.Nat.{le-trans, le-refl}
+use Prim.Native.Nat.{ℕ, _≤_, _<_}
+use native.Mathlib.Nat.{le-trans}
 use native.Mathlib.Omega.{arith}
 use lib.Dec.{T, leb, lit≤}
-use lib.IntN.{ℤ, pos, natAbs}
-use Rattle.whole.proofs.Ring.{Ex, var, lit, _⊗_, ev, solve}
+use lib.IntN.{ℤ}
+use Rattle.whole.proofs.Ring.{Ex, ev}
 use Rattle.whole.proofs.Fit.{Bounded, size, ev-size}
 use Rattle.curve.specs.declared.Four.{Four}
 use Rattle.curve.specs.declared.Basis.{Basis}
 use Rattle.curve.specs.declared.Basis.the-variants.{Bezier, BSpline, Cardinal, Hermite}
 use Rattle.curve.specs.Numbers.{four}
-use Rattle.curve.specs.Limits.{Inside, limit, widest, reach}
+use Rattle.curve.specs.Limits.{Inside, limit, widest}
 use Rattle.curve.specs.Span.{coordinate, records, sixfoldControls, divisor}
 use Rattle.curve.proofs.Limits.{sum-size}
 use Rattle.curve.proofs.Reflect.{Fourᵉ, p, sixfoldᵉ}
-use Rattle.curve.proofs.Span.{weighted-end}
-use Rattle.spans.specs.Ready.{Ready, Closable, Drawable}
+use Rattle.spans.specs.Ready.{Ready, Drawable}
 use Rattle.spans.proofs.Numbers.{spanControls}
 
 -- fewer spans
@@ -59,16 +57,7 @@ sixfold-inside Cardinal q inside = sized q inside (sixfoldᵉ Cardinal p) tt tt 
 sixfold-inside Hermite q inside = sized q inside (sixfoldᵉ Hermite p) tt tt tt tt
 
 module _ (b : Basis) (m : ℕ) (controls : List ℤ) (d : Drawable b m controls) (s axis : ℕ) (h : s < m) (a : axis < 2) where
-  pub span-ready : (k : ℕ) → Ready k (spanControls b controls s axis)
+  pub span-ready : (k : ℕ) → Ready k (divisor b k) (spanControls b controls s axis)
   span-ready k =
       let inside = d .inside s axis h a in
       record { inside = sixfold-inside b (records b s (coordinate controls axis)) inside; near = λ i n. sum-size b k i (records b s (coordinate controls axis)) n inside }
-
-  pub span-closable : Closable (spanControls b controls s axis)
-  span-closable =
-      let q = spanControls b controls s axis in
-      record {
-        near =
-            subst (λ z. natAbs z ≤ divisor 0 * reach) (weighted-end q (pos 1) ∙ solve (q .d ∷ []) (lit (pos 1) ⊗ lit (pos 1) ⊗ lit (pos 1) ⊗ var 0) (var 0) tt)
-            (span-ready 0 .near 1 (le-refl 1));
-      }

@@ -20,7 +20,7 @@ use Rattle.whole.proofs.Fit.{sfits}
 use Rattle.curve.specs.declared.Four.{Four}
 use Rattle.curve.specs.Numbers.{tab}
 use Rattle.curve.specs.Limits.{Inside, widest, reach}
-use Rattle.curve.specs.Span.{weighted, divisor}
+use Rattle.curve.specs.Span.{weighted}
 use Rattle.curve.specs.Ways.{deepest, leftHalf, rightHalf}
 use Rattle.curve.proofs.Tab.{tab-append, tab-same, length-tab}
 use Rattle.curve.proofs.Span.{weighted-start}
@@ -45,35 +45,35 @@ next-bound l h =
     shuffle : (n : ℕ) → widest * (n * 8) ≡ 8 * (widest * n)
     shuffle n = omega arith
 
-module _ (l k : ℕ) (q : Four) (h : l < deepest) (cut : Cuttable (suc l) k q) where
-  cut-left : Cuttable l k (leftHalf q)
+module _ (l d : ℕ) (q : Four) (h : l < deepest) (cut : Cuttable (suc l) d q) where
+  cut-left : Cuttable l d (leftHalf q)
   cut-left =
       record {
         inside = subst (λ (n : ℕ). Inside n (leftHalf q)) (next-bound l h) (eightfold (widest * 8 ^ (deepest - suc l)) (8 * (widest * 8 ^ (deepest - suc l))) q (le-refl _) (cut .inside) .0);
         near = λ i b.
-            subst (λ z. natAbs z ≤ divisor k * reach) (ap (λ (n : ℕ). weighted q (pos i) (pos n)) (sym (doubled l)) ∙ sym (left-half q (pos i) (pos (2 ^ l))))
+            subst (λ z. natAbs z ≤ d * reach) (ap (λ (n : ℕ). weighted q (pos i) (pos n)) (sym (doubled l)) ∙ sym (left-half q (pos i) (pos (2 ^ l))))
             (cut .near i (omega (arith, doubled l)));
       }
 
-  cut-right : Cuttable l k (rightHalf q)
+  cut-right : Cuttable l d (rightHalf q)
   cut-right =
       record {
         inside = subst (λ (n : ℕ). Inside n (rightHalf q)) (next-bound l h) (eightfold (widest * 8 ^ (deepest - suc l)) (8 * (widest * 8 ^ (deepest - suc l))) q (le-refl _) (cut .inside) .1);
         near = λ i b.
-            subst (λ z. natAbs z ≤ divisor k * reach) (ap (λ (n : ℕ). weighted q (pos (2 ^ l + i)) (pos n)) (sym (doubled l)) ∙ sym (right-half q (pos i) (pos (2 ^ l))))
+            subst (λ z. natAbs z ≤ d * reach) (ap (λ (n : ℕ). weighted q (pos (2 ^ l + i)) (pos n)) (sym (doubled l)) ∙ sym (right-half q (pos i) (pos (2 ^ l))))
             (cut .near (2 ^ l + i) (omega (arith, doubled l)));
       }
 
 -- the same where `left` cuts are left and one is made
-pub cut-on : (left k : ℕ) (q : Four) → 0 < left → left ≤ deepest → Cuttable left k q → Cuttable (left - 1) k (leftHalf q) × Cuttable (left - 1) k (rightHalf q)
-cut-on left k q h d cut =
+pub cut-on : (left d : ℕ) (q : Four) → 0 < left → left ≤ deepest → Cuttable left d q → Cuttable (left - 1) d (leftHalf q) × Cuttable (left - 1) d (rightHalf q)
+cut-on left d q h most cut =
     let whole : left ≡ suc (left - 1) = omega arith in
-    let c = subst (λ (n : ℕ). Cuttable n k q) whole cut in
-    (cut-left (left - 1) k q (omega arith) c, cut-right (left - 1) k q (omega arith) c)
+    let c = subst (λ (n : ℕ). Cuttable n d q) whole cut in
+    (cut-left (left - 1) d q (omega arith) c, cut-right (left - 1) d q (omega arith) c)
 
 -- a span that is ready can be cut to its depth
-pub ready-cuttable : (k : ℕ) (q : Four) → k ≤ deepest → Ready k q → Cuttable k k q
-ready-cuttable k q h ready =
+pub ready-cuttable : (k d : ℕ) (q : Four) → Ready k d q → Cuttable k d q
+ready-cuttable k d q ready =
     let more : widest ≤ widest * 8 ^ (deepest - k) = le-mul-of-pos-right widest (one-le-pow (deepest - k) 8 (lit< tt)) in
     let i = ready .inside in
     record {
@@ -82,8 +82,8 @@ ready-cuttable k q h ready =
     }
 
 -- before a cut no control is past 2^59
-pub cuttable-small : (l k : ℕ) (q : Four) → Cuttable l k q → Inside (2 ^ 59) q
-cuttable-small l k q cut =
+pub cuttable-small : (l d : ℕ) (q : Four) → Cuttable l d q → Inside (2 ^ 59) q
+cuttable-small l d q cut =
     let fewer : deepest - l ≤ deepest = omega arith in
     let small : widest * 8 ^ (deepest - l) ≤ 2 ^ 59 = le-trans (mul-le-mul-left widest (pow-le-pow-right (lit< tt) fewer)) (lit≤ tt) in
     let i = cut .inside in
@@ -99,20 +99,20 @@ axis-right : (b : Bool) (x y : Four) → cond b (rightHalf x) (rightHalf y) ≡ 
 axis-right true x y = refl
 axis-right false x y = refl
 
-left-number : (l k : ℕ) (x y : Four) (j : ℕ) → paired l k (leftHalf x) (leftHalf y) j ≡ paired (suc l) k x y j
+left-number : (l d : ℕ) (x y : Four) (j : ℕ) → paired l d (leftHalf x) (leftHalf y) j ≡ paired (suc l) d x y j
 unfolding paired
-left-number l k x y j =
-    ap (λ z. nearest z (divisor k))
+left-number l d x y j =
+    ap (λ z. nearest z d)
     (ap (λ q. weighted q (pos (j / 2)) (pos (2 ^ l))) (axis-left (eqb (j % 2) 0) x y)
     ∙ left-half (onAxis x y j) (pos (j / 2)) (pos (2 ^ l))
     ∙ ap (λ (n : ℕ). weighted (onAxis x y j) (pos (j / 2)) (pos n)) (doubled l))
 
-right-number : (l k : ℕ) (x y : Four) (j : ℕ) → paired l k (rightHalf x) (rightHalf y) j ≡ paired (suc l) k x y (perSpan l + j)
+right-number : (l d : ℕ) (x y : Four) (j : ℕ) → paired l d (rightHalf x) (rightHalf y) j ≡ paired (suc l) d x y (perSpan l + j)
 unfolding paired
-right-number l k x y j =
+right-number l d x y j =
     let same : j % 2 ≡ (perSpan l + j) % 2 = omega arith in
     let on : 2 ^ l + j / 2 ≡ (perSpan l + j) / 2 = omega arith in
-    ap (λ z. nearest z (divisor k))
+    ap (λ z. nearest z d)
     (ap (λ q. weighted q (pos (j / 2)) (pos (2 ^ l))) (axis-right (eqb (j % 2) 0) x y)
     ∙ right-half (onAxis x y j) (pos (j / 2)) (pos (2 ^ l))
     ∙ ap (λ (n : ℕ). weighted (onAxis x y j) (pos n) (pos (2 * 2 ^ l))) on
@@ -120,56 +120,56 @@ right-number l k x y j =
     ∙ ap (λ (n : ℕ). weighted (cond (eqb n 0) x y) (pos ((perSpan l + j) / 2)) (pos (2 ^ suc l))) same)
 
 -- the numbers of a piece are those of its halves
-cut-numbers : (l k : ℕ) (x y : Four)
-    → tab (paired (suc l) k x y) 0 (perSpan (suc l)) ≡ tab (paired l k (leftHalf x) (leftHalf y)) 0 (perSpan l) ++ tab (paired l k (rightHalf x) (rightHalf y)) 0 (perSpan l)
-cut-numbers l k x y =
+cut-numbers : (l d : ℕ) (x y : Four)
+    → tab (paired (suc l) d x y) 0 (perSpan (suc l)) ≡ tab (paired l d (leftHalf x) (leftHalf y)) 0 (perSpan l) ++ tab (paired l d (rightHalf x) (rightHalf y)) 0 (perSpan l)
+cut-numbers l d x y =
     let e : perSpan (suc l) ≡ perSpan l + perSpan l = omega (arith, doubled l) in
-    let f = paired (suc l) k x y in
+    let f = paired (suc l) d x y in
     ap (tab f 0) e
     ∙ tab-append f 0 (perSpan l) (perSpan l)
-    ∙ ap (λ v. v ++ tab f (0 + perSpan l) (perSpan l)) (tab-same f (paired l k (leftHalf x) (leftHalf y)) 0 0 (perSpan l) (λ j b. sym (left-number l k x y (0 + j))))
-    ∙ ap (λ v. tab (paired l k (leftHalf x) (leftHalf y)) 0 (perSpan l) ++ v)
-    (tab-same f (paired l k (rightHalf x) (rightHalf y)) (0 + perSpan l) 0 (perSpan l) (λ j b. moved j ∙ sym (right-number l k x y (0 + j))))
+    ∙ ap (λ v. v ++ tab f (0 + perSpan l) (perSpan l)) (tab-same f (paired l d (leftHalf x) (leftHalf y)) 0 0 (perSpan l) (λ j b. sym (left-number l d x y (0 + j))))
+    ∙ ap (λ v. tab (paired l d (leftHalf x) (leftHalf y)) 0 (perSpan l) ++ v)
+    (tab-same f (paired l d (rightHalf x) (rightHalf y)) (0 + perSpan l) 0 (perSpan l) (λ j b. moved j ∙ sym (right-number l d x y (0 + j))))
   where
-    moved : (j : ℕ) → paired (suc l) k x y (0 + perSpan l + j) ≡ paired (suc l) k x y (perSpan l + (0 + j))
-    moved j = ap (paired (suc l) k x y) (omega arith)
+    moved : (j : ℕ) → paired (suc l) d x y (0 + perSpan l + j) ≡ paired (suc l) d x y (perSpan l + (0 + j))
+    moved j = ap (paired (suc l) d x y) (omega arith)
 
 -- the sum at the start of a piece that is not cut on is its first control
 uncut : (q : Four) → weighted q (pos 0) (pos 1) ≡ q .a
 uncut q = weighted-start q (pos 1) ∙ solve (q .a ∷ []) (lit (pos 1) ⊗ lit (pos 1) ⊗ lit (pos 1) ⊗ var 0) (var 0) tt
 
 -- a piece that is not cut on: its start, rounded
-pub leaf-numbers : (left k : ℕ) (x y : Four) (l : List ℤ) (at : ℕ) → left ≡ 0
-    → set (set l at (nearest (x .a) (divisor k))) (at + 1) (nearest (y .a) (divisor k)) ≡ sets l at (tab (paired left k x y) 0 (perSpan left))
+pub leaf-numbers : (left d : ℕ) (x y : Four) (l : List ℤ) (at : ℕ) → left ≡ 0
+    → set (set l at (nearest (x .a) d)) (at + 1) (nearest (y .a) d) ≡ sets l at (tab (paired left d x y) 0 (perSpan left))
 unfolding tab
-leaf-numbers left k x y l at e =
+leaf-numbers left d x y l at e =
     sym
-    (ap (λ (n : ℕ). sets l at (tab (paired n k x y) 0 (perSpan n))) e
-    ∙ ap (λ z. set (set l at z) (suc at) (paired 0 k x y 1)) (paired-x 0 k x y 0 ∙ ap (λ z. nearest z (divisor k)) (uncut x))
-    ∙ ap (λ z. set (set l at (nearest (x .a) (divisor k))) (suc at) z) (paired-y 0 k x y 0 ∙ ap (λ z. nearest z (divisor k)) (uncut y))
-    ∙ ap (λ (n : ℕ). set (set l at (nearest (x .a) (divisor k))) n (nearest (y .a) (divisor k))) (sym (add-one at)))
+    (ap (λ (n : ℕ). sets l at (tab (paired n d x y) 0 (perSpan n))) e
+    ∙ ap (λ z. set (set l at z) (suc at) (paired 0 d x y 1)) (paired-x 0 d x y 0 ∙ ap (λ z. nearest z d) (uncut x))
+    ∙ ap (λ z. set (set l at (nearest (x .a) d)) (suc at) z) (paired-y 0 d x y 0 ∙ ap (λ z. nearest z d) (uncut y))
+    ∙ ap (λ (n : ℕ). set (set l at (nearest (x .a) d)) n (nearest (y .a) d)) (sym (add-one at)))
 
 -- the left half written, and then the right half from half the numbers on
-pub halves-written : (left k : ℕ) (x y : Four) (l : List ℤ) (at : ℕ) → 0 < left → {first second : List ℤ}
-    → first ≡ sets l at (tab (paired (left - 1) k (leftHalf x) (leftHalf y)) 0 (perSpan (left - 1)))
-    → second ≡ sets first (at + 2 ^ left) (tab (paired (left - 1) k (rightHalf x) (rightHalf y)) 0 (perSpan (left - 1)))
-    → second ≡ sets l at (tab (paired left k x y) 0 (perSpan left))
-halves-written left k x y l at h {first} {second} e f =
+pub halves-written : (left d : ℕ) (x y : Four) (l : List ℤ) (at : ℕ) → 0 < left → {first second : List ℤ}
+    → first ≡ sets l at (tab (paired (left - 1) d (leftHalf x) (leftHalf y)) 0 (perSpan (left - 1)))
+    → second ≡ sets first (at + 2 ^ left) (tab (paired (left - 1) d (rightHalf x) (rightHalf y)) 0 (perSpan (left - 1)))
+    → second ≡ sets l at (tab (paired left d x y) 0 (perSpan left))
+halves-written left d x y l at h {first} {second} e f =
     let m = left - 1 in
     let whole : left ≡ suc m = omega arith in
-    let numbers = tab (paired m k (leftHalf x) (leftHalf y)) 0 (perSpan m) in
-    let half : 2 ^ left ≡ length numbers = ap (λ (n : ℕ). 2 ^ n) whole ∙ sym (doubled m) ∙ sym (length-tab (paired m k (leftHalf x) (leftHalf y)) 0 (perSpan m)) in
+    let numbers = tab (paired m d (leftHalf x) (leftHalf y)) 0 (perSpan m) in
+    let half : 2 ^ left ≡ length numbers = ap (λ (n : ℕ). 2 ^ n) whole ∙ sym (doubled m) ∙ sym (length-tab (paired m d (leftHalf x) (leftHalf y)) 0 (perSpan m)) in
     f
-    ∙ ap (λ v. sets v (at + 2 ^ left) (tab (paired m k (rightHalf x) (rightHalf y)) 0 (perSpan m))) e
-    ∙ ap (λ (n : ℕ). sets (sets l at numbers) (at + n) (tab (paired m k (rightHalf x) (rightHalf y)) 0 (perSpan m))) half
-    ∙ sym (sets-append l at numbers (tab (paired m k (rightHalf x) (rightHalf y)) 0 (perSpan m)))
-    ∙ ap (sets l at) (sym (cut-numbers m k x y))
-    ∙ ap (λ (n : ℕ). sets l at (tab (paired n k x y) 0 (perSpan n))) (sym whole)
+    ∙ ap (λ v. sets v (at + 2 ^ left) (tab (paired m d (rightHalf x) (rightHalf y)) 0 (perSpan m))) e
+    ∙ ap (λ (n : ℕ). sets (sets l at numbers) (at + n) (tab (paired m d (rightHalf x) (rightHalf y)) 0 (perSpan m))) half
+    ∙ sym (sets-append l at numbers (tab (paired m d (rightHalf x) (rightHalf y)) 0 (perSpan m)))
+    ∙ ap (sets l at) (sym (cut-numbers m d x y))
+    ∙ ap (λ (n : ℕ). sets l at (tab (paired n d x y) 0 (perSpan n))) (sym whole)
 
 -- and that start is within the divisor's reach
-pub leaf-near : (left k : ℕ) (q : Four) → left ≡ 0 → Cuttable left k q → natAbs (q .a) ≤ divisor k * reach
-leaf-near left k q e cut = subst (λ z. natAbs z ≤ divisor k * reach) (ap (λ (n : ℕ). weighted q (pos 0) (pos (2 ^ n))) e ∙ uncut q) (cut .near 0 (pow-pos left))
+pub leaf-near : (left d : ℕ) (q : Four) → left ≡ 0 → Cuttable left d q → natAbs (q .a) ≤ d * reach
+leaf-near left d q e cut = subst (λ z. natAbs z ≤ d * reach) (ap (λ (n : ℕ). weighted q (pos 0) (pos (2 ^ n))) e ∙ uncut q) (cut .near 0 (pow-pos left))
 
 -- a first control is inside 64 bits
-pub leaf-fits : (left k : ℕ) (q : Four) → Cuttable left k q → SFits w64 (q .a)
-leaf-fits left k q cut = sfits w64 (q .a) (2 ^ 59) (cuttable-small left k q cut .a) tt
+pub leaf-fits : (left d : ℕ) (q : Four) → Cuttable left d q → SFits w64 (q .a)
+leaf-fits left d q cut = sfits w64 (q .a) (2 ^ 59) (cuttable-small left d q cut .a) tt

@@ -3,23 +3,20 @@ use mathlib.Core.Path.{_≡_, refl, ap, _∙_}
 use mathlib.Core.Bool.{cond}
 use mathlib.Core.List.{List, [], _∷_, _++_}
 use Prim.Native.Nat.{ℕ, zero, suc, _+_, _*_, _-_, _/_, _%_, _^_, min, _<_}
-use native.Mathlib.Nat.{mul-left-comm, mul-comm, suc-mul, zero-mul, sub-self, mod-lt, min-eq-left, min-eq-right}
+use native.Mathlib.Nat.{mul-left-comm, suc-mul, zero-mul, sub-self, mod-lt, min-eq-left, min-eq-right}
 use native.Mathlib.Numerals.{add-one}
 use native.Mathlib.Omega.{arith}
 use lib.Arith.{digits-div}
 use lib.Dec.{eqb, lit<}
-use lib.IntN.{ℤ, pos, _*ℤ_}
+use lib.IntN.{ℤ, pos}
 use lib.Pow.{pow-pos}
-use Rattle.whole.specs.Nearest.{nearest, sixfold}
-use Rattle.whole.proofs.Nearest.{nearest-scale}
+use Rattle.whole.specs.Nearest.{nearest}
 use Rattle.curve.specs.declared.Four.{Four}
 use Rattle.curve.specs.declared.Basis.{Basis}
 use Rattle.curve.specs.Numbers.{tab}
 use Rattle.curve.specs.Span.{coordinate, records, sixfoldControls, weighted, divisor, point}
 use Rattle.curve.proofs.Tab.{tab-append, tab-same}
-use Rattle.curve.proofs.Span.{weighted-end}
-use Rattle.curve.proofs.Powers.{cube, cube-pos, thrice}
-use Rattle.spans.specs.Numbers.{number, paired, onAxis, perSpan}
+use Rattle.spans.specs.Numbers.{number, paired, onAxis, ending, perSpan}
 
 -- the sixfold controls of span s on an axis
 abbrev pub spanControls : Basis → List ℤ → ℕ → ℕ → Four
@@ -41,19 +38,19 @@ located b k m controls q s i e f =
 
 -- an axis is x or y
 axis-point : (b : Basis) (k s i : ℕ) (controls : List ℤ) (j : ℕ) → point b k (records b s (coordinate controls (j % 2))) i
-    ≡ nearest (weighted (onAxis (spanControls b controls s 0) (spanControls b controls s 1) j) (pos i) (pos (2 ^ k))) (divisor k)
+    ≡ nearest (weighted (onAxis (spanControls b controls s 0) (spanControls b controls s 1) j) (pos i) (pos (2 ^ k))) (divisor b k)
 unfolding point
 axis-point b k s i controls j = go (j % 2) (mod-lt j (lit< tt))
   where
-    go : (a : ℕ) → a < 2 → nearest (weighted (spanControls b controls s a) (pos i) (pos (2 ^ k))) (divisor k)
-        ≡ nearest (weighted (cond (eqb a 0) (spanControls b controls s 0) (spanControls b controls s 1)) (pos i) (pos (2 ^ k))) (divisor k)
+    go : (a : ℕ) → a < 2 → nearest (weighted (spanControls b controls s a) (pos i) (pos (2 ^ k))) (divisor b k)
+        ≡ nearest (weighted (cond (eqb a 0) (spanControls b controls s 0) (spanControls b controls s 1)) (pos i) (pos (2 ^ k))) (divisor b k)
     go zero h = refl
     go (suc zero) h = refl
     go (suc (suc a)) h = absurd (omega arith)
 
 -- number j of span s
 pub span-number : (b : Basis) (k m : ℕ) (controls : List ℤ) (s j : ℕ) → s < m → j < perSpan k
-    → number b k m controls (s * perSpan k + j) ≡ paired k k (spanControls b controls s 0) (spanControls b controls s 1) j
+    → number b k m controls (s * perSpan k + j) ≡ paired k (divisor b k) (spanControls b controls s 0) (spanControls b controls s 1) j
 unfolding paired
 span-number b k m controls s j h below =
     let q = s * perSpan k + j in
@@ -66,10 +63,10 @@ span-number b k m controls s j h below =
     ∙ axis-point b k s (j / 2) controls j
 
 pub span-numbers : (b : Basis) (k m : ℕ) (controls : List ℤ) (s : ℕ) → s < m
-    → tab (number b k m controls) (s * perSpan k) (perSpan k) ≡ tab (paired k k (spanControls b controls s 0) (spanControls b controls s 1)) 0 (perSpan k)
+    → tab (number b k m controls) (s * perSpan k) (perSpan k) ≡ tab (paired k (divisor b k) (spanControls b controls s 0) (spanControls b controls s 1)) 0 (perSpan k)
 span-numbers b k m controls s h =
-    tab-same (number b k m controls) (paired k k (spanControls b controls s 0) (spanControls b controls s 1)) (s * perSpan k) 0 (perSpan k)
-    (λ j below. span-number b k m controls s j h below ∙ ap (paired k k (spanControls b controls s 0) (spanControls b controls s 1)) (omega arith))
+    tab-same (number b k m controls) (paired k (divisor b k) (spanControls b controls s 0) (spanControls b controls s 1)) (s * perSpan k) 0 (perSpan k)
+    (λ j below. span-number b k m controls s j h below ∙ ap (paired k (divisor b k) (spanControls b controls s 0) (spanControls b controls s 1)) (omega arith))
 
 -- the end of the last span
 pub end-number : (b : Basis) (k m : ℕ) (controls : List ℤ) (r : ℕ) → 0 < m → r < 2
@@ -88,16 +85,6 @@ end-number b k m controls r h below =
     last-span : m * 2 ^ k ≡ (m - 1) * 2 ^ k + 2 ^ k
     last-span = let e : m ≡ suc (m - 1) = omega arith in ap (λ (n : ℕ). n * 2 ^ k) e ∙ suc-mul (m - 1) (2 ^ k)
 
--- which is its last sixfold control over six
-pub end-point : (b : Basis) (k : ℕ) (p : Four) → point b k p (2 ^ k) ≡ nearest (sixfoldControls b p .d) (divisor 0)
-unfolding point cube
-end-point b k p =
-    let d = sixfoldControls b p .d in
-    let c = cube (2 ^ k) in
-    ap (λ z. nearest z (divisor k)) (weighted-end (sixfoldControls b p) (pos (2 ^ k)))
-    ∙ ap (nearest (pos c *ℤ d)) (ap (λ (n : ℕ). sixfold * n) (thrice k) ∙ mul-comm sixfold c)
-    ∙ nearest-scale c d sixfold (cube-pos (2 ^ k) (pow-pos k)) (lit< tt)
-
 -- ---- a run of spans, taken one span at a time
 
 -- the numbers from span s to the end of span m - 1 are span s's and those from span s + 1
@@ -113,8 +100,8 @@ next-span f k m s h =
 
 -- after the last span two numbers are left: its end
 pub last-two : (b : Basis) (k m : ℕ) (controls : List ℤ) → 0 < m
-    → tab (number b k m controls) (m * perSpan k) ((m - m) * perSpan k + 2) ≡ nearest (spanControls b controls (m - 1) 0 .d) (divisor 0) ∷ nearest (spanControls b controls (m - 1) 1 .d) (divisor 0) ∷ []
-unfolding tab
+    → tab (number b k m controls) (m * perSpan k) ((m - m) * perSpan k + 2) ≡ ending k (divisor b k) (spanControls b controls (m - 1) 0) (spanControls b controls (m - 1) 1)
+unfolding tab point
 last-two b k m controls h =
     let w = perSpan k in
     let two : (m - m) * w + 2 ≡ 2 = ap (λ (n : ℕ). n * w + 2) (sub-self m) ∙ ap (λ (n : ℕ). n + 2) (zero-mul w) in
@@ -122,5 +109,5 @@ last-two b k m controls h =
     let here : m * w ≡ m * w + 0 = omega arith in
     let next : suc (m * w) ≡ m * w + 1 = omega arith in
     ap (tab f (m * w)) two
-    ∙ ap (λ z. z ∷ f (suc (m * w)) ∷ []) (ap f here ∙ end-number b k m controls 0 h (lit< tt) ∙ end-point b k (records b (m - 1) (coordinate controls 0)))
-    ∙ ap (λ z. nearest (spanControls b controls (m - 1) 0 .d) (divisor 0) ∷ z ∷ []) (ap f next ∙ end-number b k m controls 1 h (lit< tt) ∙ end-point b k (records b (m - 1) (coordinate controls 1)))
+    ∙ ap (λ z. z ∷ f (suc (m * w)) ∷ []) (ap f here ∙ end-number b k m controls 0 h (lit< tt))
+    ∙ ap (λ z. point b k (records b (m - 1) (coordinate controls 0)) (2 ^ k) ∷ z ∷ []) (ap f next ∙ end-number b k m controls 1 h (lit< tt))

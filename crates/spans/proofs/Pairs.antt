@@ -10,7 +10,7 @@ use lib.Seq.{sets}
 use Rattle.whole.specs.Nearest.{nearest}
 use Rattle.curve.specs.declared.Four.{Four}
 use Rattle.curve.specs.Numbers.{tab}
-use Rattle.curve.specs.Span.{weighted, divisor}
+use Rattle.curve.specs.Span.{weighted}
 use Rattle.spans.specs.Numbers.{paired}
 
 -- the next pair
@@ -38,16 +38,16 @@ unfolding tab
 pair-done f l j i n h = let e : 2 * (n - i) ≡ 0 = omega arith in ap (λ (m : ℕ). sets l j (tab f (2 * i) m)) e
 
 -- the numbers of a step
-pub paired-x : (left k : ℕ) (x y : Four) (i : ℕ) → paired left k x y (2 * i) ≡ nearest (weighted x (pos i) (pos (2 ^ left))) (divisor k)
+pub paired-x : (left d : ℕ) (x y : Four) (i : ℕ) → paired left d x y (2 * i) ≡ nearest (weighted x (pos i) (pos (2 ^ left))) d
 unfolding paired
-paired-x left k x y i =
+paired-x left d x y i =
     let e : 2 * i % 2 ≡ 0 = omega arith in
     let f : 2 * i / 2 ≡ i = omega arith in
     rw (e, f)
 
-pub paired-y : (left k : ℕ) (x y : Four) (i : ℕ) → paired left k x y (2 * i + 1) ≡ nearest (weighted y (pos i) (pos (2 ^ left))) (divisor k)
+pub paired-y : (left d : ℕ) (x y : Four) (i : ℕ) → paired left d x y (2 * i + 1) ≡ nearest (weighted y (pos i) (pos (2 ^ left))) d
 unfolding paired
-paired-y left k x y i =
+paired-y left d x y i =
     let e : (2 * i + 1) % 2 ≡ 1 = omega arith in
     let f : (2 * i + 1) / 2 ≡ i = omega arith in
     rw (e, f)

@@ -1,7 +1,7 @@
 -- The state after n steps from a span's start holds the sum at step n, so the numbers by differences are the span's.
 use mathlib.Core.Path.{_≡_, sym, ap, _∙_, subst}
 use mathlib.Core.Bool.{Bool, true, false, cond}
-use Prim.Native.Nat.{ℕ, zero, suc, _+_, _*_, _/_, _%_, _^_, _≤_, _<_}
+use Prim.Native.Nat.{ℕ, zero, suc, _+_, _*_, _/_, _%_, _^_, _≤_}
 use native.Mathlib.Numerals.{add-one}
 use native.Mathlib.Omega.{arith}
 use lib.Dec.{eqb}
@@ -14,7 +14,7 @@ use Rattle.whole.proofs.Fit.{sfits}
 use Rattle.curve.specs.declared.Four.{Four}
 use Rattle.curve.specs.declared.Differences.{Differences}
 use Rattle.curve.specs.Limits.{Small, reach}
-use Rattle.curve.specs.Span.{weighted, divisor}
+use Rattle.curve.specs.Span.{weighted}
 use Rattle.curve.specs.Ways.{deepest, differences, advance}
 use Rattle.curve.proofs.Ways.{state, begins, advances, state-small}
 use Rattle.spans.specs.Numbers.{paired, after, stepped}
@@ -33,29 +33,29 @@ axis-value : (b : Bool) (x y : Four) (m n : ℕ) → after n (cond b (difference
 axis-value true x y m n = after-value x m n
 axis-value false x y m n = after-value y m n
 
-pub stepped-paired : (k : ℕ) (x y : Four) (j : ℕ) → stepped k (differences x (pos (2 ^ k))) (differences y (pos (2 ^ k))) j ≡ paired k k x y j
+pub stepped-paired : (k d : ℕ) (x y : Four) (j : ℕ) → stepped d (differences x (pos (2 ^ k))) (differences y (pos (2 ^ k))) j ≡ paired k d x y j
 unfolding stepped paired
-stepped-paired k x y j = ap (λ z. nearest z (divisor k)) (axis-value (eqb (j % 2) 0) x y (2 ^ k) (j / 2))
+stepped-paired k d x y j = ap (λ z. nearest z d) (axis-value (eqb (j % 2) 0) x y (2 ^ k) (j / 2))
 
-pub ready-steady : (k : ℕ) (q : Four) → k ≤ deepest → Ready k q → Steady k (differences q (pos (2 ^ k)))
-ready-steady k q h ready =
+pub ready-steady : (k d : ℕ) (q : Four) → k ≤ deepest → Ready k d q → Steady k d (differences q (pos (2 ^ k)))
+ready-steady k d q h ready =
     let deep = pow-mono {i = k} {j = deepest} h in
     record {
       small = λ i b. subst Small (sym (after-state q (2 ^ k) i)) (state-small q i (2 ^ k) (ready .inside) (omega arith) deep);
-      near = λ i b. subst (λ z. natAbs z ≤ divisor k * reach) (sym (after-value q (2 ^ k) i)) (ready .near i (omega arith));
+      near = λ i b. subst (λ z. natAbs z ≤ d * reach) (sym (after-value q (2 ^ k) i)) (ready .near i (omega arith));
     }
 
 -- the numbers of a step
-pub stepped-x : (k : ℕ) (x y : Differences) (i : ℕ) → stepped k x y (2 * i) ≡ nearest (after i x .value) (divisor k)
+pub stepped-x : (d : ℕ) (x y : Differences) (i : ℕ) → stepped d x y (2 * i) ≡ nearest (after i x .value) d
 unfolding stepped
-stepped-x k x y i =
+stepped-x d x y i =
     let e : 2 * i % 2 ≡ 0 = omega arith in
     let f : 2 * i / 2 ≡ i = omega arith in
     rw (e, f)
 
-pub stepped-y : (k : ℕ) (x y : Differences) (i : ℕ) → stepped k x y (2 * i + 1) ≡ nearest (after i y .value) (divisor k)
+pub stepped-y : (d : ℕ) (x y : Differences) (i : ℕ) → stepped d x y (2 * i + 1) ≡ nearest (after i y .value) d
 unfolding stepped
-stepped-y k x y i =
+stepped-y d x y i =
     let e : (2 * i + 1) % 2 ≡ 1 = omega arith in
     let f : (2 * i + 1) / 2 ≡ i = omega arith in
     rw (e, f)

@@ -1,14 +1,15 @@
 // A run of spans: from the start of one to the end of another.
 ghost use mathlib.Core.Path.{_≡_};
-ghost use Prim.Native.Nat.{_+_, _*_, _-_, _≤_, _<_};
-ghost use lib.ListN.{length, set};
+ghost use Prim.Native.Nat.{_+_, _*_, _-_, _^_, _≤_, _<_};
+ghost use lib.IntN.{pos};
+ghost use lib.ListN.{length};
 ghost use lib.Seq.{sets};
+ghost use Rattle.curve.specs.Limits.{Inside, widest};
 ghost use Rattle.curve.specs.Numbers.{tab};
-ghost use Rattle.whole.specs.Nearest.{nearest};
-ghost use Rattle.curve.specs.Span.{coordinate, divisor, records, sixfoldControls};
-ghost use Rattle.curve.specs.Ways.{deepest};
-ghost use Rattle.spans.specs.Numbers.{filled, number, paired, perSpan};
-ghost use Rattle.spans.specs.Ready.{Closable, Drawable, Ready};
+ghost use Rattle.curve.specs.Span.{coordinate, divisorOf, records, sixfoldControls, weighted};
+ghost use Rattle.curve.specs.Ways.{deepest, mostBits};
+ghost use Rattle.spans.specs.Numbers.{ending, filled, number, paired, perSpan};
+ghost use Rattle.spans.specs.Ready.{Drawable, Ready};
 use crate::halving;
 use crate::point::put_point;
 use crate::stepping;
@@ -37,26 +38,37 @@ fn span_controls(controls: &[i32], basis: Basis, span: usize, axis: usize) -> Fo
 }
 
 // The 2^depth points of a span but its end, by a way.
-fn fill_span(way: Way, points: &mut [i32], at: usize, depth: usize, x: Four, y: Four)
-    requires { ⌜ depth ≤ deepest ⌝ }
-    requires { ⌜ Ready depth x × Ready depth y ⌝ }
+fn fill_span(way: Way, points: &mut [i32], at: usize, depth: usize, bits: u32, x: Four, y: Four)
+    requires { ⌜ (depth ≤ deepest) × (bits ≤ mostBits) ⌝ }
+    requires { ⌜ Ready depth (divisorOf bits) x × Ready depth (divisorOf bits) y ⌝ }
     requires { ⌜ at + perSpan depth ≤ length (now points) ⌝ }
-    ensures { λ _. ⌜ now (points .exit) ≡ sets (now (points .entry)) at (tab (paired depth depth x y) 0 (perSpan depth)) ⌝ }
+    ensures { λ _. ⌜ now (points .exit) ≡ sets (now (points .entry)) at (tab (paired depth (divisorOf bits) x y) 0 (perSpan depth)) ⌝ }
 {
     match way {
-        Way::Weights => weights::fill_span(points, at, depth, x, y),
-        Way::Halving => halving::fill_span(points, at, depth, x, y),
-        Way::Differences => stepping::fill_span(points, at, depth, x, y),
+        Way::Weights => weights::fill_span(points, at, depth, bits, x, y),
+        Way::Halving => halving::fill_span(points, at, depth, bits, x, y),
+        Way::Differences => stepping::fill_span(points, at, depth, bits, x, y),
     }
 }
 
-// The end of a span: at t = 1 the sum is its last control alone.
-fn put_end(points: &mut [i32], at: usize, x: Four, y: Four)
-    requires { ⌜ Closable x × Closable y ⌝ }
-    requires { ⌜ at + 2 ≤ length (now points) ⌝ }
-    ensures { λ _. ⌜ now (points .exit) ≡ set (set (now (points .entry)) at (nearest (x .d) (divisor 0))) (at + 1) (nearest (y .d) (divisor 0)) ⌝ }
+// The sum at the end of a span, which is its last control alone, times 2^(3 depth) as every sum is.
+fn end_sum(q: Four, depth: usize) -> i64
+    requires { ⌜ depth ≤ deepest ⌝ }
+    requires { ⌜ Inside widest q ⌝ }
+    ensures { λ r. ⌜ r ≡ weighted q (pos (2 ^ depth)) (pos (2 ^ depth)) ⌝ }
 {
-    put_point(points, at, 0, x.d, y.d);
+    let cubed: i64 = 1 << (3 * depth);
+    cubed * q.d
+}
+
+// The end of a span.
+fn put_end(points: &mut [i32], at: usize, depth: usize, bits: u32, x: Four, y: Four)
+    requires { ⌜ (depth ≤ deepest) × (bits ≤ mostBits) ⌝ }
+    requires { ⌜ Ready depth (divisorOf bits) x × Ready depth (divisorOf bits) y ⌝ }
+    requires { ⌜ at + 2 ≤ length (now points) ⌝ }
+    ensures { λ _. ⌜ now (points .exit) ≡ sets (now (points .entry)) at (ending depth (divisorOf bits) x y) ⌝ }
+{
+    put_point(points, at, bits, end_sum(x, depth), end_sum(y, depth));
 }
 
 // The spans from `from` up to, and not with, `to`, and the end of the last of them.
@@ -74,17 +86,19 @@ pub fn fill_spans(
     requires { ⌜ to * perSpan depth + 2 ≤ length (now points) ⌝ }
     ensures { λ _. ⌜ now (points .exit) ≡ filled (number basis depth to (now (controls .entry))) (from * perSpan depth) ((to - from) * perSpan depth + 2) (now (points .entry)) ⌝ }
 {
+    // The divisor is 6 · 2^bits.
+    let bits = (3 * depth) as u32;
     let stride: usize = 2 << depth;
     let mut span = from;
     let mut at = from * stride;
     while span < to {
         let x = span_controls(controls, basis, span, 0);
         let y = span_controls(controls, basis, span, 1);
-        fill_span(way, points, at, depth, x, y);
+        fill_span(way, points, at, depth, bits, x, y);
         span += 1;
         at += stride;
     }
     let x = span_controls(controls, basis, to - 1, 0);
     let y = span_controls(controls, basis, to - 1, 1);
-    put_end(points, at, x, y);
+    put_end(points, at, depth, bits, x, y);
 }

@@ -4,7 +4,8 @@ ghost use Prim.Native.Nat.{_+_, _≤_};
 ghost use lib.ListN.{length};
 ghost use lib.Seq.{sets};
 ghost use Rattle.curve.specs.Numbers.{tab};
-ghost use Rattle.curve.specs.Ways.{deepest};
+ghost use Rattle.curve.specs.Span.{divisorOf};
+ghost use Rattle.curve.specs.Ways.{deepest, mostBits};
 ghost use Rattle.spans.specs.Numbers.{paired, stepped, perSpan};
 ghost use Rattle.spans.specs.Ready.{Ready, Steady};
 use crate::point::put_point;
@@ -12,11 +13,18 @@ use curve::Differences;
 use curve::Four;
 
 // The points of 2^depth steps from two states on, from number `at` on.
-fn fill_steps(points: &mut [i32], at: usize, depth: usize, x: Differences, y: Differences)
-    requires { ⌜ depth ≤ deepest ⌝ }
-    requires { ⌜ Steady depth x × Steady depth y ⌝ }
+fn fill_steps(
+    points: &mut [i32],
+    at: usize,
+    depth: usize,
+    bits: u32,
+    x: Differences,
+    y: Differences,
+)
+    requires { ⌜ (depth ≤ deepest) × (bits ≤ mostBits) ⌝ }
+    requires { ⌜ Steady depth (divisorOf bits) x × Steady depth (divisorOf bits) y ⌝ }
     requires { ⌜ at + perSpan depth ≤ length (now points) ⌝ }
-    ensures { λ _. ⌜ now (points .exit) ≡ sets (now (points .entry)) at (tab (stepped depth x y) 0 (perSpan depth)) ⌝ }
+    ensures { λ _. ⌜ now (points .exit) ≡ sets (now (points .entry)) at (tab (stepped (divisorOf bits) x y) 0 (perSpan depth)) ⌝ }
 {
     let steps: usize = 1 << depth;
     let mut on_x = x;
@@ -24,7 +32,7 @@ fn fill_steps(points: &mut [i32], at: usize, depth: usize, x: Differences, y: Di
     let mut i = 0;
     let mut j = at;
     while i < steps {
-        put_point(points, j, depth, on_x.value, on_y.value);
+        put_point(points, j, bits, on_x.value, on_y.value);
         on_x = on_x.next();
         on_y = on_y.next();
         i += 1;
@@ -33,17 +41,18 @@ fn fill_steps(points: &mut [i32], at: usize, depth: usize, x: Differences, y: Di
 }
 
 // The 2^depth points of a span but its end, from number `at` on.
-pub(crate) fn fill_span(points: &mut [i32], at: usize, depth: usize, x: Four, y: Four)
-    requires { ⌜ depth ≤ deepest ⌝ }
-    requires { ⌜ Ready depth x × Ready depth y ⌝ }
+pub(crate) fn fill_span(points: &mut [i32], at: usize, depth: usize, bits: u32, x: Four, y: Four)
+    requires { ⌜ (depth ≤ deepest) × (bits ≤ mostBits) ⌝ }
+    requires { ⌜ Ready depth (divisorOf bits) x × Ready depth (divisorOf bits) y ⌝ }
     requires { ⌜ at + perSpan depth ≤ length (now points) ⌝ }
-    ensures { λ _. ⌜ now (points .exit) ≡ sets (now (points .entry)) at (tab (paired depth depth x y) 0 (perSpan depth)) ⌝ }
+    ensures { λ _. ⌜ now (points .exit) ≡ sets (now (points .entry)) at (tab (paired depth (divisorOf bits) x y) 0 (perSpan depth)) ⌝ }
 {
     let steps: i64 = 1 << depth;
     fill_steps(
         points,
         at,
         depth,
+        bits,
         Differences::begin(x, steps),
         Differences::begin(y, steps),
     );

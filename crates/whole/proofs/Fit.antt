@@ -4,17 +4,19 @@
 use mathlib.Core.Path.{_≡_, refl, sym, ap, _∙_, subst}
 use mathlib.Core.Bool.{Bool, _&&_}
 use mathlib.Core.List.{List, [], _∷_}
-use Prim.Native.Nat.{ℕ, zero, suc, _+_, _*_, _-_, _^_, _≤_, _<_}
+use Prim.Native.Nat.{ℕ, zero, suc, _+_, _*_, _-_, _^_, _≤_}
 use native.Mathlib.Omega.{arith}
 use native.Mathlib.Nat.{mul-le-mul, le-refl, le-trans, lt-of-le-of-lt, lt-of-lt-of-le, le-of-eq}
 use lib.Dec.{T, ltb, ltb→lt, lit≤}
 use lib.IntN.{ℤ, pos, negsuc, negℤ, natAbs, subℕ, _+ℤ_, _-ℤ_, _*ℤ_}
-use lib.Signed.{mag}
+use lib.Signed.{mag, shrZ, mag-shr}
 use mir.Syntax.{Width, w32, w64}
 use mir.Val.{SFits, toZ, ofZ, hbits}
 use mir.ValLaws.{toZ-ofZ}
 use Rattle.whole.proofs.Ring.{Ex, var, lit, _⊕_, _⊖_, _⊗_, look, ev, and-left, and-right}
+use Rattle.whole.specs.Nearest.{floor}
 use Rattle.whole.proofs.Order.{subℕ-ind}
+use Rattle.whole.proofs.Floor.{shift-floor}
 
 -- ---- sizes
 
@@ -166,3 +168,14 @@ widened-fits z f = subst (SFits w64) (sym (kept-is w32 z f)) (wider z f)
 
 pub widened : (z : ℤ) → SFits w32 z → kept w64 (kept w32 z) ≡ z
 widened z f = ap (kept w64) (kept-is w32 z f) ∙ kept-is w64 z (wider z f)
+
+-- ---- a shift, as the machine keeps it, is the floor
+
+pub shift-kept : (z : ℤ) (d : ℕ) → SFits w64 z → kept w64 (shrZ (kept w64 z) d) ≡ floor z d
+shift-kept z d f =
+    ap (λ x. kept w64 (shrZ x d)) (kept-is w64 z f)
+    ∙ kept-is w64 (shrZ z d) (record { sfits = lt-of-le-of-lt (mag-shr z d) (f .sfits) })
+    ∙ shift-floor z d
+
+pub mag-floor : (z : ℤ) (d : ℕ) → mag (floor z d) ≤ mag z
+mag-floor z d = subst (λ x. mag x ≤ mag z) (shift-floor z d) (mag-shr z d)

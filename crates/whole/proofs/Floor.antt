@@ -6,10 +6,16 @@ use native.Mathlib.Omega.{arith}
 use native.Mathlib.Nat.{mod-lt, div-add-mod, mul-suc, mul-lt-mul-of-pos-left, le-div-iff-mul-le, le-trans, div-mul-le-self, div-div-eq-div-mul}
 use lib.Dec.{T, leb→le, le→leb}
 use lib.IntN.{ℤ, pos, negsuc, negℤ, _+ℤ_, _-ℤ_, _*ℤ_, +ℤ-idl}
-use lib.Signed.{_≤ℤ_, leZ}
+use lib.Signed.{_≤ℤ_, leZ, shrZ}
 use Rattle.whole.specs.Nearest.{floor}
 use Rattle.whole.proofs.Ring.{var, lit, _⊕_, _⊖_, _⊗_, solve, equal-of-sub}
 use Rattle.whole.proofs.Order.{pos-injective}
+
+-- the machine's shift is the floor over a power of two
+pub shift-floor : (z : ℤ) (d : ℕ) → shrZ z d ≡ floor z d
+unfolding floor
+shift-floor (pos n) d = refl
+shift-floor (negsuc n) d = refl
 
 -- what is left of z past d times its floor
 pub rest : ℤ → ℕ → ℕ
@@ -75,6 +81,10 @@ floor-scale m z d hm hd =
     floor-unique (pos m *ℤ z) (m * d) (floor z d) (m * rest z d) (mul-lt-mul-of-pos-left (rest-lt z d hd) hm)
     (ap (λ x. pos m *ℤ x) (floor-rest z d hd)
     ∙ solve (pos m ∷ pos d ∷ floor z d ∷ pos (rest z d) ∷ []) (var 0 ⊗ (var 1 ⊗ var 2 ⊕ var 3)) (var 0 ⊗ var 1 ⊗ var 2 ⊕ var 0 ⊗ var 3) tt)
+
+-- a multiple of d
+pub floor-whole : (n : ℤ) (d : ℕ) → 0 < d → floor (pos d *ℤ n) d ≡ n
+floor-whole n d h = floor-unique (pos d *ℤ n) d n 0 h (solve (pos d ∷ n ∷ []) (var 0 ⊗ var 1) (var 0 ⊗ var 1 ⊕ lit (pos 0)) tt)
 
 -- a division in two steps
 pub floor-floor : (z : ℤ) (d e : ℕ) → floor (floor z d) e ≡ floor z (d * e)

@@ -4,9 +4,9 @@ use mathlib.Core.List.{[], _∷_}
 use Prim.Native.Nat.{ℕ, zero, suc, _+_, _*_, _-_, _≤_, _<_}
 use native.Mathlib.Omega.{arith}
 use lib.Dec.{T, leb, ltb, leb→le, le→leb, ltb→lt, lt→ltb, nltb→le}
-use lib.IntN.{ℤ, pos, negsuc, negℤ, subℕ, natAbs, _+ℤ_, _-ℤ_, _*ℤ_}
+use lib.IntN.{ℤ, pos, negsuc, negℤ, subℕ, natAbs, _+ℤ_, _*ℤ_}
 use lib.Signed.{_≤ℤ_, _<ℤ_, leZ, ltZ}
-use Rattle.whole.proofs.Ring.{var, lit, _⊕_, _⊖_, _⊗_, solve, cond-ind}
+use Rattle.whole.proofs.Ring.{var, _⊕_, _⊗_, solve, cond-ind}
 
 pub pos-injective : {m n : ℕ} → pos m ≡ pos n → m ≡ n
 pos-injective e = ap natAbs e
@@ -80,12 +80,6 @@ lt-of n {a} {b} e = record { lt = subst (λ z. T (ltZ a z)) (sym e) (lt-more a n
 
 -- ---- laws
 
-pub ≤ℤ-trans : {a b c : ℤ} → a ≤ℤ b → b ≤ℤ c → a ≤ℤ c
-≤ℤ-trans {a} h k =
-    let (m, e) = le-gap h in
-    let (n, f) = le-gap k in
-    le-of (m + n) (f ∙ ap (λ z. z +ℤ pos n) e ∙ solve (a ∷ pos m ∷ pos n ∷ []) (var 0 ⊕ var 1 ⊕ var 2) (var 0 ⊕ (var 1 ⊕ var 2)) tt)
-
 pub +-mono : {a b c d : ℤ} → a ≤ℤ b → c ≤ℤ d → (a +ℤ c) ≤ℤ (b +ℤ d)
 +-mono {a} {b} {c} {d} h k =
     let (m, e) = le-gap h in
@@ -98,27 +92,8 @@ pub *-mono : (w : ℕ) {a b : ℤ} → a ≤ℤ b → (pos w *ℤ a) ≤ℤ (pos
     let (n, e) = le-gap h in
     le-of (w * n) (ap (λ z. pos w *ℤ z) e ∙ solve (pos w ∷ a ∷ pos n ∷ []) (var 0 ⊗ (var 1 ⊕ var 2)) (var 0 ⊗ var 1 ⊕ var 0 ⊗ var 2) tt)
 
--- what is added on both sides may go
-pub ≤ℤ-cancel : (c : ℤ) {a b : ℤ} → (a +ℤ c) ≤ℤ (b +ℤ c) → a ≤ℤ b
-≤ℤ-cancel c {a} {b} h =
-    let (n, e) = le-gap h in
-    le-of n
-    (solve (b ∷ c ∷ []) (var 0) (var 0 ⊕ var 1 ⊖ var 1) tt
-    ∙ ap (λ z. z -ℤ c) e
-    ∙ solve (a ∷ c ∷ pos n ∷ []) (var 0 ⊕ var 1 ⊕ var 2 ⊖ var 1) (var 0 ⊕ var 2) tt)
-
 pub ≤ℤ-pos : {m n : ℕ} → m ≤ n → pos m ≤ℤ pos n
 ≤ℤ-pos {m} {n} h = record { le = le→leb m n h }
-
-pub ≤ℤ-pos⁻¹ : {m n : ℕ} → pos m ≤ℤ pos n → m ≤ n
-≤ℤ-pos⁻¹ {m} {n} h = leb→le m n (h .le)
-
--- the product of two numbers that are not negative
-pub *-nonneg : {a b : ℤ} → pos 0 ≤ℤ a → pos 0 ≤ℤ b → pos 0 ≤ℤ (a *ℤ b)
-*-nonneg {a} {b} h k =
-    let (m, e) = le-gap h in
-    let (n, f) = le-gap k in
-    le-of (m * n) (ap (λ z. z *ℤ b) e ∙ ap (λ z. (pos 0 +ℤ pos m) *ℤ z) f ∙ solve (pos m ∷ pos n ∷ []) ((lit (pos 0) ⊕ var 0) ⊗ (lit (pos 0) ⊕ var 1)) (lit (pos 0) ⊕ var 0 ⊗ var 1) tt)
 
 -- a bound on the size is a bound from both sides
 pub size-above : {z : ℤ} {n : ℕ} → natAbs z ≤ n → z ≤ℤ pos n

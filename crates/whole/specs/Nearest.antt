@@ -19,7 +19,3 @@ nearest z d = floor (pos 2 *ℤ z +ℤ pos d) (2 * d)
 pub record Rounded (z : ℤ) (d : ℕ) (n : ℤ) : Type 0 where
   pub close : 2 * natAbs (z -ℤ pos d *ℤ n) ≤ d
   pub greater : 2 * natAbs (z -ℤ pos d *ℤ n) ≡ d → z ≤ℤ (pos d *ℤ n)
-
--- Six times the Bezier controls of a span are whole for every basis, so a sum of them is rounded over six times a power of two.
-abbrev pub sixfold : ℕ
-sixfold = 6

@@ -1,27 +1,24 @@
 // Whole numbers with a sign: how an exact sum is rounded once. Signed sums are 64 bits wide, and each is proved to fit.
 ghost use mathlib.Core.Path.{_≡_};
-ghost use Prim.Native.Nat.{_*_, _^_, _<_};
+ghost use Prim.Native.Nat.{_*_, _-_, _%_, _^_, _<_};
 ghost use lib.Signed.{mag};
-ghost use Rattle.whole.specs.Nearest.{floor, nearest, sixfold};
+ghost use Rattle.whole.specs.Nearest.{floor, nearest};
 
-// The controls of a span are taken six-fold, so that they are whole for every basis.
-pub const SIXFOLD: i64 = 6;
-
-// The greatest whole number that is at most a sixth of z. A number below zero is mirrored, since `/` cuts the fraction off.
-fn floor_sixth(z: i64) -> i64
-    ensures { λ r. ⌜ r ≡ floor z sixfold ⌝ }
+// The greatest whole number that is at most z / d. A number below zero is mirrored, since `/` cuts the fraction off.
+fn floor_over(z: i64, d: u32) -> i64
+    requires { ⌜ 0 < d ⌝ }
+    ensures { λ r. ⌜ r ≡ floor z d ⌝ }
 {
-    if z < 0 {
-        -1 - (-1 - z) / SIXFOLD
-    } else {
-        z / SIXFOLD
-    }
+    let by = d as i64;
+    if z < 0 { -1 - (-1 - z) / by } else { z / by }
 }
 
-// The whole number nearest to sum / (6 · 2^bits), an exact half to the greater. The power of two is a shift, and what is left a literal divisor.
-pub fn round_sixfold(sum: i64, bits: u32) -> i64
-    requires { ⌜ (mag sum < 2 ^ 62) × (bits < 64) ⌝ }
-    ensures { λ r. ⌜ r ≡ nearest sum (sixfold * 2 ^ bits) ⌝ }
+// The whole number nearest to sum / (multiple · 2^bits), an exact half to the greater. The power of two is a shift, and what is left is a literal where the caller's
+// multiple is one.
+pub fn round_over(sum: i64, multiple: u32, bits: u32) -> i64
+    requires { ⌜ (mag sum < 2 ^ 63 - 2 ^ 31) × (bits < 64) ⌝ }
+    requires { ⌜ (0 < multiple) × (multiple % 2 ≡ 0) ⌝ }
+    ensures { λ r. ⌜ r ≡ nearest sum (multiple * 2 ^ bits) ⌝ }
 {
-    floor_sixth((sum >> bits) + SIXFOLD / 2)
+    floor_over((sum >> bits) + (multiple / 2) as i64, multiple)
 }

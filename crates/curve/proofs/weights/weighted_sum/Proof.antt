@@ -14,7 +14,7 @@ use Rattle.curve.specs.Published.{weights}
 use Rattle.curve.specs.Limits.{widest}
 use Rattle.curve.specs.Span.{weighted}
 use Rattle.curve.specs.Ways.{deepest, tableEntry, nth}
-use Rattle.curve.proofs.Table.{row-entry, weight-size}
+use Rattle.curve.proofs.Table.{row-entry, heaviest, weight-size}
 use Rattle.curve.proofs.weights.weighted_sum.Statement.{statement}
 use Rattle.curve.proofs.weights.weighted_sum.Tie as tie
 
@@ -49,7 +49,7 @@ values c =
     c .before .before .before .weight .result ∷ c .before .before .weight2 .result ∷ c .before .weight3 .result ∷ c .weight4 .result ∷ q .a ∷ q .b ∷ q .c ∷ q .d ∷ []
 
 bounds : List ℕ
-bounds = 2 ^ 22 ∷ 2 ^ 22 ∷ 2 ^ 22 ∷ 2 ^ 22 ∷ widest ∷ widest ∷ widest ∷ widest ∷ []
+bounds = heaviest ∷ heaviest ∷ heaviest ∷ heaviest ∷ widest ∷ widest ∷ widest ∷ widest ∷ []
 
 row : tie.After-weight4 → ℕ
 row c = c .before .before .before .before .args .row
@@ -74,8 +74,8 @@ fourth : (c : tie.After-weight4) → c .weight4 .result ≡ nth (weights (pos (r
 unfolding row
 fourth c = read (row c) 3 (lit< tt) refl (c .weight4 .ensures)
 
-small : (m r : ℕ) → m ≤ 2 ^ deepest → {x : ℤ} → x ≡ nth (weights (pos m) (pos (2 ^ deepest))) r → natAbs x ≤ 2 ^ 22
-small m r k e = subst (λ z. natAbs z ≤ 2 ^ 22) (sym e) (weight-size m r k)
+small : (m r : ℕ) → m ≤ 2 ^ deepest → {x : ℤ} → x ≡ nth (weights (pos m) (pos (2 ^ deepest))) r → natAbs x ≤ heaviest
+small m r k e = subst (λ z. natAbs z ≤ heaviest) (sym e) (weight-size m r k)
 
 bounded : (c : tie.After-weight4) → Bounded (values c) bounds
 unfolding values bounds row

@@ -1,6 +1,6 @@
 -- A span that is ready can be cut to its depth.
-use native.Mathlib.Nat.{le-refl}
 use borrow.Author.Needs.{needs}
+use Rattle.curve.specs.Span.{divisorOf}
 use Rattle.spans.proofs.Halves.{ready-cuttable}
 use Rattle.spans.proofs.halving.fill_span.Statement.{statement}
 use Rattle.spans.proofs.halving.fill_span.Tie as tie
@@ -10,7 +10,7 @@ fill-pieces-requires c κs =
     let s = c .before in
     let a = s .args in
     let p = s .pre in
-    ((le-refl (a .depth), p .0), ((ready-cuttable (a .depth) (a .x) (p .0) (p .1 .0 .0), ready-cuttable (a .depth) (a .y) (p .0) (p .1 .0 .1)), p .1 .1))
+    (p .0, ((ready-cuttable (a .depth) (divisorOf (a .bits)) (a .x) (p .1 .0 .0), ready-cuttable (a .depth) (divisorOf (a .bits)) (a .y) (p .1 .0 .1)), p .1 .1))
 
 same-length : tie.Need-same-length
 same-length c = search needs

@@ -9,7 +9,7 @@ use mir.Val.{SFits}
 use Rattle.whole.specs.Nearest.{nearest}
 use Rattle.whole.proofs.Fit.{kept, kept-is}
 use Rattle.curve.specs.Limits.{reach}
-use Rattle.curve.specs.Span.{divisor}
+use Rattle.curve.specs.Span.{divisorOf}
 use Rattle.spans.proofs.point.put_point.Statement.{statement}
 use Rattle.spans.proofs.point.put_point.Tie as tie
 
@@ -17,7 +17,7 @@ near : (n : ℕ) (z : ℤ) → SFits w64 z → natAbs z ≤ n → natAbs (kept w
 near n z f h = subst (λ x. natAbs x ≤ n) (sym (kept-is w64 z f)) h
 
 rounded-requires : tie.Need-rounded-requires
-rounded-requires c κs = (c .pre .0, near (divisor (c .args .depth) * reach) (c .args .x) (c .fits .x) (c .pre .1 .0 .0))
+rounded-requires c κs = (c .pre .0, near (divisorOf (c .args .bits) * reach) (c .args .x) (c .fits .x) (c .pre .1 .0 .0))
 
 mul-points : tie.Need-mul-points
 mul-points c = omega arith
@@ -26,7 +26,7 @@ slice-set-from-points : tie.Need-slice-set-from-points
 slice-set-from-points c = omega arith
 
 rounded-requires-2 : tie.Need-rounded-requires-2
-rounded-requires-2 c κs = let s = c .before in (s .pre .0, near (divisor (s .args .depth) * reach) (s .args .y) (s .fits .y) (s .pre .1 .0 .1))
+rounded-requires-2 c κs = let s = c .before in (s .pre .0, near (divisorOf (s .args .bits) * reach) (s .args .y) (s .fits .y) (s .pre .1 .0 .1))
 
 add-t7 : tie.Need-add-t7
 add-t7 c = omega arith
@@ -44,7 +44,7 @@ returns : tie.Need-returns
 returns c =
     let s = c .before .before in
     let a = s .args in
-    let d = divisor (a .depth) in
+    let d = divisorOf (a .bits) in
     let x = kept-is w32 (c .before .rounded .result) (record { sfits = c .before .rounded .ok }) ∙ c .before .rounded .ensures ∙ ap (λ z. nearest z d) (kept-is w64 (a .x) (s .fits .x)) in
     let y = kept-is w32 (c .rounded2 .result) (record { sfits = c .rounded2 .ok }) ∙ c .rounded2 .ensures ∙ ap (λ z. nearest z d) (kept-is w64 (a .y) (s .fits .y)) in
     ap (λ z. set (set (a .points .now) (a .at) z) (a .at + 1) (kept w32 (c .rounded2 .result))) x ∙ ap (λ z. set (set (a .points .now) (a .at) (nearest (a .x) d)) (a .at + 1) z) y

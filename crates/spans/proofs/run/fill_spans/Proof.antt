@@ -7,25 +7,25 @@ use native.Mathlib.Numerals.{add-one}
 use native.Mathlib.Omega.{arith}
 use lib.Dec.{lit<}
 use lib.IntN.{ℤ}
-use lib.ListN.{length, set}
+use lib.ListN.{length}
 use lib.Pow.{pow-mono}
 use lib.Seq.{sets}
-use Rattle.whole.specs.Nearest.{nearest}
 use Rattle.curve.specs.declared.Four.{Four}
 use Rattle.curve.specs.Numbers.{tab}
 use Rattle.curve.specs.Span.{divisor}
-use Rattle.curve.specs.Ways.{deepest}
+use Rattle.curve.specs.Ways.{deepest, mostBits}
 use Rattle.curve.proofs.Tab.{length-tab}
-use Rattle.spans.specs.Numbers.{number, paired, perSpan, filled}
-use Rattle.spans.specs.Ready.{Ready, Closable}
+use Rattle.shape.specs.Shape.{mostRecords}
+use Rattle.spans.specs.Numbers.{number, paired, ending, perSpan, filled}
+use Rattle.spans.specs.Ready.{Ready}
 use Rattle.whole.proofs.Writes.{sets-append}
 use Rattle.spans.proofs.Numbers.{spanControls, span-numbers, next-span, last-two}
-use Rattle.spans.proofs.Drawables.{fewer, span-ready, span-closable}
+use Rattle.spans.proofs.Drawables.{fewer, span-ready}
 use Rattle.spans.proofs.run.fill_spans.Statement.{statement}
 use Rattle.spans.proofs.run.fill_spans.Tie as tie
 
 abbrev Inv-loop : tie.InvT-loop
-Inv-loop way points₀ controls basis depth from to stride span₀ at₀ points span at =
+Inv-loop way points₀ controls basis depth from to bits stride span₀ at₀ points span at =
     (stride ≡ perSpan depth)
     × (span ≤ to)
     × (at ≡ span * perSpan depth)
@@ -34,14 +34,24 @@ Inv-loop way points₀ controls basis depth from to stride span₀ at₀ points 
     ≡ filled (number basis depth to controls) (from * perSpan depth) ((to - from) * perSpan depth + 2) points₀)
 
 abbrev μ-loop : tie.MeasureT-loop
-μ-loop way points₀ controls basis depth from to stride span₀ at₀ points span at = to - span
+μ-loop way points₀ controls basis depth from to bits stride span₀ at₀ points span at = to - span
 
 -- 2 shifted left by the depth is a span's numbers
 stride-is : (k : ℕ) → k ≤ deepest → 2 * 2 ^ k % 2 ^ 64 ≡ perSpan k
 stride-is k h = mod-eq-of-lt (lt-of-le-of-lt (mul-le-mul (le-refl 2) (pow-mono {i = k} {j = deepest} h)) (lit< tt))
 
--- a place in a run of at most 64 spans
-place-small : (k s : ℕ) → k ≤ deepest → s ≤ 64 → s * perSpan k ≤ 64 * 128
+-- the divisor's bits
+bits-small : (k : ℕ) → k ≤ deepest → 3 * k ≤ mostBits
+bits-small k h = omega arith
+
+mul-bits : tie.Need-mul-bits Inv-loop μ-loop
+mul-bits c = omega arith
+
+cast-bits : tie.Need-cast-bits Inv-loop μ-loop
+cast-bits c = omega arith
+
+-- a place in a run of spans
+place-small : (k s : ℕ) → k ≤ deepest → s ≤ mostRecords → s * perSpan k ≤ mostRecords * perSpan deepest
 place-small k s h b = mul-le-mul b (mul-le-mul (le-refl 2) (pow-mono {i = k} {j = deepest} h))
 
 shl-stride : tie.Need-shl-stride Inv-loop μ-loop
@@ -86,11 +96,11 @@ fill-span-requires c κs =
     let l = t .before .loop in
     let here : l .span < a .to = omega arith in
     let d = s .pre .1 .0 in (
-      s .pre .0 .0,
+      (s .pre .0 .0, bits-small (a .depth) (s .pre .0 .0)),
       (
         (
-          subst (Ready (a .depth)) (sym (c .before .before .span-controls .ensures)) (span-ready (a .basis) (a .to) (a .controls .now) d (l .span) 0 here (lit< tt) (a .depth)),
-          subst (Ready (a .depth)) (sym (c .before .span-controls2 .ensures)) (span-ready (a .basis) (a .to) (a .controls .now) d (l .span) 1 here (lit< tt) (a .depth)),
+          subst (Ready (a .depth) (divisor (a .basis) (a .depth))) (sym (c .before .before .span-controls .ensures)) (span-ready (a .basis) (a .to) (a .controls .now) d (l .span) 0 here (lit< tt) (a .depth)),
+          subst (Ready (a .depth) (divisor (a .basis) (a .depth))) (sym (c .before .span-controls2 .ensures)) (span-ready (a .basis) (a .to) (a .controls .now) d (l .span) 1 here (lit< tt) (a .depth)),
         ),
         omega (arith, room (a .depth) (l .span) (a .to) (length (a .points .now)) here (s .pre .1 .1)),
       ),
@@ -120,7 +130,7 @@ wrote c =
     let l = t .before .loop in
     let k = a .depth in
     let here : l .span < a .to = omega (arith, t) in
-    let write : Four → Four → List ℤ = λ x y. sets (l .points) (l .at) (tab (paired k k x y) 0 (perSpan k)) in
+    let write : Four → Four → List ℤ = λ x y. sets (l .points) (l .at) (tab (paired k (divisor (a .basis) k) x y) 0 (perSpan k)) in
     c .fill-span .ensures
     ∙ ap (λ x. write x (c .before .before .span-controls2 .result)) (c .before .before .before .span-controls .ensures)
     ∙ ap (write (spanControls (a .basis) (a .controls .now) (l .span) 0)) (c .before .before .span-controls2 .ensures)
@@ -173,11 +183,14 @@ put-end-requires c κs =
     let last : a .to - 1 < a .to = omega arith in
     let d = s .pre .1 .0 in
     let done : l .span ≡ a .to = omega arith in (
+      (s .pre .0 .0, bits-small (a .depth) (s .pre .0 .0)),
       (
-        subst Closable (sym (c .before .before .span-controls3 .ensures)) (span-closable (a .basis) (a .to) (a .controls .now) d (a .to - 1) 0 last (lit< tt)),
-        subst Closable (sym (c .before .span-controls4 .ensures)) (span-closable (a .basis) (a .to) (a .controls .now) d (a .to - 1) 1 last (lit< tt)),
+        (
+          subst (Ready (a .depth) (divisor (a .basis) (a .depth))) (sym (c .before .before .span-controls3 .ensures)) (span-ready (a .basis) (a .to) (a .controls .now) d (a .to - 1) 0 last (lit< tt) (a .depth)),
+          subst (Ready (a .depth) (divisor (a .basis) (a .depth))) (sym (c .before .span-controls4 .ensures)) (span-ready (a .basis) (a .to) (a .controls .now) d (a .to - 1) 1 last (lit< tt) (a .depth)),
+        ),
+        omega (arith, ap (λ (n : ℕ). n * perSpan (a .depth)) done),
       ),
-      omega (arith, ap (λ (n : ℕ). n * perSpan (a .depth)) done),
     )
 
 same-length : tie.Need-same-length Inv-loop μ-loop
@@ -194,16 +207,14 @@ returns c =
     let f = number (a .basis) k (a .to) (a .controls .now) in
     let done : l .span ≡ a .to = omega (arith, t, l .inv .1) in
     let some : 0 < a .to = omega (arith, s .pre .0) in
-    let close : Four → Four → List ℤ = λ x y. set (set (l .points) (l .at) (nearest (x .d) (divisor 0))) (l .at + 1) (nearest (y .d) (divisor 0)) in
+    let close : Four → Four → List ℤ = λ x y. sets (l .points) (l .at) (ending k (divisor (a .basis) k) x y) in
     let x = spanControls (a .basis) (a .controls .now) (a .to - 1) 0 in
-    let y = spanControls (a .basis) (a .controls .now) (a .to - 1) 1 in
     c .before .put-end .ensures
     ∙ ap (λ q. close q (c .before .before .before .span-controls4 .result)) (c .before .before .before .before .span-controls3 .ensures)
     ∙ ap (close x) (c .before .before .before .span-controls4 .ensures)
-    ∙ ap (λ (n : ℕ). set (set (l .points) (l .at) (nearest (x .d) (divisor 0))) n (nearest (y .d) (divisor 0))) (add-one (l .at))
     ∙ ap (sets (l .points) (l .at)) (sym (last-two (a .basis) k (a .to) (a .controls .now) some))
     ∙ ap (λ (n : ℕ). sets (l .points) (l .at) (tab f (n * w) ((a .to - n) * w + 2))) (sym done)
     ∙ l .inv .4
 
 pub fill-spans-spec : {M : Type 1} → statement M
-fill-spans-spec = tie.close (tie.spec Inv-loop μ-loop shl-stride mul-at loop-holds span-controls-requires span-controls-requires-2 fill-span-requires add-span add-at loop-less loop-again sub-span-controls span-controls-requires-3 sub-span-controls-2 span-controls-requires-4 put-end-requires same-length returns)
+fill-spans-spec = tie.close (tie.spec Inv-loop μ-loop mul-bits cast-bits shl-stride mul-at loop-holds span-controls-requires span-controls-requires-2 fill-span-requires add-span add-at loop-less loop-again sub-span-controls span-controls-requires-3 sub-span-controls-2 span-controls-requires-4 put-end-requires same-length returns)

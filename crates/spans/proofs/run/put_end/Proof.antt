@@ -1,42 +1,55 @@
--- A last control is within the reach at depth 0, where it is the sum.
+-- The two sums are the span's at its last step, which are within the reach as those of every step.
 use mathlib.Core.Path.{_≡_, sym, ap, _∙_, subst}
-use Prim.Native.Nat.{_+_, _*_, _≤_}
+use Prim.Native.Nat.{_+_, _*_, _^_, _≤_}
+use native.Mathlib.Nat.{le-refl}
+use native.Mathlib.Numerals.{add-one}
 use native.Mathlib.Omega.{arith}
 use borrow.Author.Needs.{needs}
-use lib.Dec.{lit≤}
-use lib.IntN.{natAbs}
+use lib.IntN.{pos, natAbs}
 use lib.ListN.{set}
 use mir.Syntax.{w64}
 use Rattle.whole.specs.Nearest.{nearest}
-use Rattle.whole.proofs.Fit.{kept, kept-is, sfits}
-use Rattle.curve.specs.declared.Four.{Four}
+use Rattle.whole.proofs.Fit.{kept, kept-is}
 use Rattle.curve.specs.Limits.{reach}
-use Rattle.curve.specs.Span.{divisor}
-use Rattle.spans.specs.Ready.{Closable}
+use Rattle.curve.specs.Span.{weighted, divisorOf}
 use Rattle.spans.proofs.run.put_end.Statement.{statement}
 use Rattle.spans.proofs.run.put_end.Tie as tie
 
-keeps : (q : Four) → Closable q → kept w64 (q .d) ≡ q .d
-keeps q c = kept-is w64 (q .d) (sfits w64 (q .d) (divisor 0 * reach) (c .near) tt)
+end-sum-requires : tie.Need-end-sum-requires
+end-sum-requires c κs = search needs
 
-near : (q : Four) → Closable q → natAbs (kept w64 (q .d)) ≤ divisor 0 * reach
-near q c = subst (λ z. natAbs z ≤ divisor 0 * reach) (sym (keeps q c)) (c .near)
+end-sum-requires-2 : tie.Need-end-sum-requires-2
+end-sum-requires-2 c κs = search needs
+
+-- the sums as the machine keeps them
+sum-x : (c : tie.After-end-sum) → kept w64 (c .end-sum .result) ≡ weighted (c .before .before .args .x) (pos (2 ^ c .before .before .args .depth)) (pos (2 ^ c .before .before .args .depth))
+sum-x c = kept-is w64 (c .end-sum .result) (record { sfits = c .end-sum .ok }) ∙ c .end-sum .ensures
+
+sum-y : (c : tie.After-end-sum2) → kept w64 (c .end-sum2 .result) ≡ weighted (c .before .before .before .args .y) (pos (2 ^ c .before .before .before .args .depth)) (pos (2 ^ c .before .before .before .args .depth))
+sum-y c = kept-is w64 (c .end-sum2 .result) (record { sfits = c .end-sum2 .ok }) ∙ c .end-sum2 .ensures
 
 put-point-requires : tie.Need-put-point-requires
-put-point-requires c κs = let s = c .before .before .before in (lit≤ tt, ((near (s .args .x) (s .pre .0 .0), near (s .args .y) (s .pre .0 .1)), s .pre .1))
+put-point-requires c κs =
+    let s = c .before .before .before in
+    let n = divisorOf (s .args .bits) * reach in
+    let p = s .pre in
+    let last = le-refl (2 ^ s .args .depth) in
+    (p .0 .1, ((subst (λ z. natAbs z ≤ n) (sym (sum-x (c .before))) (p .1 .0 .0 .near _ last), subst (λ z. natAbs z ≤ n) (sym (sum-y c)) (p .1 .0 .1 .near _ last)), omega (arith, p .1 .1)))
 
 same-length : tie.Need-same-length
 same-length c = search needs
 
 returns : tie.Need-returns
 returns c =
-    let s = c .before .before .before .before .before in
-    let a = s .args in
+    let t = c .before .before in
+    let a = t .before .before .before .args in
     let l = a .points .now in
-    let d = divisor 0 in
+    let d = divisorOf (a .bits) in
+    let h = pos (2 ^ a .depth) in
     c .before .put-point .ensures
-    ∙ ap (λ z. set (set l (a .at) (nearest z d)) (a .at + 1) (nearest (kept w64 (a .y .d)) d)) (keeps (a .x) (s .pre .0 .0))
-    ∙ ap (λ z. set (set l (a .at) (nearest (a .x .d) d)) (a .at + 1) (nearest z d)) (keeps (a .y) (s .pre .0 .1))
+    ∙ ap (λ z. set (set l (a .at) (nearest z d)) (a .at + 1) (nearest (kept w64 (t .end-sum2 .result)) d)) (sum-x (t .before))
+    ∙ ap (λ z. set (set l (a .at) (nearest (weighted (a .x) h h) d)) (a .at + 1) (nearest z d)) (sum-y t)
+    ∙ ap (λ n. set (set l (a .at) (nearest (weighted (a .x) h h) d)) n (nearest (weighted (a .y) h h) d)) (add-one (a .at))
 
 pub put-end-spec : {M : Type 1} → statement M
-put-end-spec = tie.close (tie.spec put-point-requires same-length returns)
+put-end-spec = tie.close (tie.spec end-sum-requires end-sum-requires-2 put-point-requires same-length returns)

@@ -13,6 +13,7 @@ use mir.Val.{toZ}
 use mir.ValLaws.{toZ-pos}
 use Rattle.curve.specs.declared.Differences.{Differences}
 use Rattle.curve.specs.Numbers.{tab}
+use Rattle.curve.specs.Span.{divisorOf}
 use Rattle.curve.specs.Ways.{deepest, differences}
 use Rattle.curve.proofs.Tab.{tab-same}
 use Rattle.spans.specs.Numbers.{paired, stepped, perSpan}
@@ -36,17 +37,17 @@ shl-steps : tie.Need-shl-steps
 shl-steps c = search needs
 
 begin-requires : tie.Need-begin-requires
-begin-requires c κs = let s = c .before in (s .pre .1 .0 .0 .inside, few (s .args .depth) (s .pre .0))
+begin-requires c κs = let s = c .before in (s .pre .1 .0 .0 .inside, few (s .args .depth) (s .pre .0 .0))
 
 begin-requires-2 : tie.Need-begin-requires-2
-begin-requires-2 c κs = let s = c .before .before in (s .pre .1 .0 .1 .inside, few (s .args .depth) (s .pre .0))
+begin-requires-2 c κs = let s = c .before .before in (s .pre .1 .0 .1 .inside, few (s .args .depth) (s .pre .0 .0))
 
 -- the states that `begin` answers
 begun-x : (c : tie.After-begin) → c .begin .result ≡ differences (c .before .before .args .x) (pos (2 ^ c .before .before .args .depth))
-begun-x c = let s = c .before .before in c .begin .ensures ∙ ap (differences (s .args .x)) (steps-is (s .args .depth) (s .pre .0))
+begun-x c = let s = c .before .before in c .begin .ensures ∙ ap (differences (s .args .x)) (steps-is (s .args .depth) (s .pre .0 .0))
 
 begun-y : (c : tie.After-begin2) → c .begin2 .result ≡ differences (c .before .before .before .args .y) (pos (2 ^ c .before .before .before .args .depth))
-begun-y c = let s = c .before .before .before in c .begin2 .ensures ∙ ap (differences (s .args .y)) (steps-is (s .args .depth) (s .pre .0))
+begun-y c = let s = c .before .before .before in c .begin2 .ensures ∙ ap (differences (s .args .y)) (steps-is (s .args .depth) (s .pre .0 .0))
 
 fill-steps-requires : tie.Need-fill-steps-requires
 fill-steps-requires c κs =
@@ -56,8 +57,8 @@ fill-steps-requires c κs =
       p .0,
       (
         (
-          subst (Steady (a .depth)) (sym (begun-x (c .before))) (ready-steady (a .depth) (a .x) (p .0) (p .1 .0 .0)),
-          subst (Steady (a .depth)) (sym (begun-y c)) (ready-steady (a .depth) (a .y) (p .0) (p .1 .0 .1)),
+          subst (Steady (a .depth) (divisorOf (a .bits))) (sym (begun-x (c .before))) (ready-steady (a .depth) (divisorOf (a .bits)) (a .x) (p .0 .0) (p .1 .0 .0)),
+          subst (Steady (a .depth) (divisorOf (a .bits))) (sym (begun-y c)) (ready-steady (a .depth) (divisorOf (a .bits)) (a .y) (p .0 .0) (p .1 .0 .1)),
         ),
         p .1 .1,
       ),
@@ -71,12 +72,13 @@ returns c =
     let t = c .before .before in
     let a = t .before .before .before .args in
     let k = a .depth in
+    let d = divisorOf (a .bits) in
     let n = perSpan k in
-    let write : Differences → Differences → _ = λ x y. sets (a .points .now) (a .at) (tab (stepped k x y) 0 n) in
+    let write : Differences → Differences → _ = λ x y. sets (a .points .now) (a .at) (tab (stepped d x y) 0 n) in
     c .before .fill-steps .ensures
     ∙ ap (λ x. write x (t .begin2 .result)) (begun-x (t .before))
     ∙ ap (write (differences (a .x) (pos (2 ^ k)))) (begun-y t)
-    ∙ ap (sets (a .points .now) (a .at)) (tab-same (stepped k (differences (a .x) (pos (2 ^ k))) (differences (a .y) (pos (2 ^ k)))) (paired k k (a .x) (a .y)) 0 0 n (λ j b. stepped-paired k (a .x) (a .y) _))
+    ∙ ap (sets (a .points .now) (a .at)) (tab-same (stepped d (differences (a .x) (pos (2 ^ k))) (differences (a .y) (pos (2 ^ k)))) (paired k d (a .x) (a .y)) 0 0 n (λ j b. stepped-paired k d (a .x) (a .y) _))
 
 pub fill-span-spec : {M : Type 1} → statement M
 fill-span-spec = tie.close (tie.spec cast-steps shl-steps begin-requires begin-requires-2 fill-steps-requires same-length returns)

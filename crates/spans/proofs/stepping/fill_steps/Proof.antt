@@ -11,7 +11,7 @@ use Rattle.whole.proofs.Fit.{kept, kept-is}
 use Rattle.curve.specs.declared.Differences.{Differences}
 use Rattle.curve.specs.Numbers.{tab}
 use Rattle.curve.specs.Limits.{Small, reach}
-use Rattle.curve.specs.Span.{divisor}
+use Rattle.curve.specs.Span.{divisorOf}
 use Rattle.curve.specs.Ways.{advance}
 use Rattle.spans.specs.Numbers.{after, stepped, perSpan}
 use Rattle.spans.specs.Ready.{Steady}
@@ -22,17 +22,17 @@ use Rattle.spans.proofs.stepping.fill_steps.Statement.{statement}
 use Rattle.spans.proofs.stepping.fill_steps.Tie as tie
 
 abbrev Inv-loop : tie.InvT-loop
-Inv-loop points₀ at depth steps on-x₀ on-y₀ i₀ j₀ points on-x on-y i j =
+Inv-loop points₀ at depth bits steps on-x₀ on-y₀ i₀ j₀ points on-x on-y i j =
     (steps ≡ 2 ^ depth)
     × (i ≤ steps)
     × (j ≡ at + 2 * i)
     × (length points ≡ length points₀)
     × (on-x ≡ after i on-x₀)
     × (on-y ≡ after i on-y₀)
-    × (sets points j (tab (stepped depth on-x₀ on-y₀) (2 * i) (2 * (2 ^ depth - i))) ≡ sets points₀ at (tab (stepped depth on-x₀ on-y₀) 0 (perSpan depth)))
+    × (sets points j (tab (stepped (divisorOf bits) on-x₀ on-y₀) (2 * i) (2 * (2 ^ depth - i))) ≡ sets points₀ at (tab (stepped (divisorOf bits) on-x₀ on-y₀) 0 (perSpan depth)))
 
 abbrev μ-loop : tie.MeasureT-loop
-μ-loop points₀ at depth steps on-x₀ on-y₀ i₀ j₀ points on-x on-y i j = steps - i
+μ-loop points₀ at depth bits steps on-x₀ on-y₀ i₀ j₀ points on-x on-y i j = steps - i
 
 shl-steps : tie.Need-shl-steps Inv-loop μ-loop
 shl-steps c = omega arith
@@ -41,29 +41,29 @@ loop-holds : tie.Need-loop-holds Inv-loop μ-loop
 unfolding after
 loop-holds c =
     let k = c .args .depth in
-    (shift-one k (omega arith), omega arith, omega arith, refl, refl, refl, ap (λ (n : ℕ). sets (c .args .points .now) (c .args .at) (tab (stepped k (c .args .x) (c .args .y)) 0 n)) (omega arith))
+    (shift-one k (omega arith), omega arith, omega arith, refl, refl, refl, ap (λ (n : ℕ). sets (c .args .points .now) (c .args .at) (tab (stepped (divisorOf (c .args .bits)) (c .args .x) (c .args .y)) 0 n)) (omega arith))
 
 -- a state of the loop is one of the steady run
-steady : (k i : ℕ) (s t : Differences) → i < 2 ^ k → t ≡ after i s → Steady k s → Small t × (natAbs (kept w64 (t .value)) ≤ divisor k * reach)
-steady k i s t h e run =
+steady : (k d i : ℕ) (s t : Differences) → i < 2 ^ k → t ≡ after i s → Steady k d s → Small t × (natAbs (kept w64 (t .value)) ≤ d * reach)
+steady k d i s t h e run =
     let small = subst Small (sym e) (run .small i h) in
-    (small, subst (λ z. natAbs z ≤ divisor k * reach) (ap (λ (u : Differences). u .value) (sym e) ∙ sym (kept-is w64 (t .value) (value-fits t small))) (run .near i h))
+    (small, subst (λ z. natAbs z ≤ d * reach) (ap (λ (u : Differences). u .value) (sym e) ∙ sym (kept-is w64 (t .value) (value-fits t small))) (run .near i h))
 
 -- the loop's test and invariant, at a turn's start
-turn-x : (c : tie.In-loop Inv-loop μ-loop) → Small (c .before .loop .on-x) × (natAbs (kept w64 (c .before .loop .on-x .value)) ≤ divisor (c .before .before .args .depth) * reach)
+turn-x : (c : tie.In-loop Inv-loop μ-loop) → Small (c .before .loop .on-x) × (natAbs (kept w64 (c .before .loop .on-x .value)) ≤ divisorOf (c .before .before .args .bits) * reach)
 turn-x c =
     let s = c .before .before in
     let l = c .before .loop in
-    steady (s .args .depth) (l .i) (s .args .x) (l .on-x) (omega arith) (l .inv .4) (s .pre .1 .0 .0)
+    steady (s .args .depth) (divisorOf (s .args .bits)) (l .i) (s .args .x) (l .on-x) (omega arith) (l .inv .4) (s .pre .1 .0 .0)
 
-turn-y : (c : tie.In-loop Inv-loop μ-loop) → Small (c .before .loop .on-y) × (natAbs (kept w64 (c .before .loop .on-y .value)) ≤ divisor (c .before .before .args .depth) * reach)
+turn-y : (c : tie.In-loop Inv-loop μ-loop) → Small (c .before .loop .on-y) × (natAbs (kept w64 (c .before .loop .on-y .value)) ≤ divisorOf (c .before .before .args .bits) * reach)
 turn-y c =
     let s = c .before .before in
     let l = c .before .loop in
-    steady (s .args .depth) (l .i) (s .args .y) (l .on-y) (omega arith) (l .inv .5) (s .pre .1 .0 .1)
+    steady (s .args .depth) (divisorOf (s .args .bits)) (l .i) (s .args .y) (l .on-y) (omega arith) (l .inv .5) (s .pre .1 .0 .1)
 
 put-point-requires : tie.Need-put-point-requires Inv-loop μ-loop
-put-point-requires c κs = let t = c .before .before .before in (t .before .before .pre .0, ((turn-x t .1, turn-y t .1), omega arith))
+put-point-requires c κs = let t = c .before .before .before in (t .before .before .pre .0 .1, ((turn-x t .1, turn-y t .1), omega arith))
 
 next-requires : tie.Need-next-requires Inv-loop μ-loop
 next-requires c κs = turn-x (c .before .before .before .before .before) .0
@@ -81,23 +81,23 @@ loop-less : tie.Need-loop-less Inv-loop μ-loop
 loop-less c = omega (arith, c .before .before .before .before .before .before .before)
 
 -- the number that a turn writes from a state is the rule's
-number : (k i : ℕ) (s t : Differences) → t ≡ after i s → Small t → nearest (kept w64 (t .value)) (divisor k) ≡ nearest (after i s .value) (divisor k)
-number k i s t e small = ap (λ z. nearest z (divisor k)) (kept-is w64 (t .value) (value-fits t small) ∙ ap (λ (u : Differences). u .value) e)
+number : (d i : ℕ) (s t : Differences) → t ≡ after i s → Small t → nearest (kept w64 (t .value)) d ≡ nearest (after i s .value) d
+number d i s t e small = ap (λ z. nearest z d) (kept-is w64 (t .value) (value-fits t small) ∙ ap (λ (u : Differences). u .value) e)
 
 -- what a turn writes is the rule's next pair
 wrote : (c : tie.After-put-point Inv-loop μ-loop) → c .put-point .last .0
-    ≡ set (set (c .before .before .before .before .before .loop .points) (c .before .before .before .before .before .loop .j) (stepped (c .before .before .before .before .before .before .args .depth) (c .before .before .before .before .before .before .args .x) (c .before .before .before .before .before .before .args .y) (2 * c .before .before .before .before .before .loop .i)))
+    ≡ set (set (c .before .before .before .before .before .loop .points) (c .before .before .before .before .before .loop .j) (stepped (divisorOf (c .before .before .before .before .before .before .args .bits)) (c .before .before .before .before .before .before .args .x) (c .before .before .before .before .before .before .args .y) (2 * c .before .before .before .before .before .loop .i)))
     (c .before .before .before .before .before .loop .j + 1)
-    (stepped (c .before .before .before .before .before .before .args .depth) (c .before .before .before .before .before .before .args .x) (c .before .before .before .before .before .before .args .y) (2 * c .before .before .before .before .before .loop .i + 1))
+    (stepped (divisorOf (c .before .before .before .before .before .before .args .bits)) (c .before .before .before .before .before .before .args .x) (c .before .before .before .before .before .before .args .y) (2 * c .before .before .before .before .before .loop .i + 1))
 wrote c =
     let t = c .before .before .before .before in
     let l = t .before .loop in
     let a = t .before .before .args in
-    let k = a .depth in
-    let y = nearest (kept w64 (l .on-y .value)) (divisor k) in
+    let d = divisorOf (a .bits) in
+    let y = nearest (kept w64 (l .on-y .value)) d in
     c .put-point .ensures
-    ∙ ap (λ z. set (set (l .points) (l .j) z) (l .j + 1) y) (number k (l .i) (a .x) (l .on-x) (l .inv .4) (turn-x t .0) ∙ sym (stepped-x k (a .x) (a .y) (l .i)))
-    ∙ ap (λ z. set (set (l .points) (l .j) (stepped k (a .x) (a .y) (2 * l .i))) (l .j + 1) z) (number k (l .i) (a .y) (l .on-y) (l .inv .5) (turn-y t .0) ∙ sym (stepped-y k (a .x) (a .y) (l .i)))
+    ∙ ap (λ z. set (set (l .points) (l .j) z) (l .j + 1) y) (number d (l .i) (a .x) (l .on-x) (l .inv .4) (turn-x t .0) ∙ sym (stepped-x d (a .x) (a .y) (l .i)))
+    ∙ ap (λ z. set (set (l .points) (l .j) (stepped d (a .x) (a .y) (2 * l .i))) (l .j + 1) z) (number d (l .i) (a .y) (l .on-y) (l .inv .5) (turn-y t .0) ∙ sym (stepped-y d (a .x) (a .y) (l .i)))
 
 loop-again : tie.Need-loop-again Inv-loop μ-loop
 loop-again c =
@@ -105,7 +105,7 @@ loop-again c =
     let l = t .before .loop in
     let a = t .before .before .args in
     let k = a .depth in
-    let f = stepped k (a .x) (a .y) in
+    let f = stepped (divisorOf (a .bits)) (a .x) (a .y) in
     let here : l .i < 2 ^ k = omega (arith, t) in (
       l .inv .0,
       omega (arith, t),
@@ -123,7 +123,7 @@ returns : tie.Need-returns Inv-loop μ-loop
 returns c =
     let l = c .before .loop in
     let a = c .before .before .args in
-    sym (pair-done (stepped (a .depth) (a .x) (a .y)) (l .points) (l .j) (l .i) (2 ^ a .depth) (omega arith)) ∙ l .inv .6
+    sym (pair-done (stepped (divisorOf (a .bits)) (a .x) (a .y)) (l .points) (l .j) (l .i) (2 ^ a .depth) (omega arith)) ∙ l .inv .6
 
 pub fill-steps-spec : {M : Type 1} → statement M
 fill-steps-spec = tie.close (tie.spec Inv-loop μ-loop shl-steps loop-holds put-point-requires next-requires next-requires-2 add-i add-j loop-less loop-again same-length returns)
