@@ -4,6 +4,7 @@ use mathlib.Core.List.{List}
 use Prim.Native.Nat.{ℕ, _*_}
 use lib.IntN.{ℤ, pos}
 use lib.ListN.{replicate, take}
+use Rattle.whole.specs.Outcome.{Outcome, outcome}
 use Rattle.shape.specs.declared.Shape.{Shape}
 use Rattle.shape.specs.declared.Refusal.{Refusal}
 use Rattle.shape.specs.Refusals.{planOf}
@@ -16,7 +17,6 @@ use Rattle.record_file.specs.Rows.{reading}
 use Rattle.listing.specs.declared.Put.{Put}
 use Rattle.listing.specs.declared.Put.the-variants.{End, Full}
 use Rattle.listing.specs.Listing.{outlineText, refusalText}
-use Rattle.listing.specs.Written as listing
 use Rattle.listing.specs.Written.{written}
 
 -- The lists that are lent to the calls, zeros alone: room for 64 records, and for the most points, those of 61 spans at depth 6.
@@ -51,22 +51,14 @@ fileText file = let o = reading file controls in readText (o .held) (o .answer)
 abbrev pub mostText : ℕ
 mostText = 113257
 
--- An answer, how many characters were written, and what the lent text holds then.
-pub record Outcome : Type 0 where
-  pub count : ℕ
-  pub held : List ℕ
-
-abbrev pub outcome : ℕ → List ℕ → Outcome
-outcome n l = record { count = n; held = l }
-
 -- Text from the start on counts up to its end; 0 where it did not fit.
 abbrev pub countOf : Put → ℕ
 countOf (End n) = n
 countOf Full = 0
 
-abbrev pub counted : listing.Outcome → Outcome
+abbrev pub counted : Outcome Put (List ℕ) → Outcome ℕ (List ℕ)
 counted o = outcome (countOf (o .answer)) (o .held)
 
--- The file's text from the start of the lent text on, and all past it kept; where it does not fit, nothing.
-unfoldable pub lists : List ℕ → List ℕ → Outcome
+-- How many characters were written, and the lent text then: the file's text from its start on, and all past it kept; where it does not fit, nothing.
+unfoldable pub lists : List ℕ → List ℕ → Outcome ℕ (List ℕ)
 lists file text = counted (written text 0 (fileText file))

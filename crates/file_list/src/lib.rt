@@ -1,10 +1,10 @@
 // The listing of a record file: what outline-list writes for it. The one public call, `list_file`, has no `requires`: it is total on any bytes.
 ghost use mathlib.Core.Path.{_≡_};
+ghost use Rattle.whole.specs.Outcome.{outcome};
 ghost use Rattle.io.specs.Counts.{Counts};
 ghost use Rattle.shape.specs.Refusals.{planOf};
-ghost use Rattle.listing.specs.Written as listing;
 ghost use Rattle.listing.specs.Written.{written};
-ghost use Rattle.file_list.specs.Files.{fileText, lists, outcome, refusedText, shapeText};
+ghost use Rattle.file_list.specs.Files.{fileText, lists, refusedText, shapeText};
 use listing::Put;
 use listing::list_outline;
 use listing::list_refusal;
@@ -38,7 +38,7 @@ pub fn list_file(file: &[u8], text: &mut [u8]) -> usize
 
 // The file's records as controls, and the listing of their shape.
 fn put_file(file: &[u8], text: &mut [u8]) -> Put
-    ensures { λ r. ⌜ listing.outcome r (now (text .exit)) ≡ written (now (text .entry)) 0 (fileText (now (file .entry))) ⌝ }
+    ensures { λ r. ⌜ outcome r (now (text .exit)) ≡ written (now (text .entry)) 0 (fileText (now (file .entry))) ⌝ }
 {
     let mut controls = [0i32; MOST_CONTROLS];
     match read(file, &mut controls) {
@@ -49,7 +49,7 @@ fn put_file(file: &[u8], text: &mut [u8]) -> Put
 
 // The spans of a shape, which the heading names, and the listing of its outline.
 fn put_shape(shape: Shape, controls: &[i32], text: &mut [u8]) -> Put
-    ensures { λ r. ⌜ listing.outcome r (now (text .exit)) ≡ written (now (text .entry)) 0 (shapeText shape (now (controls .entry))) ⌝ }
+    ensures { λ r. ⌜ outcome r (now (text .exit)) ≡ written (now (text .entry)) 0 (shapeText shape (now (controls .entry))) ⌝ }
 {
     match check_shape(shape) {
         Judged::Unsound(refusal) => put_refusal(refusal, text),
@@ -60,7 +60,7 @@ fn put_shape(shape: Shape, controls: &[i32], text: &mut [u8]) -> Put
 // The outline of a shape of so many spans, listed.
 fn put_outline(shape: Shape, spans: usize, controls: &[i32], text: &mut [u8]) -> Put
     requires { ⌜ spans ≡ planOf shape .spans ⌝ }
-    ensures { λ r. ⌜ listing.outcome r (now (text .exit)) ≡ written (now (text .entry)) 0 (shapeText shape (now (controls .entry))) ⌝ }
+    ensures { λ r. ⌜ outcome r (now (text .exit)) ≡ written (now (text .entry)) 0 (shapeText shape (now (controls .entry))) ⌝ }
 {
     let mut points = [0i32; MOST_NUMBERS];
     match by_weights(shape, controls, &mut points) {
@@ -73,7 +73,7 @@ fn put_outline(shape: Shape, spans: usize, controls: &[i32], text: &mut [u8]) ->
 
 // The line of a refusal.
 fn put_refusal(refusal: Refusal, text: &mut [u8]) -> Put
-    ensures { λ r. ⌜ listing.outcome r (now (text .exit)) ≡ written (now (text .entry)) 0 (refusedText refusal) ⌝ }
+    ensures { λ r. ⌜ outcome r (now (text .exit)) ≡ written (now (text .entry)) 0 (refusedText refusal) ⌝ }
 {
     list_refusal(text, refusal.number, refusal.place)
 }

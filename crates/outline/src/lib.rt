@@ -1,8 +1,9 @@
 // The outline of a shape in the lent points, three ways, and the view of one of its spans. Every public call takes any input to an end: none has a `requires`.
 ghost use mathlib.Core.Path.{_≡_};
 ghost use Prim.Native.Nat.{_+_, _*_};
+ghost use Rattle.whole.specs.Outcome.{outcome};
 ghost use Rattle.shape.specs.Good.{Good};
-ghost use Rattle.outline.specs.Outline.{draws, drawsPlan, outcome};
+ghost use Rattle.outline.specs.Outline.{draws, drawsPlan};
 ghost use Rattle.outline.specs.View.{partOf, viewed};
 use shape::Judged;
 use shape::Listed;

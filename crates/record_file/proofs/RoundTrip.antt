@@ -11,6 +11,7 @@ use lib.Dec.{eqb}
 use lib.IntN.{ℤ, pos, negsuc, natAbs}
 use lib.ListN.{length, getD}
 use lib.Seq.{sets, ext-getD}
+use Rattle.whole.specs.Outcome.{outcome}
 use Rattle.curve.specs.Limits.{limit}
 use Rattle.curve.specs.Span.{coordinate}
 use Rattle.curve.proofs.Tab.{length-tab, getD-tab}
@@ -20,7 +21,7 @@ use Rattle.shape.specs.Good.{Lent}
 use Rattle.shape.proofs.Refusals.{none-both, none-earlier, row-fails, good-plan, lent-facts}
 use Rattle.record_file.specs.declared.Reading.the-variants.{Read}
 use Rattle.record_file.specs.Format.{byte, word, signed, number, numbers, unsigned, encoded}
-use Rattle.record_file.specs.Rows.{mostBytes, recordRows, recordCount, laterRows, fileRows, shapeOf, both, accepting, reading}
+use Rattle.record_file.specs.Rows.{mostBytes, recordRows, recordCount, laterRows, fileRows, shapeOf, accepts, reading}
 use Rattle.record_file.proofs.Words.{signed-low, signed-high}
 use Rattle.record_file.proofs.Exactly.{none-read}
 
@@ -135,7 +136,7 @@ module _ (basis depth n : ℕ) (records controls : List ℤ) (even : length reco
       (alike (byte file r 2) (byte file r 3) 0 0 c d, (alike (byte file r 0) (byte file r 1) (byte file 0 0) (byte file 0 1) (a ∙ sym a₀) (b ∙ sym b₀), records-pass (suc r) m (omega arith)))
 
   -- Reading a file of given records gives them back, wherever the rows of the records themselves pass: 1, 2, 3, 7 and 8.
-  pub read-back : NoRow (shapeRows given ++ (controlsRow n controls ∷ limitsRow n records ∷ [])) → reading file controls ≡ both (Read given) (sets controls 0 records)
+  pub read-back : NoRow (shapeRows given ++ (controlsRow n controls ∷ limitsRow n records ∷ [])) → reading file controls ≡ outcome (Read given) (sets controls 0 records)
   read-back h =
       let lists = controlsRow n controls ∷ limitsRow n records ∷ [] in
       let good = good-plan given (none-earlier (shapeRows given) lists h) in
@@ -157,7 +158,7 @@ module _ (basis depth n : ℕ) (records controls : List ℤ) (even : length reco
               (subst (λ v. NoRow (shapeRows given ++ (controlsRow n controls ∷ limitsRow n v ∷ []))) (sym whole) h))),
         ),
       ) in
-      none-read file controls none ∙ ap (λ (m : ℕ). accepting file m controls) count ∙ (λ k. both (Read (shape k)) (sets controls 0 (whole k)))
+      none-read file controls none ∙ ap (λ (m : ℕ). accepts file m controls) count ∙ (λ k. outcome (Read (shape k)) (sets controls 0 (whole k)))
     where
       same : Lent n records 0 0 → numbers file n ≡ records
       same lent =

@@ -3,10 +3,11 @@ ghost use mathlib.Core.Path.{_≡_};
 ghost use Prim.Native.Nat.{_+_, _*_, _≤_};
 ghost use lib.ListN.{length};
 ghost use lib.Seq.{sets};
+ghost use Rattle.whole.specs.Outcome.{outcome, refuses};
 ghost use Rattle.shape.specs.Refusals.{judge};
 ghost use Rattle.shape.specs.Shape.{mostRecords};
 ghost use Rattle.record_file.specs.Format.{word, signed, numbers};
-ghost use Rattle.record_file.specs.Rows.{both, reading, fault, recordRows, laterRows, listRows, refusing, accepting};
+ghost use Rattle.record_file.specs.Rows.{reading, fault, recordRows, laterRows, listRows, accepts};
 use shape::Judged;
 use shape::Listed;
 use shape::Refusal;
@@ -116,7 +117,7 @@ fn check_records(file: &[u8], count: usize) -> Listed
 // Rows 7 and 8, and then the controls. The records are looked at in a list of our own first, so that a refusal writes nothing.
 fn read_numbers(file: &[u8], shape: Shape, controls: &mut [i32]) -> Reading
     requires { ⌜ (shape .count ≤ mostRecords) × (12 * shape .count ≤ length (now file)) ⌝ }
-    ensures { λ r. ⌜ both r (now (controls .exit)) ≡ judge (listRows (now (file .entry)) (shape .count) (now (controls .entry))) (refusing (now (controls .entry))) (both (Reading.Read shape) (sets (now (controls .entry)) 0 (numbers (now (file .entry)) (shape .count)))) ⌝ }
+    ensures { λ r. ⌜ outcome r (now (controls .exit)) ≡ judge (listRows (now (file .entry)) (shape .count) (now (controls .entry))) (refuses Reading.Refused (now (controls .entry))) (outcome (Reading.Read shape) (sets (now (controls .entry)) 0 (numbers (now (file .entry)) (shape .count)))) ⌝ }
 {
     let count = shape.count;
     if controls.len() < 2 * count {
@@ -141,7 +142,7 @@ fn read_numbers(file: &[u8], shape: Shape, controls: &mut [i32]) -> Reading
 // Rows 1, 2, 3 for the shape of the first record, and on.
 fn read_records(file: &[u8], count: usize, controls: &mut [i32]) -> Reading
     requires { ⌜ (1 ≤ count) × (count ≤ mostRecords) × (12 * count ≤ length (now file)) ⌝ }
-    ensures { λ r. ⌜ both r (now (controls .exit)) ≡ judge (laterRows (now (file .entry)) count (now (controls .entry))) (refusing (now (controls .entry))) (accepting (now (file .entry)) count (now (controls .entry))) ⌝ }
+    ensures { λ r. ⌜ outcome r (now (controls .exit)) ≡ judge (laterRows (now (file .entry)) count (now (controls .entry))) (refuses Reading.Refused (now (controls .entry))) (accepts (now (file .entry)) count (now (controls .entry))) ⌝ }
 {
     let shape = Shape {
         basis: file[0] as usize,
@@ -157,7 +158,7 @@ fn read_records(file: &[u8], count: usize, controls: &mut [i32]) -> Reading
 // Reads a record file: the checks of document 01 in its order, 3 for the length, 13, then record by record 14 and 15, then 1, 2, 3, 7, 8. An accepted file writes two
 // numbers for each record from the start of the controls on, x then y, keeps all past them, and answers the shape. A refusal answers its number and place and writes nothing.
 pub fn read(file: &[u8], controls: &mut [i32]) -> Reading
-    ensures { λ r. ⌜ both r (now (controls .exit)) ≡ reading (now (file .entry)) (now (controls .entry)) ⌝ }
+    ensures { λ r. ⌜ outcome r (now (controls .exit)) ≡ reading (now (file .entry)) (now (controls .entry)) ⌝ }
 {
     let length = file.len();
     if length == 0 {
