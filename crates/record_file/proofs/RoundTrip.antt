@@ -19,6 +19,7 @@ use Rattle.shape.specs.declared.Shape.{Shape}
 use Rattle.shape.specs.Refusals.{NoRow, shapeRows, controlsRow, limitsRow}
 use Rattle.shape.specs.Good.{Lent}
 use Rattle.shape.proofs.Refusals.{none-both, none-earlier, row-fails, good-plan, lent-facts}
+use Rattle.shape.specs.Shape.{mostRecords}
 use Rattle.record_file.specs.declared.Reading.the-variants.{Read}
 use Rattle.record_file.specs.Format.{byte, word, signed, number, numbers, unsigned, encoded}
 use Rattle.record_file.specs.Rows.{mostBytes, recordRows, recordCount, laterRows, fileRows, shapeOf, accepts, reading}
@@ -142,7 +143,7 @@ module _ (basis depth n : ℕ) (records controls : List ℤ) (even : length reco
       let good = good-plan given (none-earlier (shapeRows given) lists h) in
       let lent = lent-facts n records 0 0 (omega arith) (row-fails 8 (shapeRows given ++ lists) h) (omega arith) in
       let some : 4 ≤ n = omega (arith, good .spans-least, good .spans-most) in
-      let few : n ≤ 64 = good .records-most in
+      let few : n ≤ mostRecords = good .records-most in
       let long = length-encoded basis depth records n even in
       let count : recordCount file ≡ n = omega (arith, long) in
       let (first, second, zero-2, zero-3) = heads basis depth records n 0 even (omega arith) in

@@ -6,6 +6,7 @@ use Prim.Native.Nat.{_+_, _*_, _≤_, _<_}
 use lib.IntN.{ℤ}
 use lib.ListN.{length}
 use Rattle.whole.specs.Outcome.{outcome, refuses}
+use Rattle.shape.specs.Shape.{mostRecords}
 use Rattle.drawing.specs.declared.State.{State}
 use native.Mathlib.Omega.{arith}
 use borrow.Author.Tests.{not-true, not-false}
@@ -19,7 +20,7 @@ use borrow.Author.Needs.{needs}
 use Rattle.drawing.proofs.State.close.Statement.{statement}
 use Rattle.drawing.proofs.State.close.Tie as tie
 
-few : (s : State) → judgeState s false ≡ Fine → s .count ≤ 64
+few : (s : State) → judgeState s false ≡ Fine → s .count ≤ mostRecords
 few s e = reached-most (s .count) (fine-reached s false e)
 
 lined : (s : State) (l : List ℤ) → same (s .current) (s .start) ≡ false → goesOn s Close l ≡ extends s (line (s .current) (s .start)) (s .start) true l
@@ -30,7 +31,7 @@ nothing : (s : State) (l : List ℤ) → same (s .current) (s .start) ≡ true �
 unfolding added
 nothing s l e = numbers-good s Close l tt ∙ ap (λ cs. extends s cs (s .start) true l) (rw e)
 
-module _ (s : State) (l : List ℤ) (e : same (s .current) (s .start) ≡ true) (h : s .count ≤ 64) where
+module _ (s : State) (l : List ℤ) (e : same (s .current) (s .start) ≡ true) (h : s .count ≤ mostRecords) where
   no-room : length l < 2 * s .count → goesOn s Close l ≡ refuses Refused l (record { number = 7; place = 0 })
   no-room short = nothing s l e ∙ too-short s [] (s .start) true l (omega arith) (omega arith)
 
