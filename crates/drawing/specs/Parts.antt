@@ -8,14 +8,14 @@ use lib.ListN.{length}
 use lib.Seq.{sets}
 use Rattle.whole.specs.Outcome.{Outcome, outcome, refuses}
 use Rattle.doubles.specs.Number.{measure, paper}
+use Rattle.shape.specs.declared.Listed.{Listed}
+use Rattle.shape.specs.declared.Listed.the-variants.{Fine, Bad}
 use Rattle.shape.specs.Refusals.{judge}
 use Rattle.drawing.specs.declared.Control.{Control}
 use Rattle.drawing.specs.declared.State.{State}
 use Rattle.drawing.specs.declared.Step.{Step}
 use Rattle.drawing.specs.declared.Stepped.{Stepped}
 use Rattle.drawing.specs.declared.Stepped.the-variants.{Next, Refused}
-use Rattle.drawing.specs.declared.Checked.{Checked}
-use Rattle.drawing.specs.declared.Checked.the-variants.{Fine, Unfit}
 use Rattle.drawing.specs.declared.Numbered.{Numbered}
 use Rattle.drawing.specs.declared.Numbered.the-variants.{Good, Wrong}
 use Rattle.drawing.specs.declared.Placed.{Placed}
@@ -24,8 +24,8 @@ use Rattle.drawing.specs.Drawing.{numbers, at, grown, next, flat}
 use Rattle.drawing.specs.Reading.{stateRows, numberRow, numberRows, spaceRows, accepts}
 
 -- Rows 3, 8, 12.
-unfoldable pub judgeState : State → Bool → Checked
-judgeState s opening = judge (stateRows s opening) Unfit Fine
+unfoldable pub judgeState : State → Bool → Listed
+judgeState s opening = judge (stateRows s opening) Bad Fine
 
 -- Rows 10 and 11, of one number and of the two of a control.
 unfoldable pub judgeNumber : ℕ → Float → Numbered

@@ -8,7 +8,7 @@ ghost use mathlib.Core.List.{[], _∷_};
 ghost use Prim.Native.Nat.{_≤_};
 ghost use Rattle.whole.specs.Outcome.{outcome};
 ghost use Rattle.shape.specs.Shape.{mostRecords};
-ghost use Rattle.drawing.specs.declared.Checked.the-variants.{Fine};
+ghost use Rattle.shape.specs.declared.Listed.the-variants.{Fine};
 ghost use Rattle.drawing.specs.declared.Step.the-variants.{Move, Line, Cubic, Close};
 ghost use Rattle.drawing.specs.Drawing.{empty, opens};
 ghost use Rattle.drawing.specs.Reading.{miscounted, astray, outOfTurn, stepped};
@@ -17,6 +17,7 @@ use controls::is_same;
 use controls::put;
 use controls::put_three;
 use numbers::control_of;
+use shape::Listed;
 use shape::MOST_RECORDS;
 use shape::Refusal;
 use shape::first_outside;
@@ -47,12 +48,6 @@ pub enum Step {
 pub enum Stepped {
     Next(State),
     Refused(Refusal),
-}
-
-// What the checks of a state find (rows 3, 8, 12).
-enum Checked {
-    Fine,
-    Unfit(Refusal),
 }
 
 // What a number of a step is (rows 10, 11).
@@ -137,28 +132,28 @@ impl State {
     }
 
     // The checks of the state in the paper's order: 3, 8, 12.
-    fn check(self, opening: bool) -> Checked
+    fn check(self, opening: bool) -> Listed
         ensures { λ r. ⌜ r ≡ judgeState self opening ⌝ }
     {
         if self.is_miscounted() {
-            return Checked::Unfit(Refusal {
+            return Listed::Bad(Refusal {
                 number: 3,
                 place: 0,
             });
         }
         if self.is_astray() {
-            return Checked::Unfit(Refusal {
+            return Listed::Bad(Refusal {
                 number: 8,
                 place: 0,
             });
         }
         if self.is_out_of_turn(opening) {
-            return Checked::Unfit(Refusal {
+            return Listed::Bad(Refusal {
                 number: 12,
                 place: 0,
             });
         }
-        Checked::Fine
+        Listed::Fine
     }
 
     // Three records more: the checks 6 and 7, the writing, and the next state.
@@ -293,8 +288,8 @@ impl State {
         ensures { λ r. ⌜ outcome r (now (controls .exit)) ≡ stepped self step (now (controls .entry)) ⌝ }
     {
         match self.check(step.opens()) {
-            Checked::Unfit(refusal) => Stepped::Refused(refusal),
-            Checked::Fine => match step {
+            Listed::Bad(refusal) => Stepped::Refused(refusal),
+            Listed::Fine => match step {
                 Step::Move(x, y) => self.move_to(x, y, controls),
                 Step::Line(x, y) => self.line_to(x, y, controls),
                 Step::Cubic(a, b, c, d, e, f) => self.cubic_to(a, b, c, d, e, f, controls),

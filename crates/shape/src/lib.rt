@@ -37,7 +37,7 @@ pub enum Judged {
     Unsound(Refusal),
 }
 
-// What the checks of the lent lists find (rows 7, 8, 9).
+// What a check finds: nothing that is wrong, or the refusal.
 pub enum Listed {
     Fine,
     Bad(Refusal),
