@@ -28,7 +28,7 @@ use Rattle.drawing.specs.declared.Control.{Control}
 use Rattle.drawing.specs.declared.State.{State}
 use Rattle.drawing.specs.declared.Step.{Step}
 use Rattle.drawing.specs.declared.Step.the-variants.{Move, Line, Cubic, Close}
-use Rattle.shape.specs.declared.Listed.the-variants.{Fine}
+use Rattle.shape.specs.declared.Checked.the-variants.{Fine}
 use Rattle.drawing.specs.declared.Stepped.the-variants.{Refused}
 use Rattle.drawing.specs.Drawing.{numbers, at, opens, same, line, added, grown, next, flat}
 use Rattle.drawing.specs.Reading.{reached, stateRows, numberRows, spaceRows, rows, accepts, stepped, stateAfter}

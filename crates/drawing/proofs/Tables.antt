@@ -16,7 +16,7 @@ use Rattle.doubles.specs.Number.{measure, paper}
 use Rattle.shape.specs.Shape.{mostRecords}
 use Rattle.shape.specs.Refusals.{Row, judge, First, NoRow}
 use Rattle.shape.specs.declared.Refusal.{Refusal}
-use Rattle.shape.specs.declared.Listed.the-variants.{Fine, Bad}
+use Rattle.shape.specs.declared.Checked.the-variants.{Fine, Bad}
 use Rattle.shape.proofs.Tests.{passes, or-false, and-true, true-is-not-false}
 use Rattle.shape.proofs.Refusals.{judge-first, judge-none, judge-append, row-fails, only-first, only-none, rows-none, rows-bad, rows-fine}
 use Rattle.drawing.specs.declared.Control.{Control}

@@ -8,8 +8,8 @@ use lib.ListN.{length}
 use lib.Seq.{sets}
 use Rattle.whole.specs.Outcome.{Outcome, outcome, refuses}
 use Rattle.doubles.specs.Number.{measure, paper}
-use Rattle.shape.specs.declared.Listed.{Listed}
-use Rattle.shape.specs.declared.Listed.the-variants.{Fine, Bad}
+use Rattle.shape.specs.declared.Checked.{Checked}
+use Rattle.shape.specs.declared.Checked.the-variants.{Fine, Bad}
 use Rattle.shape.specs.Refusals.{judge}
 use Rattle.drawing.specs.declared.Control.{Control}
 use Rattle.drawing.specs.declared.State.{State}
@@ -24,7 +24,7 @@ use Rattle.drawing.specs.Drawing.{numbers, at, grown, next, flat}
 use Rattle.drawing.specs.Reading.{stateRows, numberRow, numberRows, spaceRows, accepts}
 
 -- Rows 3, 8, 12.
-unfoldable pub judgeState : State → Bool → Listed
+unfoldable pub judgeState : State → Bool → Checked
 judgeState s opening = judge (stateRows s opening) Bad Fine
 
 -- Rows 10 and 11, of one number and of the two of a control.

@@ -8,7 +8,7 @@ ghost use mathlib.Core.List.{[], _∷_};
 ghost use Prim.Native.Nat.{_≤_};
 ghost use Rattle.whole.specs.Outcome.{outcome};
 ghost use Rattle.shape.specs.Shape.{mostRecords};
-ghost use Rattle.shape.specs.declared.Listed.the-variants.{Fine};
+ghost use Rattle.shape.specs.declared.Checked.the-variants.{Fine};
 ghost use Rattle.drawing.specs.declared.Step.the-variants.{Move, Line, Cubic, Close};
 ghost use Rattle.drawing.specs.Drawing.{empty, opens};
 ghost use Rattle.drawing.specs.Reading.{miscounted, astray, outOfTurn, stepped};
@@ -17,7 +17,7 @@ use controls::is_same;
 use controls::put;
 use controls::put_three;
 use numbers::control_of;
-use shape::Listed;
+use shape::Checked;
 use shape::MOST_RECORDS;
 use shape::Refusal;
 use shape::first_outside;
@@ -132,28 +132,28 @@ impl State {
     }
 
     // The checks of the state in the paper's order: 3, 8, 12.
-    fn check(self, opening: bool) -> Listed
+    fn check(self, opening: bool) -> Checked
         ensures { λ r. ⌜ r ≡ judgeState self opening ⌝ }
     {
         if self.is_miscounted() {
-            return Listed::Bad(Refusal {
+            return Checked::Bad(Refusal {
                 number: 3,
                 place: 0,
             });
         }
         if self.is_astray() {
-            return Listed::Bad(Refusal {
+            return Checked::Bad(Refusal {
                 number: 8,
                 place: 0,
             });
         }
         if self.is_out_of_turn(opening) {
-            return Listed::Bad(Refusal {
+            return Checked::Bad(Refusal {
                 number: 12,
                 place: 0,
             });
         }
-        Listed::Fine
+        Checked::Fine
     }
 
     // Three records more: the checks 6 and 7, the writing, and the next state.
@@ -288,8 +288,8 @@ impl State {
         ensures { λ r. ⌜ outcome r (now (controls .exit)) ≡ stepped self step (now (controls .entry)) ⌝ }
     {
         match self.check(step.opens()) {
-            Listed::Bad(refusal) => Stepped::Refused(refusal),
-            Listed::Fine => match step {
+            Checked::Bad(refusal) => Stepped::Refused(refusal),
+            Checked::Fine => match step {
                 Step::Move(x, y) => self.move_to(x, y, controls),
                 Step::Line(x, y) => self.line_to(x, y, controls),
                 Step::Cubic(a, b, c, d, e, f) => self.cubic_to(a, b, c, d, e, f, controls),

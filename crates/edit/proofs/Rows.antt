@@ -19,7 +19,7 @@ use Rattle.shape.specs.declared.Shape.{Shape}
 use Rattle.shape.specs.declared.Plan.{Plan}
 use Rattle.shape.specs.declared.Refusal.{Refusal}
 use Rattle.shape.specs.declared.Judged.the-variants.{Sound, Unsound}
-use Rattle.shape.specs.declared.Listed.the-variants.{Fine, Bad}
+use Rattle.shape.specs.declared.Checked.the-variants.{Fine, Bad}
 use Rattle.shape.specs.Good.{Good, Lent}
 use Rattle.shape.specs.Shape.{spansOf, recordsOf, mostRecords}
 use Rattle.shape.specs.Refusals.{NoRow, judgeShape, planOf, controlRows, pointRows}

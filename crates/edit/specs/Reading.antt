@@ -8,8 +8,8 @@ use lib.ListN.{length}
 use Rattle.whole.specs.Outcome.{Outcome, outcome, refuses}
 use Rattle.shape.specs.declared.Shape.{Shape}
 use Rattle.shape.specs.declared.Plan.{Plan}
-use Rattle.shape.specs.declared.Listed.{Listed}
-use Rattle.shape.specs.declared.Listed.the-variants.{Fine, Bad}
+use Rattle.shape.specs.declared.Checked.{Checked}
+use Rattle.shape.specs.declared.Checked.the-variants.{Fine, Bad}
 use Rattle.curve.specs.declared.Basis.{Basis}
 use Rattle.shape.specs.Refusals.{Row, row, judge, shapeRows, controlRows, pointRows, planOf}
 use Rattle.shape.specs.Exactly.{Told, Refuses, Accepts}
@@ -33,7 +33,7 @@ planAfter e p = record { basis = p .basis; depth = p .depth; spans = spansAfter 
 abbrev pub askRows : Edit → Basis → ℕ → ℕ → List Row
 askRows e b j n = row (not (offered e b)) 4 0 ∷ row (not (inRange e j n)) 5 j ∷ row (atTheEnd e n) 6 0 ∷ []
 
-unfoldable pub judgeAsk : Edit → Basis → ℕ → ℕ → Listed
+unfoldable pub judgeAsk : Edit → Basis → ℕ → ℕ → Checked
 judgeAsk e b j n = judge (askRows e b j n) Bad Fine
 
 -- Row 8 for the new record, whose place is n.
@@ -44,7 +44,7 @@ newRows e n = row (newOutside e) 8 n ∷ []
 abbrev pub roomRows : Edit → ℕ → List ℤ → ℕ → ℕ → List Row
 roomRows e n controls most len = controlRows (max n (countAfter e n)) n controls ++ (newRows e n ++ pointRows most len)
 
-unfoldable pub judgeRoom : Edit → ℕ → List ℤ → ℕ → ℕ → Listed
+unfoldable pub judgeRoom : Edit → ℕ → List ℤ → ℕ → ℕ → Checked
 judgeRoom e n controls most len = judge (roomRows e n controls most len) Bad Fine
 
 -- Rows 4 to 9, for a sound shape with its plan p, and q the plan of the new shape.

@@ -26,8 +26,8 @@ use asked::counts::spans_after;
 use checks::check_ask;
 use checks::check_room;
 use curve::Basis;
+use shape::Checked;
 use shape::Judged;
-use shape::Listed;
 use shape::Plan;
 use shape::Refusal;
 use shape::Shape;
@@ -112,8 +112,8 @@ fn edit_plan(
 {
     let basis = plan.basis;
     match check_ask(edit, basis, place, shape.count) {
-        Listed::Bad(refusal) => Edited::Refused(refusal),
-        Listed::Fine => edit_room(edit, shape, plan, place, controls, points),
+        Checked::Bad(refusal) => Edited::Refused(refusal),
+        Checked::Fine => edit_room(edit, shape, plan, place, controls, points),
     }
 }
 
@@ -137,8 +137,8 @@ fn edit_room(
     };
     let most = greatest(plan.points(), next.points());
     match check_room(edit, shape.count, controls, most, points.len()) {
-        Listed::Bad(refusal) => Edited::Refused(refusal),
-        Listed::Fine => edit_lists(edit, shape, next, place, controls, points),
+        Checked::Bad(refusal) => Edited::Refused(refusal),
+        Checked::Fine => edit_lists(edit, shape, next, place, controls, points),
     }
 }
 

@@ -11,7 +11,7 @@ use Rattle.shape.specs.declared.Shape.{Shape}
 use Rattle.shape.specs.declared.Plan.{Plan}
 use Rattle.shape.specs.declared.Refusal.{Refusal}
 use Rattle.shape.specs.declared.Judged.the-variants.{Sound, Unsound}
-use Rattle.shape.specs.declared.Listed.the-variants.{Fine, Bad}
+use Rattle.shape.specs.declared.Checked.the-variants.{Fine, Bad}
 use Rattle.shape.specs.Good.{Good, Lent}
 use Rattle.shape.specs.Refusals.{judgeShape, judgeLists, planOf}
 use Rattle.shape.proofs.Refusals.{judge-first, judge-none, sound, unsound, sound-plan, bad-first, fine-none, good-records, lent-inside}

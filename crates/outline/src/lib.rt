@@ -5,8 +5,8 @@ ghost use Rattle.whole.specs.Outcome.{outcome};
 ghost use Rattle.shape.specs.Good.{Good};
 ghost use Rattle.outline.specs.Outline.{draws, drawsPlan};
 ghost use Rattle.outline.specs.View.{partOf, viewed};
+use shape::Checked;
 use shape::Judged;
-use shape::Listed;
 use shape::Plan;
 use shape::Refusal;
 use shape::Shape;
@@ -59,7 +59,7 @@ fn draw_plan(way: Way, shape: Shape, plan: Plan, controls: &[i32], points: &mut 
     ensures { λ r. ⌜ outcome r (now (points .exit)) ≡ drawsPlan (shape .count) plan (now (controls .entry)) (now (points .entry)) ⌝ }
 {
     let count = plan.points();
-    if let Listed::Bad(refusal) = check_lists(shape.count, controls, count, points.len()) {
+    if let Checked::Bad(refusal) = check_lists(shape.count, controls, count, points.len()) {
         return Drawn::Refused(refusal);
     }
     let basis = plan.basis;

@@ -17,7 +17,7 @@ use Rattle.curve.specs.Span.{firstRecord, records}
 use Rattle.shape.specs.declared.Shape.{Shape}
 use Rattle.shape.specs.declared.Plan.{Plan}
 use Rattle.shape.specs.declared.Refusal.{Refusal}
-use Rattle.shape.specs.declared.Listed.the-variants.{Fine, Bad}
+use Rattle.shape.specs.declared.Checked.the-variants.{Fine, Bad}
 use Rattle.shape.specs.Shape.{basisOf, recordsOf, pointsOf}
 use Rattle.shape.specs.Refusals.{judge, judgeLists, listRows}
 use Rattle.shape.specs.Good.{Good, Lent}

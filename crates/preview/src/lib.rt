@@ -16,8 +16,8 @@ use curve::records::first_record;
 use doubles::Pair;
 use doubles::double_of;
 use doubles::midpoint_pair;
+use shape::Checked;
 use shape::Judged;
-use shape::Listed;
 use shape::Plan;
 use shape::Refusal;
 use shape::Shape;
@@ -119,8 +119,8 @@ fn preview_plan(shape: Shape, plan: Plan, controls: &[i32], points: &mut [f64]) 
     }
     let count = plan.points();
     match check_lists(shape.count, controls, count, points.len()) {
-        Listed::Bad(refusal) => Previewed::Refused(refusal),
-        Listed::Fine => {
+        Checked::Bad(refusal) => Previewed::Refused(refusal),
+        Checked::Fine => {
             fill_spans(controls, plan.spans, plan.depth, points);
             Previewed::Drawn(count)
         }

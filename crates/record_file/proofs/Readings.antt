@@ -6,7 +6,7 @@ use lib.IntN.{ℤ}
 use lib.ListN.{length}
 use Rattle.whole.specs.Outcome.{Outcome, refuses}
 use Rattle.shape.specs.declared.Refusal.{Refusal}
-use Rattle.shape.specs.declared.Listed.the-variants.{Fine, Bad}
+use Rattle.shape.specs.declared.Checked.the-variants.{Fine, Bad}
 use Rattle.shape.specs.Refusals.{Row, judge, First, NoRow}
 use Rattle.shape.proofs.Refusals.{judge-first, judge-none, judge-append, rows-first, rows-none}
 use Rattle.record_file.specs.declared.Reading.{Reading}

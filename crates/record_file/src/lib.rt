@@ -8,8 +8,8 @@ ghost use Rattle.shape.specs.Refusals.{judge};
 ghost use Rattle.shape.specs.Shape.{mostRecords};
 ghost use Rattle.record_file.specs.Format.{recordBytes, word, signed, numbers};
 ghost use Rattle.record_file.specs.Rows.{reading, fault, recordRows, laterRows, listRows, accepts};
+use shape::Checked;
 use shape::Judged;
-use shape::Listed;
 use shape::MOST_RECORDS;
 use shape::Refusal;
 use shape::Shape;
@@ -100,19 +100,19 @@ fn fault_of(file: &[u8], i: usize) -> usize
 }
 
 // The checks of `count` records, one after the other: 14 and 15.
-fn check_records(file: &[u8], count: usize) -> Listed
+fn check_records(file: &[u8], count: usize) -> Checked
     requires { ⌜ recordBytes * count ≤ length (now file) ⌝ }
-    ensures { λ r. ⌜ r ≡ judge (recordRows (now (file .entry)) 0 count) Listed.Bad Listed.Fine ⌝ }
+    ensures { λ r. ⌜ r ≡ judge (recordRows (now (file .entry)) 0 count) Checked.Bad Checked.Fine ⌝ }
 {
     let mut i = 0;
     while i < count {
         let number = fault_of(file, i);
         if number != 0 {
-            return Listed::Bad(Refusal { number, place: i });
+            return Checked::Bad(Refusal { number, place: i });
         }
         i += 1;
     }
-    Listed::Fine
+    Checked::Fine
 }
 
 // Rows 7 and 8, and then the controls. The records are looked at in a list of our own first, so that a refusal writes nothing.
@@ -182,7 +182,7 @@ pub fn read(file: &[u8], controls: &mut [i32]) -> Reading
     }
     let count = length / RECORD;
     match check_records(file, count) {
-        Listed::Bad(refusal) => Reading::Refused(refusal),
-        Listed::Fine => read_records(file, count, controls),
+        Checked::Bad(refusal) => Reading::Refused(refusal),
+        Checked::Fine => read_records(file, count, controls),
     }
 }

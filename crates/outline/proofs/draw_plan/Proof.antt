@@ -9,7 +9,7 @@ use lib.IntN.{ℤ}
 use lib.ListN.{length}
 use Rattle.whole.specs.Outcome.{outcome}
 use Rattle.shape.specs.declared.Plan.{Plan}
-use Rattle.shape.specs.declared.Listed.the-variants.{Fine}
+use Rattle.shape.specs.declared.Checked.the-variants.{Fine}
 use Rattle.shape.specs.Shape.{mostPoints}
 use Rattle.shape.specs.Refusals.{judgeLists}
 use Rattle.shape.specs.Good.{Lent}

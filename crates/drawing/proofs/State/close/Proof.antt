@@ -11,7 +11,7 @@ use Rattle.drawing.specs.declared.State.{State}
 use native.Mathlib.Omega.{arith}
 use borrow.Author.Tests.{not-true, not-false}
 use Rattle.drawing.specs.declared.Step.the-variants.{Close}
-use Rattle.shape.specs.declared.Listed.the-variants.{Fine}
+use Rattle.shape.specs.declared.Checked.the-variants.{Fine}
 use Rattle.drawing.specs.declared.Stepped.the-variants.{Next, Refused}
 use Rattle.drawing.specs.Drawing.{same, line, added}
 use Rattle.drawing.specs.Parts.{judgeState, extends, goesOn}

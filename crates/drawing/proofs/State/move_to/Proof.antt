@@ -13,7 +13,7 @@ use Rattle.shape.specs.declared.Refusal.{Refusal}
 use Rattle.drawing.specs.declared.Control.{Control}
 use Rattle.drawing.specs.declared.State.{State}
 use Rattle.drawing.specs.declared.Step.the-variants.{Move}
-use Rattle.shape.specs.declared.Listed.the-variants.{Fine}
+use Rattle.shape.specs.declared.Checked.the-variants.{Fine}
 use Rattle.drawing.specs.declared.Placed.the-variants.{At, Amiss}
 use Rattle.drawing.specs.declared.Stepped.the-variants.{Next, Refused}
 use Rattle.drawing.specs.Drawing.{at, added, flat}

@@ -4,7 +4,7 @@ use mathlib.Core.List.{List}
 use lib.IntN.{ℤ}
 use Rattle.whole.specs.Outcome.{Outcome}
 use Rattle.drawing.specs.declared.Step.{Step}
-use Rattle.shape.specs.declared.Listed.the-variants.{Fine}
+use Rattle.shape.specs.declared.Checked.the-variants.{Fine}
 use Rattle.drawing.specs.declared.Stepped.{Stepped}
 use Rattle.drawing.specs.Drawing.{opens}
 use Rattle.drawing.specs.Reading.{stepped}
