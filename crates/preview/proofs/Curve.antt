@@ -50,7 +50,7 @@ weighted-small : (q : Four) (j n : ℕ) → Inside limit q → j ≤ 2 ^ deepest
 unfolding weighted weights dot
 weighted-small q j n inside hj hn =
     let r = R.values q (pos j) (pos n) in
-    let bs = limit ∷ limit ∷ limit ∷ limit ∷ 64 ∷ 64 ∷ [] in
+    let bs = limit ∷ limit ∷ limit ∷ limit ∷ 2 ^ deepest ∷ 2 ^ deepest ∷ [] in
     let ok : Bounded r bs = (inside .a, (inside .b, (inside .c, (inside .d, (hj, (hn, tt)))))) in
     le-trans (ev-size r bs ok (weightedᵉ p i h)) (lit≤ tt)
 
