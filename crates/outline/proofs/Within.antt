@@ -23,7 +23,7 @@ use Rattle.spans.specs.Numbers.{number}
 use Rattle.outline.specs.declared.Drawn.the-variants.{Points}
 use Rattle.outline.specs.Outline.{numbers, points, planRows, draws}
 use Rattle.outline.proofs.Exactly.{points-none, none-drawn}
-use Rattle.outline.proofs.Held.{held-sound, held-number}
+use Rattle.outline.proofs.Held.{held-number}
 
 -- point g of m spans of d steps is at most d steps past its span's start: the last one at the last span's end
 step-within : (g m d : ℕ) → 0 < d → 1 ≤ m → g ≤ m * d → g - min (g / d) (m - 1) * d ≤ d

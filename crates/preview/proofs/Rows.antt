@@ -13,7 +13,7 @@ use lib.Seq.{sets}
 use Rattle.whole.specs.Outcome.{outcome, refuses}
 use Rattle.curve.specs.declared.Basis.the-variants.{Bezier}
 use Rattle.curve.specs.Limits.{Inside, limit}
-use Rattle.curve.specs.Span.{firstRecord, records}
+use Rattle.curve.specs.Span.{firstRecord}
 use Rattle.shape.specs.declared.Shape.{Shape}
 use Rattle.shape.specs.declared.Plan.{Plan}
 use Rattle.shape.specs.declared.Refusal.{Refusal}

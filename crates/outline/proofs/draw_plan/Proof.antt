@@ -15,7 +15,7 @@ use Rattle.shape.specs.Refusals.{judgeLists}
 use Rattle.shape.specs.Good.{Lent}
 use Rattle.shape.proofs.Refusals.{fine-facts}
 use Rattle.shape.proofs.Spans.{points-at-most}
-use Rattle.spans.specs.Numbers.{number, filled, perSpan}
+use Rattle.spans.specs.Numbers.{filled, perSpan}
 use Rattle.spans.specs.Ready.{Drawable}
 use Rattle.outline.specs.declared.Drawn.the-variants.{Points}
 use Rattle.outline.specs.Outline.{numbers, points, drawn}
