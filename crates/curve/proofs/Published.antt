@@ -5,8 +5,8 @@ use lib.IntN.{ℤ, pos, _+ℤ_, _-ℤ_, _*ℤ_}
 use Rattle.whole.proofs.Ring.{Ex, lit, _⊕_, _⊖_, _⊗_, ev, Same, solve}
 use Rattle.curve.specs.declared.Four.{Four}
 use Rattle.curve.specs.Numbers.{neg, four, dot}
-use Rattle.curve.specs.Published.{Matrix, Ends, cubic, tangent, curvature, bezierMatrix, hermiteMatrix, cardinalMatrix, bSplineMatrix, weights, blending}
-use Rattle.curve.proofs.Reflect.{Fourᵉ, fourᵉ, litᵉ, num, p, i, h, values, dotᵉ, cubicᵉ, tangentᵉ, curvatureᵉ, weightedᵉ}
+use Rattle.curve.specs.Published.{Matrix, Ends, cubic, tangent, secondDerivative, bezierMatrix, hermiteMatrix, cardinalMatrix, bSplineMatrix, weights, blending}
+use Rattle.curve.proofs.Reflect.{Fourᵉ, fourᵉ, litᵉ, num, p, i, h, values, dotᵉ, cubicᵉ, tangentᵉ, secondDerivativeᵉ, weightedᵉ}
 
 -- ---- the two forms of one curve
 
@@ -85,9 +85,9 @@ bSpline-ends g =
     record { starts = λ y. e y .0; finishes = λ y. e y .1; leaves = λ y. e y .2; arrives = λ y. e y .3 }
 
 -- 000 (25), times 6: the second derivative of a B-spline at its start.
-pub bSpline-curvature : (g : Four) (y : ℤ) → curvature bSplineMatrix g (pos 0) y ≡ y *ℤ (pos 6 *ℤ (g .c -ℤ pos 2 *ℤ g .b +ℤ g .a))
-unfolding curvature dot
-bSpline-curvature g y = solve (values g (pos 0) y) (curvatureᵉ bSplineMatrix p (num 0) h) (h ⊗ (num 6 ⊗ (p .c ⊖ num 2 ⊗ p .b ⊕ p .a))) tt
+pub bSpline-second-derivative : (g : Four) (y : ℤ) → secondDerivative bSplineMatrix g (pos 0) y ≡ y *ℤ (pos 6 *ℤ (g .c -ℤ pos 2 *ℤ g .b +ℤ g .a))
+unfolding secondDerivative dot
+bSpline-second-derivative g y = solve (values g (pos 0) y) (secondDerivativeᵉ bSplineMatrix p (num 0) h) (h ⊗ (num 6 ⊗ (p .c ⊖ num 2 ⊗ p .b ⊕ p .a))) tt
 
 -- ---- the weights of each basis sum to one: where all points are 1, the curve is 1 throughout. (A Hermite curve with both ends 1 and no tangents.)
 

@@ -47,8 +47,8 @@ cubicᵉ m g x y = x ⊗ x ⊗ x ⊗ dotᵉ (litᵉ (m .cubed)) g ⊕ x ⊗ x �
 abbrev pub tangentᵉ : Matrix → Fourᵉ → Ex → Ex → Ex
 tangentᵉ m g x y = num 3 ⊗ (x ⊗ x) ⊗ dotᵉ (litᵉ (m .cubed)) g ⊕ num 2 ⊗ (x ⊗ y) ⊗ dotᵉ (litᵉ (m .squared)) g ⊕ y ⊗ y ⊗ dotᵉ (litᵉ (m .single)) g
 
-abbrev pub curvatureᵉ : Matrix → Fourᵉ → Ex → Ex → Ex
-curvatureᵉ m g x y = num 6 ⊗ x ⊗ dotᵉ (litᵉ (m .cubed)) g ⊕ num 2 ⊗ y ⊗ dotᵉ (litᵉ (m .squared)) g
+abbrev pub secondDerivativeᵉ : Matrix → Fourᵉ → Ex → Ex → Ex
+secondDerivativeᵉ m g x y = num 6 ⊗ x ⊗ dotᵉ (litᵉ (m .cubed)) g ⊕ num 2 ⊗ y ⊗ dotᵉ (litᵉ (m .squared)) g
 
 abbrev pub weightsᵉ : Ex → Ex → Fourᵉ
 weightsᵉ x y = let j = y ⊖ x in fourᵉ (j ⊗ j ⊗ j) (num 3 ⊗ (x ⊗ j ⊗ j)) (num 3 ⊗ (x ⊗ x ⊗ j)) (x ⊗ x ⊗ x)

@@ -26,8 +26,8 @@ unfoldable pub tangent : Matrix → Four → ℤ → ℤ → ℤ
 tangent m g i h = pos 3 *ℤ (i *ℤ i) *ℤ dot (m .cubed) g +ℤ pos 2 *ℤ (i *ℤ h) *ℤ dot (m .squared) g +ℤ h *ℤ h *ℤ dot (m .single) g
 
 -- h · C''(i / h).
-unfoldable pub curvature : Matrix → Four → ℤ → ℤ → ℤ
-curvature m g i h = pos 6 *ℤ i *ℤ dot (m .cubed) g +ℤ pos 2 *ℤ h *ℤ dot (m .squared) g
+unfoldable pub secondDerivative : Matrix → Four → ℤ → ℤ → ℤ
+secondDerivative m g i h = pos 6 *ℤ i *ℤ dot (m .cubed) g +ℤ pos 2 *ℤ h *ℤ dot (m .squared) g
 
 -- ---- the four matrices
 

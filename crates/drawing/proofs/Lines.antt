@@ -1,17 +1,18 @@
 -- The edge that an accepted Line adds is straight: the four records of its span are A, A, B, B, since A was the last record and A, B, B are written after it.
-use mathlib.Core.Path.{_≡_, sym, ap, _∙_, subst}
+use mathlib.Core.Path.{_≡_, sym, _∙_, subst}
 use mathlib.Core.List.{List}
 use Prim.Native.Nat.{ℕ, _+_, _*_, _-_}
 use native.Mathlib.Omega.{arith}
 use lib.Ieee.{Float}
 use lib.IntN.{ℤ}
 use lib.Seq.{sets}
+use Rattle.whole.specs.Outcome.{outcome}
 use Rattle.drawing.specs.declared.State.{State}
 use Rattle.drawing.specs.declared.Step.{Step}
 use Rattle.drawing.specs.declared.Step.the-variants.{Line}
 use Rattle.drawing.specs.declared.Stepped.the-variants.{Next}
 use Rattle.drawing.specs.Drawing.{at, line, added, flat}
-use Rattle.drawing.specs.Reading.{Outcome, both, stepped}
+use Rattle.drawing.specs.Reading.{stepped}
 use Rattle.drawing.specs.Sequences.{Held, Sound, recordAt}
 use Rattle.drawing.proofs.Exactly.{next-none, none-next}
 use Rattle.drawing.proofs.Tables.{fine-begun}
@@ -19,10 +20,10 @@ use Rattle.drawing.proofs.Records.{sets-below, sets-at}
 use Rattle.drawing.proofs.Sequences.{fine, spacious}
 
 -- the list that a step leaves with a next state
-pub next-list : (s : State) (step : Step) (l : List ℤ) (t : State) (m : List ℤ) → stepped s step l ≡ both (Next t) m → sets l (2 * s .count) (flat (added s step)) ≡ m
-next-list s step l t m e = ap (λ (o : Outcome). o .controls) (sym (none-next s step l (next-none s step l t m e)) ∙ e)
+pub next-list : (s : State) (step : Step) (l : List ℤ) (t : State) (m : List ℤ) → stepped s step l ≡ outcome (Next t) m → sets l (2 * s .count) (flat (added s step)) ≡ m
+next-list s step l t m e = λ i. (sym (none-next s step l (next-none s step l t m e)) ∙ e) i .held
 
-module _ (h : Held) (k : Sound h) (x y : Float) (t : State) (m : List ℤ) (e : stepped (h .state) (Line x y) (h .controls) ≡ both (Next t) m) where
+module _ (h : Held) (k : Sound h) (x y : Float) (t : State) (m : List ℤ) (e : stepped (h .state) (Line x y) (h .controls) ≡ outcome (Next t) m) where
   pub straight :
       (recordAt m (h .state .count - 1) ≡ h .state .current)
       × (recordAt m (h .state .count) ≡ h .state .current)

@@ -14,6 +14,7 @@ use lib.IntN.{ℤ, natAbs}
 use lib.ListN.{length}
 use lib.Seq.{sets}
 use Rattle.whole.specs.Nearest.{nearest}
+use Rattle.whole.specs.Outcome.{refuses}
 use Rattle.curve.specs.Limits.{limit}
 use Rattle.doubles.specs.Exact.{signed}
 use Rattle.doubles.specs.Number.{thousand, within, measure, paper}
@@ -27,14 +28,15 @@ use Rattle.drawing.specs.declared.Control.{Control}
 use Rattle.drawing.specs.declared.State.{State}
 use Rattle.drawing.specs.declared.Step.{Step}
 use Rattle.drawing.specs.declared.Step.the-variants.{Move, Line, Cubic, Close}
-use Rattle.drawing.specs.declared.Checked.the-variants.{Fine}
+use Rattle.shape.specs.declared.Checked.the-variants.{Fine}
+use Rattle.drawing.specs.declared.Stepped.the-variants.{Refused}
 use Rattle.drawing.specs.Drawing.{numbers, at, opens, same, line, added, grown, next, flat}
-use Rattle.drawing.specs.Reading.{reached, stateRows, numberRows, spaceRows, rows, refused, accepted, stepped, stateAfter}
+use Rattle.drawing.specs.Reading.{reached, stateRows, numberRows, spaceRows, rows, accepts, stepped, stateAfter}
 use Rattle.drawing.specs.Parts.{judgeState}
-use Rattle.drawing.specs.Sequences.{Held, begin, after, drawn, Inside, Sound}
 use Rattle.drawing.proofs.Tables.{or-true-right, none-fine, fine-open, fine-empty, fine-begun, reached-facts}
 use Rattle.drawing.proofs.Same.{same-is}
 use Rattle.drawing.proofs.Records.{Kept, opened, all-more, AllInside}
+use Rattle.drawing.specs.Sequences.{Held, begin, after, drawn, Inside, Sound}
 
 -- ---- a step's controls are inside the limits
 
@@ -161,11 +163,11 @@ module _ (h : Held) (k : Sound h) where
   -- a step that is refused leaves all as it was
   after-refused : (step : Step) (r : Refusal) → First (rows s step l) r → after h step ≡ h
   unfolding stepped
-  after-refused step r f = ap (λ out. record { state = stateAfter s (out .answer); controls = out .controls }) (judge-first (rows s step l) (refused l) (accepted s step l) r f)
+  after-refused step r f = ap (λ out. record { state = stateAfter s (out .answer); controls = out .held }) (judge-first (rows s step l) (refuses Refused l) (accepts s step l) r f)
 
   after-accepted : (step : Step) → NoRow (rows s step l) → after h step ≡ left h step
   unfolding stepped
-  after-accepted step n = ap (λ out. record { state = stateAfter s (out .answer); controls = out .controls }) (judge-none (rows s step l) (refused l) (accepted s step l) n)
+  after-accepted step n = ap (λ out. record { state = stateAfter s (out .answer); controls = out .held }) (judge-none (rows s step l) (refuses Refused l) (accepts s step l) n)
 
   pub step-sound : (step : Step) → Sound (after h step)
   step-sound step =
@@ -174,10 +176,10 @@ module _ (h : Held) (k : Sound h) where
       (verdict (rows s step l))
 
 -- nothing follows Close
-pub nothing-follows : (s : State) (step : Step) (l : List ℤ) → s .closed ≡ true → (r : Refusal) × (stepped s step l ≡ refused l r)
+pub nothing-follows : (s : State) (step : Step) (l : List ℤ) → s .closed ≡ true → (r : Refusal) × (stepped s step l ≡ refuses Refused l r)
 unfolding stepped
 nothing-follows s step l c =
-    ⊎-elim (λ (v : (r : Refusal) × First (rows s step l) r). (v .0, judge-first (rows s step l) (refused l) (accepted s step l) (v .0) (v .1)))
+    ⊎-elim (λ (v : (r : Refusal) × First (rows s step l) r). (v .0, judge-first (rows s step l) (refuses Refused l) (accepts s step l) (v .0) (v .1)))
     (λ n. absurd (true-is-not-false c (fine-open s (opens step) (fit-then s step l n))))
     (verdict (rows s step l))
 

@@ -11,20 +11,22 @@ use lib.Dec.{leb, eqb}
 use lib.Ieee.{Float}
 use lib.IntN.{ℤ}
 use lib.ListN.{length}
+use Rattle.whole.specs.Outcome.{refuses}
 use Rattle.doubles.specs.Number.{measure, paper}
 use Rattle.shape.specs.Shape.{mostRecords}
 use Rattle.shape.specs.Refusals.{Row, judge, First, NoRow}
 use Rattle.shape.specs.declared.Refusal.{Refusal}
+use Rattle.shape.specs.declared.Checked.the-variants.{Fine, Bad}
 use Rattle.shape.proofs.Tests.{passes, or-false, and-true, true-is-not-false}
-use Rattle.shape.proofs.Refusals.{judge-first, judge-none, judge-append, row-fails, only-first, only-none}
+use Rattle.shape.proofs.Refusals.{judge-first, judge-none, judge-append, row-fails, only-first, only-none, rows-none, rows-bad, rows-fine}
 use Rattle.drawing.specs.declared.Control.{Control}
 use Rattle.drawing.specs.declared.State.{State}
 use Rattle.drawing.specs.declared.Step.{Step}
-use Rattle.drawing.specs.declared.Checked.the-variants.{Fine, Unfit}
 use Rattle.drawing.specs.declared.Numbered.the-variants.{Good, Wrong}
 use Rattle.drawing.specs.declared.Placed.the-variants.{At, Amiss}
+use Rattle.drawing.specs.declared.Stepped.the-variants.{Refused}
 use Rattle.drawing.specs.Drawing.{numbers, at, opens, added, startAfter, closedAfter}
-use Rattle.drawing.specs.Reading.{reached, miscounted, outOfTurn, stateRows, numberRow, numberRows, spaceRows, refused, stepped}
+use Rattle.drawing.specs.Reading.{reached, miscounted, outOfTurn, stateRows, numberRow, numberRows, spaceRows, stepped}
 use Rattle.drawing.specs.Parts.{extended, judgeState, judgeNumber, judgeControl, extends, goesOn}
 
 -- ---- tests
@@ -47,28 +49,18 @@ leaves part rest f b h = judge-append part rest f b ∙ judge-none part f (judge
 
 -- ---- rows 3, 8, 12
 
-unfit-same : (q r : Refusal) → Unfit q ≡ Unfit r → q ≡ r
-unfit-same q r e = cc
-
-unfit-apart : (q : Refusal) → Unfit q ≡ Fine → ⊥
-unfit-apart q e = let z : _≡_ {A = ℕ} 0 1 = cc in omega arith
-
 module _ (s : State) (opening : Bool) where
-  pub first-unfit : (r : Refusal) → First (stateRows s opening) r → judgeState s opening ≡ Unfit r
+  pub first-unfit : (r : Refusal) → First (stateRows s opening) r → judgeState s opening ≡ Bad r
   unfolding judgeState
-  first-unfit r h = judge-first (stateRows s opening) Unfit Fine r h
+  first-unfit r h = judge-first (stateRows s opening) Bad Fine r h
 
   pub none-fine : NoRow (stateRows s opening) → judgeState s opening ≡ Fine
   unfolding judgeState
-  none-fine h = judge-none (stateRows s opening) Unfit Fine h
-
-  pub unfit-first : (r : Refusal) → judgeState s opening ≡ Unfit r → First (stateRows s opening) r
-  unfolding judgeState
-  unfit-first r e = only-first (stateRows s opening) Unfit Fine unfit-same unfit-apart r e
+  none-fine h = judge-none (stateRows s opening) Bad Fine h
 
   pub fine-none : judgeState s opening ≡ Fine → NoRow (stateRows s opening)
   unfolding judgeState
-  fine-none e = only-none (stateRows s opening) Unfit Fine Fine unfit-apart e
+  fine-none e = rows-none (stateRows s opening) e
 
 -- a count that is reached
 pub reached-facts : (n : ℕ) → reached n ≡ true → (n ≡ 0) ⊎ ((n ≤ mostRecords) × (n % 3 ≡ 1))
@@ -176,16 +168,16 @@ module _ (i : ℕ) (x y : Float) where
 -- ---- rows 6 and 7
 
 module _ (s : State) (cs : List Control) (start : Control) (closed : Bool) (l : List ℤ) where
-  pub too-many : mostRecords < s .count + length cs → extends s cs start closed l ≡ refused l (record { number = 6; place = 0 })
+  pub too-many : mostRecords < s .count + length cs → extends s cs start closed l ≡ refuses Refused l (record { number = 6; place = 0 })
   unfolding extends
   too-many h =
-      judge-first (spaceRows (s .count) (s .count + length cs) l) (refused l) (extended s cs start closed l) (record { number = 6; place = 0 })
+      judge-first (spaceRows (s .count) (s .count + length cs) l) (refuses Refused l) (extended s cs start closed l) (record { number = 6; place = 0 })
       (inl (lt-ltb mostRecords (s .count + length cs) h, refl))
 
-  pub too-short : s .count + length cs ≤ mostRecords → length l < 2 * (s .count + length cs) → extends s cs start closed l ≡ refused l (record { number = 7; place = 0 })
+  pub too-short : s .count + length cs ≤ mostRecords → length l < 2 * (s .count + length cs) → extends s cs start closed l ≡ refuses Refused l (record { number = 7; place = 0 })
   unfolding extends
   too-short h short =
-      judge-first (spaceRows (s .count) (s .count + length cs) l) (refused l) (extended s cs start closed l) (record { number = 7; place = 0 })
+      judge-first (spaceRows (s .count) (s .count + length cs) l) (refuses Refused l) (extended s cs start closed l) (record { number = 7; place = 0 })
       (inr (
         le-ltb mostRecords (s .count + length cs) h,
         inl (lt-ltb (length l) (2 * max (s .count) (s .count + length cs)) (omega (arith, le-max-right (s .count) (s .count + length cs))), refl),
@@ -194,7 +186,7 @@ module _ (s : State) (cs : List Control) (start : Control) (closed : Bool) (l : 
   pub roomy : s .count + length cs ≤ mostRecords → 2 * (s .count + length cs) ≤ length l → extends s cs start closed l ≡ extended s cs start closed l
   unfolding extends
   roomy h long =
-      judge-none (spaceRows (s .count) (s .count + length cs) l) (refused l) (extended s cs start closed l) (
+      judge-none (spaceRows (s .count) (s .count + length cs) l) (refuses Refused l) (extended s cs start closed l) (
         le-ltb mostRecords (s .count + length cs) h,
         (le-ltb (length l) (2 * max (s .count) (s .count + length cs)) (omega (arith, max-le {a = s .count} {b = s .count + length cs} {k = s .count + length cs} (omega arith) (omega arith))), tt),
       )
@@ -206,14 +198,14 @@ module _ (s : State) (step : Step) (l : List ℤ) where
   pub numbers-good : NoRow (numberRows 0 (numbers step)) → goesOn s step l ≡ extends s (added s step) (startAfter s step) (closedAfter s step) l
   unfolding goesOn extends
   numbers-good h =
-      leaves (numberRows 0 (numbers step)) (spaceRows (s .count) (s .count + length (added s step)) l) (refused l)
+      leaves (numberRows 0 (numbers step)) (spaceRows (s .count) (s .count + length (added s step)) l) (refuses Refused l)
       (extended s (added s step) (startAfter s step) (closedAfter s step) l) h
 
   -- the state is fit, or not
   pub fit : judgeState s (opens step) ≡ Fine → stepped s step l ≡ goesOn s step l
-  unfolding stepped goesOn
-  fit e = leaves (stateRows s (opens step)) (numberRows 0 (numbers step) ++ spaceRows (s .count) (s .count + length (added s step)) l) (refused l) (extended s (added s step) (startAfter s step) (closedAfter s step) l) (fine-none s (opens step) e)
+  unfolding stepped goesOn judgeState
+  fit e = rows-fine (stateRows s (opens step)) e (numberRows 0 (numbers step) ++ spaceRows (s .count) (s .count + length (added s step)) l) (refuses Refused l) (extended s (added s step) (startAfter s step) (closedAfter s step) l)
 
-  pub unfit : (r : Refusal) → judgeState s (opens step) ≡ Unfit r → stepped s step l ≡ refused l r
-  unfolding stepped
-  unfit r e = decides (stateRows s (opens step)) (numberRows 0 (numbers step) ++ spaceRows (s .count) (s .count + length (added s step)) l) (refused l) (extended s (added s step) (startAfter s step) (closedAfter s step) l) r (unfit-first s (opens step) r e)
+  pub unfit : (r : Refusal) → judgeState s (opens step) ≡ Bad r → stepped s step l ≡ refuses Refused l r
+  unfolding stepped judgeState
+  unfit r e = rows-bad (stateRows s (opens step)) r e (numberRows 0 (numbers step) ++ spaceRows (s .count) (s .count + length (added s step)) l) (refuses Refused l) (extended s (added s step) (startAfter s step) (closedAfter s step) l)

@@ -7,12 +7,12 @@ use lib.Dec.{leb, ltb, eqb}
 use lib.Ieee.{Float}
 use lib.IntN.{ℤ, pos}
 use lib.Seq.{sets}
+use Rattle.whole.specs.Outcome.{Outcome, outcome, refuses}
 use Rattle.doubles.specs.Number.{measure, paper}
 use Rattle.shape.specs.Shape.{mostRecords}
 use Rattle.curve.specs.Limits.{beyond, limit}
 use Rattle.shape.specs.Refusals.{Row, row, judge, controlsRow}
 use Rattle.shape.specs.Exactly.{Told, Refuses, Accepts}
-use Rattle.shape.specs.declared.Refusal.{Refusal}
 use Rattle.drawing.specs.declared.Control.{Control}
 use Rattle.drawing.specs.declared.State.{State}
 use Rattle.drawing.specs.declared.Step.{Step}
@@ -63,24 +63,12 @@ spaceRows n m controls = row (ltb mostRecords m) 6 0 ∷ controlsRow (max n m) c
 abbrev pub rows : State → Step → List ℤ → List Row
 rows s step controls = stateRows s (opens step) ++ numberRows 0 (numbers step) ++ spaceRows (s .count) (next s step .count) controls
 
--- An answer, and the lent controls after it.
-pub record Outcome : Type 0 where
-  pub answer : Stepped
-  pub controls : List ℤ
-
-abbrev pub both : Stepped → List ℤ → Outcome
-both a l = record { answer = a; controls = l }
-
--- A refusal changes no lent number.
-abbrev pub refused : List ℤ → Refusal → Outcome
-refused l r = both (Refused r) l
-
 -- The records that the step adds are written from record number count on, and all other numbers stay.
-abbrev pub accepted : State → Step → List ℤ → Outcome
-accepted s step l = both (Next (next s step)) (sets l (2 * s .count) (flat (added s step)))
+abbrev pub accepts : State → Step → List ℤ → Outcome Stepped (List ℤ)
+accepts s step l = outcome (Next (next s step)) (sets l (2 * s .count) (flat (added s step)))
 
-unfoldable pub stepped : State → Step → List ℤ → Outcome
-stepped s step l = judge (rows s step l) (refused l) (accepted s step l)
+unfoldable pub stepped : State → Step → List ℤ → Outcome Stepped (List ℤ)
+stepped s step l = judge (rows s step l) (refuses Refused l) (accepts s step l)
 
 -- What the answer tells: the next state's count, start, current, and 1 where it is closed or 0; or the refusal.
 abbrev pub told : Stepped → Told

@@ -27,7 +27,7 @@ begin l = record { state = empty; controls = l }
 abbrev pub after : Held → Step → Held
 after h step =
     let out = stepped (h .state) step (h .controls) in
-    record { state = stateAfter (h .state) (out .answer); controls = out .controls }
+    record { state = stateAfter (h .state) (out .answer); controls = out .held }
 
 -- After a sequence of steps.
 unfoldable pub drawn : Held → List Step → Held

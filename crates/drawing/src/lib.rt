@@ -6,16 +6,18 @@ mod numbers;
 ghost use mathlib.Core.Path.{_≡_};
 ghost use mathlib.Core.List.{[], _∷_};
 ghost use Prim.Native.Nat.{_≤_};
+ghost use Rattle.whole.specs.Outcome.{outcome};
 ghost use Rattle.shape.specs.Shape.{mostRecords};
-ghost use Rattle.drawing.specs.declared.Checked.the-variants.{Fine};
+ghost use Rattle.shape.specs.declared.Checked.the-variants.{Fine};
 ghost use Rattle.drawing.specs.declared.Step.the-variants.{Move, Line, Cubic, Close};
 ghost use Rattle.drawing.specs.Drawing.{empty, opens};
-ghost use Rattle.drawing.specs.Reading.{miscounted, astray, outOfTurn, both, stepped};
+ghost use Rattle.drawing.specs.Reading.{miscounted, astray, outOfTurn, stepped};
 ghost use Rattle.drawing.specs.Parts.{judgeState, extends, goesOn};
 use controls::is_same;
 use controls::put;
 use controls::put_three;
 use numbers::control_of;
+use shape::Checked;
 use shape::MOST_RECORDS;
 use shape::Refusal;
 use shape::first_outside;
@@ -46,12 +48,6 @@ pub enum Step {
 pub enum Stepped {
     Next(State),
     Refused(Refusal),
-}
-
-// What the checks of a state find (rows 3, 8, 12).
-enum Checked {
-    Fine,
-    Unfit(Refusal),
 }
 
 // What a number of a step is (rows 10, 11).
@@ -140,19 +136,19 @@ impl State {
         ensures { λ r. ⌜ r ≡ judgeState self opening ⌝ }
     {
         if self.is_miscounted() {
-            return Checked::Unfit(Refusal {
+            return Checked::Bad(Refusal {
                 number: 3,
                 place: 0,
             });
         }
         if self.is_astray() {
-            return Checked::Unfit(Refusal {
+            return Checked::Bad(Refusal {
                 number: 8,
                 place: 0,
             });
         }
         if self.is_out_of_turn(opening) {
-            return Checked::Unfit(Refusal {
+            return Checked::Bad(Refusal {
                 number: 12,
                 place: 0,
             });
@@ -170,7 +166,7 @@ impl State {
         controls: &mut [i32],
     ) -> Stepped
         requires { ⌜ self .count ≤ mostRecords ⌝ }
-        ensures { λ r. ⌜ both r (now (controls .exit)) ≡ extends self (a ∷ b ∷ c ∷ []) (self .start) closed (now (controls .entry)) ⌝ }
+        ensures { λ r. ⌜ outcome r (now (controls .exit)) ≡ extends self (a ∷ b ∷ c ∷ []) (self .start) closed (now (controls .entry)) ⌝ }
     {
         let count = self.count;
         let start = self.start;
@@ -199,7 +195,7 @@ impl State {
     // Move gives the first control, and is start and current from then on.
     fn move_to(self, x: f64, y: f64, controls: &mut [i32]) -> Stepped
         requires { ⌜ judgeState self (opens (Move x y)) ≡ Fine ⌝ }
-        ensures { λ r. ⌜ both r (now (controls .exit)) ≡ goesOn self (Move x y) (now (controls .entry)) ⌝ }
+        ensures { λ r. ⌜ outcome r (now (controls .exit)) ≡ goesOn self (Move x y) (now (controls .entry)) ⌝ }
     {
         match control_of(x, y, 0) {
             Placed::Amiss(refusal) => Stepped::Refused(refusal),
@@ -224,7 +220,7 @@ impl State {
     // Line from A to B adds A, B, B.
     fn line_to(self, x: f64, y: f64, controls: &mut [i32]) -> Stepped
         requires { ⌜ judgeState self (opens (Line x y)) ≡ Fine ⌝ }
-        ensures { λ r. ⌜ both r (now (controls .exit)) ≡ goesOn self (Line x y) (now (controls .entry)) ⌝ }
+        ensures { λ r. ⌜ outcome r (now (controls .exit)) ≡ goesOn self (Line x y) (now (controls .entry)) ⌝ }
     {
         let current = self.current;
         let closed = self.closed;
@@ -246,7 +242,7 @@ impl State {
         controls: &mut [i32],
     ) -> Stepped
         requires { ⌜ judgeState self (opens (Cubic a b c d e f)) ≡ Fine ⌝ }
-        ensures { λ r. ⌜ both r (now (controls .exit)) ≡ goesOn self (Cubic a b c d e f) (now (controls .entry)) ⌝ }
+        ensures { λ r. ⌜ outcome r (now (controls .exit)) ≡ goesOn self (Cubic a b c d e f) (now (controls .entry)) ⌝ }
     {
         let closed = self.closed;
         match control_of(a, b, 0) {
@@ -264,7 +260,7 @@ impl State {
     // Close adds a Line to the start, or nothing where current is there already, and closes.
     fn close(self, controls: &mut [i32]) -> Stepped
         requires { ⌜ judgeState self (opens Close) ≡ Fine ⌝ }
-        ensures { λ r. ⌜ both r (now (controls .exit)) ≡ goesOn self Close (now (controls .entry)) ⌝ }
+        ensures { λ r. ⌜ outcome r (now (controls .exit)) ≡ goesOn self Close (now (controls .entry)) ⌝ }
     {
         let count = self.count;
         let start = self.start;
@@ -289,10 +285,10 @@ impl State {
     // One step of a drawing. It is refused by the first check that fails, 3, 8, 12, then its numbers in order, 6, 7, and then no lent number changes and no state.
     // Else the records that it adds are written from record number count on, every other lent number stays, and the next state comes back.
     pub fn step(self, step: Step, controls: &mut [i32]) -> Stepped
-        ensures { λ r. ⌜ both r (now (controls .exit)) ≡ stepped self step (now (controls .entry)) ⌝ }
+        ensures { λ r. ⌜ outcome r (now (controls .exit)) ≡ stepped self step (now (controls .entry)) ⌝ }
     {
         match self.check(step.opens()) {
-            Checked::Unfit(refusal) => Stepped::Refused(refusal),
+            Checked::Bad(refusal) => Stepped::Refused(refusal),
             Checked::Fine => match step {
                 Step::Move(x, y) => self.move_to(x, y, controls),
                 Step::Line(x, y) => self.line_to(x, y, controls),

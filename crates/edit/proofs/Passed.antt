@@ -6,7 +6,7 @@ use lib.IntN.{ℤ}
 use lib.ListN.{length}
 use Rattle.shape.specs.declared.Shape.{Shape}
 use Rattle.shape.specs.declared.Plan.{Plan}
-use Rattle.shape.specs.declared.Listed.the-variants.{Fine, Bad}
+use Rattle.shape.specs.declared.Checked.the-variants.{Fine, Bad}
 use Rattle.shape.specs.Refusals.{Row, NoRow, shapeRows, planOf}
 use Rattle.shape.proofs.Refusals.{judge-none, none-earlier, none-later, good-plan}
 use Rattle.outline.specs.Outline.{points}

@@ -10,6 +10,7 @@ use borrow.Author.Tests.{not-false, ltb-true, ltb-false, leb-true, leb-false, eq
 use lib.Dec.{ltb, eqb}
 use lib.IntN.{ℤ, pos, natAbs}
 use lib.ListN.{getD, length}
+use Rattle.whole.specs.Outcome.{refuses}
 use Rattle.curve.specs.declared.Basis.{Basis}
 use Rattle.curve.specs.declared.Basis.the-variants.{Bezier, BSpline, Cardinal, Hermite}
 use Rattle.curve.specs.Limits.{beyond, limit}
@@ -18,7 +19,7 @@ use Rattle.shape.specs.declared.Shape.{Shape}
 use Rattle.shape.specs.declared.Plan.{Plan}
 use Rattle.shape.specs.declared.Refusal.{Refusal}
 use Rattle.shape.specs.declared.Judged.the-variants.{Sound, Unsound}
-use Rattle.shape.specs.declared.Listed.the-variants.{Fine, Bad}
+use Rattle.shape.specs.declared.Checked.the-variants.{Fine, Bad}
 use Rattle.shape.specs.Good.{Good, Lent}
 use Rattle.shape.specs.Shape.{spansOf, recordsOf, mostRecords}
 use Rattle.shape.specs.Refusals.{NoRow, judgeShape, planOf, controlRows, pointRows}
@@ -33,8 +34,9 @@ use Rattle.asked.specs.declared.Edit.{Edit}
 use Rattle.asked.specs.declared.Edit.the-variants.{Move, Insert, Remove}
 use Rattle.asked.specs.Edits.{countAfter, spansAfter, offered, inRange, atTheEnd, newOutside, choose, controlAt, asked, pastFresh}
 use Rattle.asked.specs.Ready.{Askable}
+use Rattle.edit.specs.declared.Edited.the-variants.{Refused}
 use Rattle.edit.specs.Carried.{Carriable}
-use Rattle.edit.specs.Reading.{shapeAfter, planAfter, askRows, judgeAsk, newRows, roomRows, judgeRoom, editRows, refuses, accepts, editsPlan, editsRoom, edits}
+use Rattle.edit.specs.Reading.{shapeAfter, planAfter, askRows, judgeAsk, newRows, roomRows, judgeRoom, editRows, accepts, editsPlan, editsRoom, edits}
 use Rattle.edit.specs.Ready.{Editable, Workable}
 
 -- ---- the new shape
@@ -257,24 +259,24 @@ module _ (e : Edit) (s : Shape) (p : Plan) (j : ℕ) (ok : Editable e s p j) (co
 -- ---- the reading, row by row
 
 -- rows 1, 2, 3
-pub edits-unsound : (e : Edit) (s : Shape) (r : Refusal) → judgeShape s ≡ Unsound r → (j : ℕ) (controls lent : List ℤ) → edits e s j controls lent ≡ refuses controls lent r
+pub edits-unsound : (e : Edit) (s : Shape) (r : Refusal) → judgeShape s ≡ Unsound r → (j : ℕ) (controls lent : List ℤ) → edits e s j controls lent ≡ refuses Refused (controls, lent) r
 unfolding edits
 edits-unsound e s r t j controls lent =
-    let q = planOf (shapeAfter e s) in unsound s r t (editRows e s (planOf s) q j controls lent) (refuses controls lent) (accepts e s q j controls lent)
+    let q = planOf (shapeAfter e s) in unsound s r t (editRows e s (planOf s) q j controls lent) (refuses Refused (controls, lent)) (accepts e s q j controls lent)
 
 pub edits-sound : (e : Edit) (s : Shape) (p : Plan) → judgeShape s ≡ Sound p → (j : ℕ) (controls lent : List ℤ) → edits e s j controls lent ≡ editsPlan e s p (planOf (shapeAfter e s)) j controls lent
 unfolding edits editsPlan
 edits-sound e s p t j controls lent =
     let q = planOf (shapeAfter e s) in
-    sound s p t (editRows e s (planOf s) q j controls lent) (refuses controls lent) (accepts e s q j controls lent)
+    sound s p t (editRows e s (planOf s) q j controls lent) (refuses Refused (controls, lent)) (accepts e s q j controls lent)
     ∙ ap (λ r. editsPlan e s r q j controls lent) (sym (sound-plan s p t))
 
 module _ (e : Edit) (s : Shape) (p : Plan) (j : ℕ) (controls lent : List ℤ) where
   -- rows 4, 5, 6
-  pub plan-bad : (q : Plan) (r : Refusal) → judgeAsk e (p .basis) j (s .count) ≡ Bad r → editsPlan e s p q j controls lent ≡ refuses controls lent r
+  pub plan-bad : (q : Plan) (r : Refusal) → judgeAsk e (p .basis) j (s .count) ≡ Bad r → editsPlan e s p q j controls lent ≡ refuses Refused (controls, lent) r
   unfolding editsPlan judgeAsk
   plan-bad q r t =
-      rows-bad (askRows e (p .basis) j (s .count)) r t (roomRows e (s .count) controls (max (points p) (points q)) (length lent)) (refuses controls lent) (accepts e s q j controls lent)
+      rows-bad (askRows e (p .basis) j (s .count)) r t (roomRows e (s .count) controls (max (points p) (points q)) (length lent)) (refuses Refused (controls, lent)) (accepts e s q j controls lent)
 
   pub editable : Good s p → judgeAsk e (p .basis) j (s .count) ≡ Fine → Editable e s p j
   unfolding judgeAsk
@@ -291,17 +293,17 @@ module _ (e : Edit) (s : Shape) (p : Plan) (j : ℕ) (controls lent : List ℤ) 
   pub plan-fine : (q : Plan) → judgeAsk e (p .basis) j (s .count) ≡ Fine → editsPlan e s p q j controls lent ≡ editsRoom e s p q j controls lent
   unfolding editsPlan judgeAsk editsRoom
   plan-fine q t =
-      rows-fine (askRows e (p .basis) j (s .count)) t (roomRows e (s .count) controls (max (points p) (points q)) (length lent)) (refuses controls lent) (accepts e s q j controls lent)
+      rows-fine (askRows e (p .basis) j (s .count)) t (roomRows e (s .count) controls (max (points p) (points q)) (length lent)) (refuses Refused (controls, lent)) (accepts e s q j controls lent)
 
   -- rows 7, 8, 9
-  pub room-bad : (q : Plan) (r : Refusal) → judgeRoom e (s .count) controls (max (points p) (points q)) (length lent) ≡ Bad r → editsRoom e s p q j controls lent ≡ refuses controls lent r
+  pub room-bad : (q : Plan) (r : Refusal) → judgeRoom e (s .count) controls (max (points p) (points q)) (length lent) ≡ Bad r → editsRoom e s p q j controls lent ≡ refuses Refused (controls, lent) r
   unfolding editsRoom judgeRoom
   room-bad q r t =
       let rows = roomRows e (s .count) controls (max (points p) (points q)) (length lent) in
-      judge-first rows (refuses controls lent) (accepts e s q j controls lent) r (rows-first rows r t)
+      judge-first rows (refuses Refused (controls, lent)) (accepts e s q j controls lent) r (rows-first rows r t)
 
   pub room-fine : (q : Plan) → judgeRoom e (s .count) controls (max (points p) (points q)) (length lent) ≡ Fine → editsRoom e s p q j controls lent ≡ accepts e s q j controls lent
   unfolding editsRoom judgeRoom
   room-fine q t =
       let rows = roomRows e (s .count) controls (max (points p) (points q)) (length lent) in
-      judge-none rows (refuses controls lent) (accepts e s q j controls lent) (rows-none rows t)
+      judge-none rows (refuses Refused (controls, lent)) (accepts e s q j controls lent) (rows-none rows t)

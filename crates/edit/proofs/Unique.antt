@@ -1,8 +1,7 @@
 -- No second outcome: over the contract of each public edit as it is generated from the source, two answers, each with what both lent lists hold at the end, that both
 -- meet it at the same arguments are the same.
-use mathlib.Core.Path.{_≡_, sym, ap, _∙_}
+use mathlib.Core.Path.{sym, _∙_}
 use Rattle.whole.specs.Unique.{Unique}
-use Rattle.edit.specs.Reading.{Outcome, outcome}
 use Rattle.edit.proofs.move_record.Kinds as move
 use Rattle.edit.proofs.move_record.Reads as move-reads
 use Rattle.edit.proofs.insert_record.Kinds as insert
@@ -12,15 +11,15 @@ use Rattle.edit.proofs.remove_record.Reads as remove-reads
 
 pub move-record-unique : Unique 2 move.ps move.r move-reads.Post
 move-record-unique κs a x y u v p q =
-    let same : outcome x (u .1 .1 .1 .1 .0) (u .1 .1 .1 .1 .1 .0) ≡ outcome y (v .1 .1 .1 .1 .0) (v .1 .1 .1 .1 .1 .0) = p ∙ sym q in
-    (ap (λ (o : Outcome). o .answer) same, λ i. (tt, (tt, (tt, (tt, (same i .controls, (same i .held, tt)))))))
+    let same = p ∙ sym q in
+    (λ i. same i .answer, λ i. (tt, (tt, (tt, (tt, (same i .held .0, (same i .held .1, tt)))))))
 
 pub insert-record-unique : Unique 2 insert.ps insert.r insert-reads.Post
 insert-record-unique κs a x y u v p q =
-    let same : outcome x (u .1 .1 .1 .1 .0) (u .1 .1 .1 .1 .1 .0) ≡ outcome y (v .1 .1 .1 .1 .0) (v .1 .1 .1 .1 .1 .0) = p ∙ sym q in
-    (ap (λ (o : Outcome). o .answer) same, λ i. (tt, (tt, (tt, (tt, (same i .controls, (same i .held, tt)))))))
+    let same = p ∙ sym q in
+    (λ i. same i .answer, λ i. (tt, (tt, (tt, (tt, (same i .held .0, (same i .held .1, tt)))))))
 
 pub remove-record-unique : Unique 2 remove.ps remove.r remove-reads.Post
 remove-record-unique κs a x y u v p q =
-    let same : outcome x (u .1 .1 .0) (u .1 .1 .1 .0) ≡ outcome y (v .1 .1 .0) (v .1 .1 .1 .0) = p ∙ sym q in
-    (ap (λ (o : Outcome). o .answer) same, λ i. (tt, (tt, (same i .controls, (same i .held, tt)))))
+    let same = p ∙ sym q in
+    (λ i. same i .answer, λ i. (tt, (tt, (same i .held .0, (same i .held .1, tt)))))

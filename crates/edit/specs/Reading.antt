@@ -5,11 +5,11 @@ use mathlib.Core.List.{List, [], _∷_, _++_}
 use Prim.Native.Nat.{ℕ, _*_, max}
 use lib.IntN.{ℤ, pos}
 use lib.ListN.{length}
+use Rattle.whole.specs.Outcome.{Outcome, outcome, refuses}
 use Rattle.shape.specs.declared.Shape.{Shape}
 use Rattle.shape.specs.declared.Plan.{Plan}
-use Rattle.shape.specs.declared.Refusal.{Refusal}
-use Rattle.shape.specs.declared.Listed.{Listed}
-use Rattle.shape.specs.declared.Listed.the-variants.{Fine, Bad}
+use Rattle.shape.specs.declared.Checked.{Checked}
+use Rattle.shape.specs.declared.Checked.the-variants.{Fine, Bad}
 use Rattle.curve.specs.declared.Basis.{Basis}
 use Rattle.shape.specs.Refusals.{Row, row, judge, shapeRows, controlRows, pointRows, planOf}
 use Rattle.shape.specs.Exactly.{Told, Refuses, Accepts}
@@ -33,7 +33,7 @@ planAfter e p = record { basis = p .basis; depth = p .depth; spans = spansAfter 
 abbrev pub askRows : Edit → Basis → ℕ → ℕ → List Row
 askRows e b j n = row (not (offered e b)) 4 0 ∷ row (not (inRange e j n)) 5 j ∷ row (atTheEnd e n) 6 0 ∷ []
 
-unfoldable pub judgeAsk : Edit → Basis → ℕ → ℕ → Listed
+unfoldable pub judgeAsk : Edit → Basis → ℕ → ℕ → Checked
 judgeAsk e b j n = judge (askRows e b j n) Bad Fine
 
 -- Row 8 for the new record, whose place is n.
@@ -44,25 +44,13 @@ newRows e n = row (newOutside e) 8 n ∷ []
 abbrev pub roomRows : Edit → ℕ → List ℤ → ℕ → ℕ → List Row
 roomRows e n controls most len = controlRows (max n (countAfter e n)) n controls ++ (newRows e n ++ pointRows most len)
 
-unfoldable pub judgeRoom : Edit → ℕ → List ℤ → ℕ → ℕ → Listed
+unfoldable pub judgeRoom : Edit → ℕ → List ℤ → ℕ → ℕ → Checked
 judgeRoom e n controls most len = judge (roomRows e n controls most len) Bad Fine
 
 -- Rows 4 to 9, for a sound shape with its plan p, and q the plan of the new shape.
 abbrev pub editRows : Edit → Shape → Plan → Plan → ℕ → List ℤ → List ℤ → List Row
 editRows e s p q j controls lent =
     askRows e (p .basis) j (s .count) ++ roomRows e (s .count) controls (max (points p) (points q)) (length lent)
-
--- The answer, and both lent lists as the call leaves them.
-pub record Outcome : Type 0 where
-  pub answer : Edited
-  pub controls : List ℤ
-  pub held : List ℤ
-
-abbrev pub outcome : Edited → List ℤ → List ℤ → Outcome
-outcome r controls lent = record { answer = r; controls = controls; held = lent }
-
-abbrev pub refuses : List ℤ → List ℤ → Refusal → Outcome
-refuses controls lent r = outcome (Refused r) controls lent
 
 -- The answer of an accepted edit: the new shape, and its run of the m spans there.
 abbrev pub change : Edit → Shape → Basis → ℕ → ℕ → Change
@@ -75,22 +63,23 @@ controlsAfter e s j controls = asked e j controls (countAfter e (s .count))
 abbrev pub pointsAfter : Edit → Shape → Plan → ℕ → List ℤ → List ℤ → List ℤ
 pointsAfter e s q j controls lent = filled (pointAt e (q .basis) (q .depth) j (q .spans) (controlsAfter e s j controls) lent) 0 (2 * points q) lent
 
-abbrev pub accepts : Edit → Shape → Plan → ℕ → List ℤ → List ℤ → Outcome
-accepts e s q j controls lent = outcome (Done (change e s (q .basis) j (q .spans))) (controlsAfter e s j controls) (pointsAfter e s q j controls lent)
+-- Both lent lists are left: the controls, and the points.
+abbrev pub accepts : Edit → Shape → Plan → ℕ → List ℤ → List ℤ → Outcome Edited (List ℤ × List ℤ)
+accepts e s q j controls lent = outcome (Done (change e s (q .basis) j (q .spans))) (controlsAfter e s j controls, pointsAfter e s q j controls lent)
 
-unfoldable pub editsPlan : Edit → Shape → Plan → Plan → ℕ → List ℤ → List ℤ → Outcome
-editsPlan e s p q j controls lent = judge (editRows e s p q j controls lent) (refuses controls lent) (accepts e s q j controls lent)
+unfoldable pub editsPlan : Edit → Shape → Plan → Plan → ℕ → List ℤ → List ℤ → Outcome Edited (List ℤ × List ℤ)
+editsPlan e s p q j controls lent = judge (editRows e s p q j controls lent) (refuses Refused (controls, lent)) (accepts e s q j controls lent)
 
 -- The same from row 7 on.
-unfoldable pub editsRoom : Edit → Shape → Plan → Plan → ℕ → List ℤ → List ℤ → Outcome
+unfoldable pub editsRoom : Edit → Shape → Plan → Plan → ℕ → List ℤ → List ℤ → Outcome Edited (List ℤ × List ℤ)
 editsRoom e s p q j controls lent =
-    judge (roomRows e (s .count) controls (max (points p) (points q)) (length lent)) (refuses controls lent) (accepts e s q j controls lent)
+    judge (roomRows e (s .count) controls (max (points p) (points q)) (length lent)) (refuses Refused (controls, lent)) (accepts e s q j controls lent)
 
-unfoldable pub edits : Edit → Shape → ℕ → List ℤ → List ℤ → Outcome
+unfoldable pub edits : Edit → Shape → ℕ → List ℤ → List ℤ → Outcome Edited (List ℤ × List ℤ)
 edits e s j controls lent =
     let p = planOf s in
     let q = planOf (shapeAfter e s) in
-    judge (shapeRows s ++ editRows e s p q j controls lent) (refuses controls lent) (accepts e s q j controls lent)
+    judge (shapeRows s ++ editRows e s p q j controls lent) (refuses Refused (controls, lent)) (accepts e s q j controls lent)
 
 -- What the answer tells: the new shape, the first span worked afresh and how many; or the refusal.
 abbrev pub told : Edited → Told

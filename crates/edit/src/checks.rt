@@ -11,19 +11,19 @@ use asked::counts::is_in_range;
 use asked::counts::is_new_outside;
 use asked::counts::is_offered;
 use curve::Basis;
-use shape::Listed;
+use shape::Checked;
 use shape::Refusal;
 use shape::first_outside;
 
 // A refusal, as the checks find it.
-fn refused(number: usize, place: usize) -> Listed
-    ensures { λ r. ⌜ r ≡ Listed.Bad (record { number = number; place = place }) ⌝ }
+fn refused(number: usize, place: usize) -> Checked
+    ensures { λ r. ⌜ r ≡ Checked.Bad (record { number = number; place = place }) ⌝ }
 {
-    Listed::Bad(Refusal { number, place })
+    Checked::Bad(Refusal { number, place })
 }
 
 // The checks of what is asked in the paper's order, 4, 5, 6.
-pub(crate) fn check_ask(edit: Edit, basis: Basis, place: usize, count: usize) -> Listed
+pub(crate) fn check_ask(edit: Edit, basis: Basis, place: usize, count: usize) -> Checked
     ensures { λ r. ⌜ r ≡ judgeAsk edit basis place count ⌝ }
 {
     if !is_offered(edit, basis) {
@@ -35,7 +35,7 @@ pub(crate) fn check_ask(edit: Edit, basis: Basis, place: usize, count: usize) ->
     if is_at_the_end(edit, count) {
         return refused(6, 0);
     }
-    Listed::Fine
+    Checked::Fine
 }
 
 // The checks of the lent lists in the paper's order, 7, 8, 8 for the new record, 9.
@@ -45,7 +45,7 @@ pub(crate) fn check_room(
     controls: &[i32],
     most: usize,
     len: usize,
-) -> Listed
+) -> Checked
     requires { ⌜ (1 ≤ count) × (count ≤ mostRecords) × (most ≤ mostPoints) ⌝ }
     ensures { λ r. ⌜ r ≡ judgeRoom edit count (now (controls .entry)) most len ⌝ }
 {
@@ -62,5 +62,5 @@ pub(crate) fn check_room(
     if len < 2 * most {
         return refused(9, 0);
     }
-    Listed::Fine
+    Checked::Fine
 }

@@ -10,10 +10,11 @@ ghost use mathlib.Core.Path.{_≡_};
 ghost use Prim.Native.Nat.{_≤_};
 ghost use lib.Dec.{ltb};
 ghost use lib.ListN.{length};
+ghost use Rattle.whole.specs.Outcome.{outcome};
 ghost use Rattle.shape.specs.Good.{Good};
 ghost use Rattle.shape.specs.Refusals.{planOf};
 ghost use Rattle.shape.specs.Shape.{mostRecords};
-ghost use Rattle.edit.specs.Reading.{accepts, change, edits, editsPlan, editsRoom, outcome, planAfter, shapeAfter};
+ghost use Rattle.edit.specs.Reading.{accepts, change, edits, editsPlan, editsRoom, planAfter, shapeAfter};
 ghost use Rattle.edit.specs.Ready.{Editable, Workable};
 use asked::asking::ask;
 use asked::counts::count_after;
@@ -25,8 +26,8 @@ use asked::counts::spans_after;
 use checks::check_ask;
 use checks::check_room;
 use curve::Basis;
+use shape::Checked;
 use shape::Judged;
-use shape::Listed;
 use shape::Plan;
 use shape::Refusal;
 use shape::Shape;
@@ -55,7 +56,7 @@ pub fn move_record(
     controls: &mut [i32],
     points: &mut [i32],
 ) -> Edited
-    ensures { λ r. ⌜ outcome r (now (controls .exit)) (now (points .exit)) ≡ edits (Edit.Move x y) shape place (now (controls .entry)) (now (points .entry)) ⌝ }
+    ensures { λ r. ⌜ outcome r (now (controls .exit), now (points .exit)) ≡ edits (Edit.Move x y) shape place (now (controls .entry)) (now (points .entry)) ⌝ }
 {
     edit_shape(Edit::Move(x, y), shape, place, controls, points)
 }
@@ -69,14 +70,14 @@ pub fn insert_record(
     controls: &mut [i32],
     points: &mut [i32],
 ) -> Edited
-    ensures { λ r. ⌜ outcome r (now (controls .exit)) (now (points .exit)) ≡ edits (Edit.Insert x y) shape place (now (controls .entry)) (now (points .entry)) ⌝ }
+    ensures { λ r. ⌜ outcome r (now (controls .exit), now (points .exit)) ≡ edits (Edit.Insert x y) shape place (now (controls .entry)) (now (points .entry)) ⌝ }
 {
     edit_shape(Edit::Insert(x, y), shape, place, controls, points)
 }
 
 // Record `place` is taken out, for bases 2 and 3. The spans after the fresh ones are carried back by one span.
 pub fn remove_record(shape: Shape, place: usize, controls: &mut [i32], points: &mut [i32]) -> Edited
-    ensures { λ r. ⌜ outcome r (now (controls .exit)) (now (points .exit)) ≡ edits Edit.Remove shape place (now (controls .entry)) (now (points .entry)) ⌝ }
+    ensures { λ r. ⌜ outcome r (now (controls .exit), now (points .exit)) ≡ edits Edit.Remove shape place (now (controls .entry)) (now (points .entry)) ⌝ }
 {
     edit_shape(Edit::Remove, shape, place, controls, points)
 }
@@ -89,7 +90,7 @@ fn edit_shape(
     controls: &mut [i32],
     points: &mut [i32],
 ) -> Edited
-    ensures { λ r. ⌜ outcome r (now (controls .exit)) (now (points .exit)) ≡ edits edit shape place (now (controls .entry)) (now (points .entry)) ⌝ }
+    ensures { λ r. ⌜ outcome r (now (controls .exit), now (points .exit)) ≡ edits edit shape place (now (controls .entry)) (now (points .entry)) ⌝ }
 {
     match check_shape(shape) {
         Judged::Unsound(refusal) => Edited::Refused(refusal),
@@ -107,12 +108,12 @@ fn edit_plan(
     points: &mut [i32],
 ) -> Edited
     requires { ⌜ Good shape plan ⌝ }
-    ensures { λ r. ⌜ outcome r (now (controls .exit)) (now (points .exit)) ≡ editsPlan edit shape plan (planOf (shapeAfter edit shape)) place (now (controls .entry)) (now (points .entry)) ⌝ }
+    ensures { λ r. ⌜ outcome r (now (controls .exit), now (points .exit)) ≡ editsPlan edit shape plan (planOf (shapeAfter edit shape)) place (now (controls .entry)) (now (points .entry)) ⌝ }
 {
     let basis = plan.basis;
     match check_ask(edit, basis, place, shape.count) {
-        Listed::Bad(refusal) => Edited::Refused(refusal),
-        Listed::Fine => edit_room(edit, shape, plan, place, controls, points),
+        Checked::Bad(refusal) => Edited::Refused(refusal),
+        Checked::Fine => edit_room(edit, shape, plan, place, controls, points),
     }
 }
 
@@ -126,7 +127,7 @@ fn edit_room(
     points: &mut [i32],
 ) -> Edited
     requires { ⌜ Editable edit shape plan place ⌝ }
-    ensures { λ r. ⌜ outcome r (now (controls .exit)) (now (points .exit)) ≡ editsRoom edit shape plan (planAfter edit plan) place (now (controls .entry)) (now (points .entry)) ⌝ }
+    ensures { λ r. ⌜ outcome r (now (controls .exit), now (points .exit)) ≡ editsRoom edit shape plan (planAfter edit plan) place (now (controls .entry)) (now (points .entry)) ⌝ }
 {
     let basis = plan.basis;
     let next = Plan {
@@ -136,8 +137,8 @@ fn edit_room(
     };
     let most = greatest(plan.points(), next.points());
     match check_room(edit, shape.count, controls, most, points.len()) {
-        Listed::Bad(refusal) => Edited::Refused(refusal),
-        Listed::Fine => edit_lists(edit, shape, next, place, controls, points),
+        Checked::Bad(refusal) => Edited::Refused(refusal),
+        Checked::Fine => edit_lists(edit, shape, next, place, controls, points),
     }
 }
 
@@ -151,7 +152,7 @@ fn edit_lists(
     points: &mut [i32],
 ) -> Edited
     requires { ⌜ Workable edit shape plan place (now controls) (length (now points)) ⌝ }
-    ensures { λ r. ⌜ outcome r (now (controls .exit)) (now (points .exit)) ≡ accepts edit shape plan place (now (controls .entry)) (now (points .entry)) ⌝ }
+    ensures { λ r. ⌜ outcome r (now (controls .exit), now (points .exit)) ≡ accepts edit shape plan place (now (controls .entry)) (now (points .entry)) ⌝ }
 {
     let basis = plan.basis;
     ask(edit, place, shape.count, controls);

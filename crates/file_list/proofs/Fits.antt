@@ -13,6 +13,7 @@ use lib.Seq.{sets, sets-eq, take-at}
 use Rattle.curve.specs.Numbers.{tab}
 use Rattle.curve.proofs.Tab.{length-tab}
 use Rattle.shape.specs.declared.Refusal.{Refusal}
+use Rattle.shape.specs.Shape.{mostRecords}
 use Rattle.shape.specs.Refusals.{First, NoRow, outside}
 use Rattle.shape.proofs.Refusals.{row-fails, first-either, Each, each-both, each-first, verdict}
 use Rattle.shape.proofs.Seek.{seek-to}
@@ -35,13 +36,13 @@ record Short (r : Refusal) : Type 0 where
   place : r .place < 10 ^ 2
 
 module _ (file : List ℕ) where
-  records-short : (i m : ℕ) → i + m ≤ 64 → Each Short (recordRows file i m)
+  records-short : (i m : ℕ) → i + m ≤ mostRecords → Each Short (recordRows file i m)
   unfolding recordRows
   records-short i zero few = tt
   records-short i (suc m) few =
       (record { number = omega arith; place = omega arith }, (record { number = omega arith; place = omega arith }, records-short (suc i) m (omega arith)))
 
-  later-short : (m : ℕ) → m ≤ 64 → Each Short (laterRows file m controls)
+  later-short : (m : ℕ) → m ≤ mostRecords → Each Short (laterRows file m controls)
   later-short m few = let found = seek-to (outside (numbers file m)) 0 m in search needs
 
   refused-short : (r : Refusal) → First (fileRows file controls) r → Short r
@@ -52,7 +53,7 @@ module _ (file : List ℕ) where
       ⊎-elim (λ (g : First first r). each-first Short first (search needs) r g)
       (λ (g : NoRow first × First rest r).
       let long = or-false (eqb (length file) 0) (ltb mostBytes (length file)) (row-fails 3 first (g .0)) in
-      let few : n ≤ 64 = omega (arith, ltb-false mostBytes (length file) (long .1)) in
+      let few : n ≤ mostRecords = omega (arith, ltb-false mostBytes (length file) (long .1)) in
       each-first Short rest (each-both Short (recordRows file 0 n) (laterRows file n controls) (records-short 0 n (omega (arith, few))) (later-short n few)) r (g .1))
       (first-either first rest r f)
 

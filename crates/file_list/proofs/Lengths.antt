@@ -1,4 +1,4 @@
--- The text of a file is never longer than 113,257 characters: a heading has at most 12, each of at most 3,905 points a line of at most 23, since its number has four digits and
+-- The text of a file is never longer than the room for the longest: a heading has at most 12 characters, each point a line of at most 23, since its number has four digits and
 -- its coordinates seven and a sign; and the line of a refusal has at most 14.
 use mathlib.Core.Path.{_≡_, subst}
 use mathlib.Core.List.{List, [], _∷_, _++_}
@@ -10,6 +10,7 @@ use Rattle.curve.specs.Numbers.{tab}
 use Rattle.listing.specs.Decimal.{natural, decimal}
 use Rattle.listing.specs.Listing.{space, newline, heading, pointLine, pointLines, outlineText, refusalText}
 use Rattle.listing.proofs.Digits.{at-most}
+use Rattle.file_list.specs.Files.{mostListed, mostHeading}
 
 decimal-at-most : (k : ℕ) (z : ℤ) → natAbs z < 10 ^ suc k → length (decimal z) ≤ suc (suc k)
 decimal-at-most k (pos n) h = omega (arith, at-most k n h)
@@ -50,7 +51,7 @@ point-lines f i j (suc m) few near =
       point-lines f (suc i) (suc (suc j)) m (omega arith) (λ q a b. near q (omega arith) (omega arith)),
     ))
 
-heading-length : (b k m n : ℕ) → b < 10 → k < 10 → m < 10 ^ 2 → n < 10 ^ 4 → length (heading b k m n) ≤ 12
+heading-length : (b k m n : ℕ) → b < 10 → k < 10 → m < 10 ^ 2 → n < 10 ^ 4 → length (heading b k m n) ≤ mostHeading
 heading-length b k m n small shallow short few =
     let last = natural n ++ (newline ∷ []) in
     let third = natural m ++ (space ∷ last) in
@@ -73,8 +74,8 @@ refusal-length a b few low =
     omega (arith, word-length (natural a) space last, word-length (natural b) newline [], at-most 1 a few, at-most 1 b low)
 
 -- an outline of m points whose numbers a rule gives
-pub outline-length : (b k s : ℕ) (f : ℕ → ℤ) (m : ℕ) → b < 10 → k < 10 → s < 10 ^ 2 → m ≤ 3905 → ((q : ℕ) → q < 2 * m → natAbs (f q) < 10 ^ 7) → length (tab f 0 (2 * m)) ≡ 2 * m
-    → length (outlineText b k s (tab f 0 (2 * m))) ≤ 12 + 23 * m
+pub outline-length : (b k s : ℕ) (f : ℕ → ℤ) (m : ℕ) → b < 10 → k < 10 → s < 10 ^ 2 → m ≤ mostListed → ((q : ℕ) → q < 2 * m → natAbs (f q) < 10 ^ 7) → length (tab f 0 (2 * m)) ≡ 2 * m
+    → length (outlineText b k s (tab f 0 (2 * m))) ≤ mostHeading + 23 * m
 unfolding outlineText
 outline-length b k s f m small shallow short few near all =
     let points = tab f 0 (2 * m) in

@@ -9,6 +9,7 @@ use lib.Dec.{ltb}
 use lib.IntN.{ℤ}
 use lib.ListN.{length}
 use lib.Seq.{sets, length-sets}
+use Rattle.curve.specs.Ways.{deepest}
 use Rattle.curve.proofs.Tab.{length-tab}
 use Rattle.shape.specs.declared.Shape.{Shape}
 use Rattle.shape.specs.declared.Plan.{Plan}
@@ -24,7 +25,7 @@ use Rattle.record_file.specs.Format.{numbers}
 use Rattle.record_file.specs.Rows as rows
 use Rattle.record_file.specs.Rows.{recordCount, lengthRows, recordRows, laterRows, shapeOf, fileRows}
 use Rattle.record_file.proofs.Outside.{outside-written}
-use Rattle.file_list.specs.Files.{controls, points}
+use Rattle.file_list.specs.Files.{mostSpans, mostListed, controls, points}
 
 module _ (file : List ℕ) (none : NoRow (fileRows file controls)) where
   abbrev pub n : ℕ
@@ -51,13 +52,12 @@ module _ (file : List ℕ) (none : NoRow (fileRows file controls)) where
   room : 2 * n ≤ length controls
   room = omega (arith, good .records-most)
 
-  -- 61 spans at depth 6
-  pub few-points : outline.points p ≤ 3905
+  pub few-points : outline.points p ≤ mostListed
   unfolding pointsOf
   few-points =
-      let steps : 2 ^ p .depth ≤ 2 ^ 6 = pow-le-pow-right {n = 2} (omega arith) (good .depth-most) in
-      let spans : p .spans ≤ 61 = omega (arith, good .spans-most, good .records-most) in
-      let all : p .spans * 2 ^ p .depth ≤ 61 * 2 ^ 6 = mul-le-mul spans steps in
+      let steps : 2 ^ p .depth ≤ 2 ^ deepest = pow-le-pow-right {n = 2} (omega arith) (good .depth-most) in
+      let spans : p .spans ≤ mostSpans = omega (arith, good .spans-most, good .records-most) in
+      let all : p .spans * 2 ^ p .depth ≤ mostSpans * 2 ^ deepest = mul-le-mul spans steps in
       omega (arith, all)
 
   -- rows 7, 8 and 9 for the controls that were read

@@ -10,6 +10,7 @@ use lib.IntN.{ℤ}
 use lib.Dec.{leb}
 use lib.ListN.{length, length-append, take, drop}
 use lib.Seq.{length-sets}
+use Rattle.whole.specs.Outcome.{Outcome, outcome}
 use Rattle.curve.specs.Numbers.{tab}
 use Rattle.shape.specs.declared.Shape.{Shape}
 use Rattle.shape.specs.declared.Refusal.{Refusal}
@@ -23,12 +24,12 @@ use Rattle.outline.specs.Outline as outline
 use Rattle.outline.specs.Outline.{drawRows, draws}
 use Rattle.outline.proofs.Draws.{draws-unsound}
 use Rattle.outline.proofs.Exactly.{points-none, none-drawn}
+use Rattle.record_file.specs.declared.Reading.{Reading}
 use Rattle.record_file.specs.declared.Reading.the-variants as read
-use Rattle.record_file.specs.Rows as records
 use Rattle.record_file.specs.Rows.{reading}
+use Rattle.listing.specs.declared.Put.{Put}
 use Rattle.listing.specs.declared.Put.the-variants.{End, Full}
 use Rattle.listing.specs.Listing.{outlineText, listed}
-use Rattle.listing.specs.Written as listing
 use Rattle.listing.specs.Written.{written}
 use Rattle.file_list.specs.Files.{controls, points, refusedText, answeredText, shapeText, readText, fileText, countOf, counted, lists}
 
@@ -39,70 +40,70 @@ pointsIn (drawn.Refused r) = 0
 
 module _ (s : Shape) (c : List ℤ) where
   -- what drawing answered, and left in the points
-  pub text-then : (o : outline.Outcome) → draws s c points ≡ o → shapeText s c ≡ answeredText s (o .held) (o .answer)
+  pub text-then : (o : Outcome Drawn (List ℤ)) → draws s c points ≡ o → shapeText s c ≡ answeredText s (o .held) (o .answer)
   unfolding shapeText
-  text-then o e = ap (λ (o : outline.Outcome). answeredText s (o .held) (o .answer)) e
+  text-then o e = ap (λ (o : Outcome Drawn (List ℤ)). answeredText s (o .held) (o .answer)) e
 
-  pub refused-text : (r : Refusal) (held : List ℤ) → draws s c points ≡ outline.outcome (drawn.Refused r) held → shapeText s c ≡ refusedText r
-  refused-text r held e = text-then (outline.outcome (drawn.Refused r) held) e
+  pub refused-text : (r : Refusal) (held : List ℤ) → draws s c points ≡ outcome (drawn.Refused r) held → shapeText s c ≡ refusedText r
+  refused-text r held e = text-then (outcome (drawn.Refused r) held) e
 
   pub unsound-text : (r : Refusal) → judgeShape s ≡ Unsound r → shapeText s c ≡ refusedText r
   unsound-text r e = refused-text r points (draws-unsound s r e c points)
 
   -- the points that were answered are all there
-  all-there : (n : ℕ) (held : List ℤ) → draws s c points ≡ outline.outcome (drawn.Points n) held → 2 * n ≤ length held
+  all-there : (n : ℕ) (held : List ℤ) → draws s c points ≡ outcome (drawn.Points n) held → 2 * n ≤ length held
   all-there n held e =
       let p = planOf s in
       let none = points-none s c points n held e in
-      let is : outline.accepts p c points ≡ outline.outcome (drawn.Points n) held = sym (none-drawn s c points none) ∙ e in
+      let is : outline.accepts p c points ≡ outcome (drawn.Points n) held = sym (none-drawn s c points none) ∙ e in
       let room : 2 * outline.points p ≤ length points = ltb-false (length points) (2 * outline.points p) (row-fails 9 (drawRows s c points) none) in
-      let count : outline.points p ≡ n = ap (λ (o : outline.Outcome). pointsIn (o .answer)) is in
-      let long : length (outline.drawn p c points) ≡ length held = ap (λ (o : outline.Outcome). length (o .held)) is in
+      let count : outline.points p ≡ n = ap (λ (o : Outcome Drawn (List ℤ)). pointsIn (o .answer)) is in
+      let long : length (outline.drawn p c points) ≡ length held = ap (λ (o : Outcome Drawn (List ℤ)). length (o .held)) is in
       omega (arith, room, count, long, length-sets points 0 (tab (outline.numbers p c) 0 (2 * outline.points p)))
 
-  pub listed-text : (n : ℕ) (held : List ℤ) (text : List ℕ) → draws s c points ≡ outline.outcome (drawn.Points n) held
+  pub listed-text : (n : ℕ) (held : List ℤ) (text : List ℕ) → draws s c points ≡ outcome (drawn.Points n) held
       → listed text (s .basis) (s .depth) (planOf s .spans) held n ≡ written text 0 (shapeText s c)
   unfolding listed
   listed-text n held text e =
       let whole = outlineText (s .basis) (s .depth) (planOf s .spans) (take (2 * n) held) in
-      ap (λ t. cond t (written text 0 whole) (listing.outcome Full text)) (le-leb (2 * n) (length held) (all-there n held e))
-      ∙ ap (written text 0) (sym (text-then (outline.outcome (drawn.Points n) held) e))
+      ap (λ t. cond t (written text 0 whole) (outcome Full text)) (le-leb (2 * n) (length held) (all-there n held e))
+      ∙ ap (written text 0) (sym (text-then (outcome (drawn.Points n) held) e))
 
 -- a text that was written is no text that did not fit
 end-or-full : (n : ℕ) → Full ≡ End n → ⊥
 end-or-full n e = let z : _≡_ {A = ℕ} 0 1 = cc in omega arith
 
 module _ (file : List ℕ) where
-  text-of : (o : records.Outcome) → reading file controls ≡ o → fileText file ≡ readText (o .held) (o .answer)
+  text-of : (o : Outcome Reading (List ℤ)) → reading file controls ≡ o → fileText file ≡ readText (o .held) (o .answer)
   unfolding fileText
-  text-of o e = ap (λ (o : records.Outcome). readText (o .held) (o .answer)) e
+  text-of o e = ap (λ (o : Outcome Reading (List ℤ)). readText (o .held) (o .answer)) e
 
-  pub read-text : (s : Shape) (held : List ℤ) → reading file controls ≡ records.both (read.Read s) held → fileText file ≡ shapeText s held
-  read-text s held e = text-of (records.both (read.Read s) held) e
+  pub read-text : (s : Shape) (held : List ℤ) → reading file controls ≡ outcome (read.Read s) held → fileText file ≡ shapeText s held
+  read-text s held e = text-of (outcome (read.Read s) held) e
 
-  pub unread-text : (r : Refusal) (held : List ℤ) → reading file controls ≡ records.both (read.Refused r) held → fileText file ≡ refusedText r
-  unread-text r held e = text-of (records.both (read.Refused r) held) e
+  pub unread-text : (r : Refusal) (held : List ℤ) → reading file controls ≡ outcome (read.Refused r) held → fileText file ≡ refusedText r
+  unread-text r held e = text-of (outcome (read.Refused r) held) e
 
 -- a text that was written ends inside the list that holds it
-pub ends-inside : (lent text : List ℕ) (n : ℕ) (held : List ℕ) → written lent 0 text ≡ listing.outcome (End n) held → n ≤ length held
+pub ends-inside : (lent text : List ℕ) (n : ℕ) (held : List ℕ) → written lent 0 text ≡ outcome (End n) held → n ≤ length held
 unfolding written
 ends-inside lent text n held e =
-    ⊎-elim inside (λ f. absurd (end-or-full n (ap (λ (o : listing.Outcome). o .answer) (sym (ap choice f) ∙ e)))) (passes (leb (0 + length text) (length lent)))
+    ⊎-elim inside (λ f. absurd (end-or-full n (λ i. (sym (ap choice f) ∙ e) i .answer))) (passes (leb (0 + length text) (length lent)))
   where
-    laid : listing.Outcome
-    laid = listing.outcome (End (0 + length text)) (take 0 lent ++ text ++ drop (0 + length text) lent)
+    laid : Outcome Put (List ℕ)
+    laid = outcome (End (0 + length text)) (take 0 lent ++ text ++ drop (0 + length text) lent)
 
-    choice : Bool → listing.Outcome
-    choice t = cond t laid (listing.outcome Full lent)
+    choice : Bool → Outcome Put (List ℕ)
+    choice t = cond t laid (outcome Full lent)
 
     inside : leb (0 + length text) (length lent) ≡ true → n ≤ length held
     inside t =
-        let is : laid ≡ listing.outcome (End n) held = sym (ap choice t) ∙ e in
-        let count : 0 + length text ≡ n = ap (λ (o : listing.Outcome). countOf (o .answer)) is in
-        let long : length (text ++ drop (0 + length text) lent) ≡ length held = ap (λ (o : listing.Outcome). length (o .held)) is in
+        let is : laid ≡ outcome (End n) held = sym (ap choice t) ∙ e in
+        let count : 0 + length text ≡ n = ap (λ (o : Outcome Put (List ℕ)). countOf (o .answer)) is in
+        let long : length (text ++ drop (0 + length text) lent) ≡ length held = ap (λ (o : Outcome Put (List ℕ)). length (o .held)) is in
         omega (arith, count, long, length-append text (drop (0 + length text) lent))
 
 -- what writing a file's text came to, counted
-pub counted-text : (file text : List ℕ) (o : listing.Outcome) → o ≡ written text 0 (fileText file) → counted o ≡ lists file text
+pub counted-text : (file text : List ℕ) (o : Outcome Put (List ℕ)) → o ≡ written text 0 (fileText file) → counted o ≡ lists file text
 unfolding lists
 counted-text file text o e = ap counted e

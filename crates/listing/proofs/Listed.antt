@@ -7,9 +7,10 @@ use borrow.Author.Tests.{le-leb, lt-leb}
 use lib.IntN.{ℤ}
 use lib.ListN.{length, take}
 use lib.Seq.{length-take-le}
+use Rattle.whole.specs.Outcome.{outcome}
 use Rattle.listing.specs.declared.Put.the-variants.{Full}
 use Rattle.listing.specs.Listing.{heading, pointLines, outlineText, listed}
-use Rattle.listing.specs.Written.{outcome, written}
+use Rattle.listing.specs.Written.{written}
 
 pub too-few : (l : List ℕ) (basis depth spans : ℕ) (points : List ℤ) (count : ℕ) → length points < 2 * count → outcome Full l ≡ listed l basis depth spans points count
 unfolding listed

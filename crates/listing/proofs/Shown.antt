@@ -9,9 +9,10 @@ use lib.Dec.{leb}
 use lib.IntN.{ℤ}
 use lib.ListN.{length, take, drop, length-append}
 use lib.Seq.{length-take-le, take-at}
+use Rattle.whole.specs.Outcome.{outcome}
 use Rattle.listing.specs.declared.Put.the-variants.{End, Full}
 use Rattle.listing.specs.Listing.{outlineText, listed}
-use Rattle.listing.specs.Written.{Outcome, outcome, written}
+use Rattle.listing.specs.Written.{written}
 
 pub record Shown (l : List ℕ) (at : ℕ) (text : List ℕ) (e : ℕ) (m : List ℕ) : Type 0 where
   pub within : e ≤ length m
@@ -19,9 +20,9 @@ pub record Shown (l : List ℕ) (at : ℕ) (text : List ℕ) (e : ℕ) (m : List
 
 fits : (l : List ℕ) (at : ℕ) (text : List ℕ) (e : ℕ) (m : List ℕ) → at + length text ≤ length l → outcome (End e) m ≡ outcome (End (at + length text)) (take at l ++ text ++ drop (at + length text) l) → Shown l at text e m
 fits l at text e m room p =
-    let answer-is : End e ≡ End (at + length text) = ap (λ (o : Outcome). o .answer) p in
+    let answer-is : End e ≡ End (at + length text) = λ i. p i .answer in
     let e-is : e ≡ at + length text = cc in
-    let m-is : m ≡ take at l ++ text ++ drop (at + length text) l = ap (λ (o : Outcome). o .held) p in
+    let m-is : m ≡ take at l ++ text ++ drop (at + length text) l = λ i. p i .held in
     let long : length (take at l ++ text) ≡ at + length text = omega (arith, length-append (take at l) text, length-take-le at l (omega arith)) in
     record {
       within = omega (arith, ap length m-is, length-append (take at l ++ text) (drop (at + length text) l));
@@ -30,7 +31,7 @@ fits l at text e m room p =
 
 full : {X : Type 0} (e : ℕ) (m l : List ℕ) → outcome (End e) m ≡ outcome Full l → X
 full e m l p =
-    let q : End e ≡ Full = ap (λ (o : Outcome). o .answer) p in
+    let q : End e ≡ Full = λ i. p i .answer in
     let z : _≡_ {A = ℕ} 0 1 = cc in
     absurd (omega arith)
 

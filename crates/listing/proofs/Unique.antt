@@ -1,7 +1,6 @@
 -- No second outcome meets a public call's contract: the contract equates the answer and the text that is left with one reading, so two outcomes that meet it are equal.
-use mathlib.Core.Path.{_≡_, sym, ap, _∙_}
+use mathlib.Core.Path.{sym, _∙_}
 use Rattle.whole.specs.Unique.{Unique}
-use Rattle.listing.specs.Written.{Outcome, outcome}
 use Rattle.listing.proofs.number.put_decimal.Kinds as put-decimal
 use Rattle.listing.proofs.number.put_decimal.Reads as put-decimal-reads
 use Rattle.listing.proofs.number.put_natural.Kinds as put-natural
@@ -15,25 +14,25 @@ use Rattle.listing.proofs.word.put_word.Reads as put-word-reads
 
 pub put-word-unique : Unique 2 put-word.ps put-word.r put-word-reads.Post
 put-word-unique κs a x y v w p q =
-    let same : outcome x (v .0) ≡ outcome y (w .0) = p ∙ sym q in
-    (ap (λ (o : Outcome). o .answer) same, λ i. (same i .held, (tt, (tt, tt))))
+    let same = p ∙ sym q in
+    (λ i. same i .answer, λ i. (same i .held, (tt, (tt, tt))))
 
 pub put-natural-unique : Unique 1 put-natural.ps put-natural.r put-natural-reads.Post
 put-natural-unique κs a x y v w p q =
-    let same : outcome x (v .0) ≡ outcome y (w .0) = p ∙ sym q in
-    (ap (λ (o : Outcome). o .answer) same, λ i. (same i .held, (tt, (tt, tt))))
+    let same = p ∙ sym q in
+    (λ i. same i .answer, λ i. (same i .held, (tt, (tt, tt))))
 
 pub put-decimal-unique : Unique 1 put-decimal.ps put-decimal.r put-decimal-reads.Post
 put-decimal-unique κs a x y v w p q =
-    let same : outcome x (v .0) ≡ outcome y (w .0) = p ∙ sym q in
-    (ap (λ (o : Outcome). o .answer) same, λ i. (same i .held, (tt, (tt, tt))))
+    let same = p ∙ sym q in
+    (λ i. same i .answer, λ i. (same i .held, (tt, (tt, tt))))
 
 pub list-outline-unique : Unique 2 list-outline.ps list-outline.r list-outline-reads.Post
 list-outline-unique κs a x y v w p q =
-    let same : outcome x (v .0) ≡ outcome y (w .0) = p ∙ sym q in
-    (ap (λ (o : Outcome). o .answer) same, λ i. (same i .held, (tt, (tt, (tt, (tt, (tt, tt)))))))
+    let same = p ∙ sym q in
+    (λ i. same i .answer, λ i. (same i .held, (tt, (tt, (tt, (tt, (tt, tt)))))))
 
 pub list-refusal-unique : Unique 1 list-refusal.ps list-refusal.r list-refusal-reads.Post
 list-refusal-unique κs a x y v w p q =
-    let same : outcome x (v .0) ≡ outcome y (w .0) = p ∙ sym q in
-    (ap (λ (o : Outcome). o .answer) same, λ i. (same i .held, (tt, (tt, tt))))
+    let same = p ∙ sym q in
+    (λ i. same i .answer, λ i. (same i .held, (tt, (tt, tt))))

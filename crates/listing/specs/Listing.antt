@@ -6,9 +6,11 @@ use mathlib.Core.List.{List, [], _∷_, _++_}
 use lib.Dec.{leb}
 use lib.IntN.{ℤ}
 use lib.ListN.{length, take}
+use Rattle.whole.specs.Outcome.{Outcome, outcome}
+use Rattle.listing.specs.declared.Put.{Put}
 use Rattle.listing.specs.declared.Put.the-variants.{Full}
 use Rattle.listing.specs.Decimal.{natural, decimal}
-use Rattle.listing.specs.Written.{Outcome, outcome, written}
+use Rattle.listing.specs.Written.{written}
 
 abbrev pub space : ℕ
 space = 32
@@ -49,7 +51,7 @@ abbrev pub refusalText : ℕ → ℕ → List ℕ
 refusalText number place = line (refused ∷ natural number ∷ natural place ∷ [])
 
 -- what listing an outline's first `count` points answers and leaves: their listing from the start of the lent list on; where `points` holds fewer than those, `Full`, and all is kept
-unfoldable pub listed : List ℕ → ℕ → ℕ → ℕ → List ℤ → ℕ → Outcome
+unfoldable pub listed : List ℕ → ℕ → ℕ → ℕ → List ℤ → ℕ → Outcome Put (List ℕ)
 listed lent basis depth spans points count =
     cond (leb (2 * count) (length points))
     (written lent 0 (outlineText basis depth spans (take (2 * count) points)))

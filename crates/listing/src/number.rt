@@ -4,9 +4,10 @@ ghost use mathlib.Core.List.{[], _∷_, _++_};
 ghost use mathlib.Core.Path.{_≡_};
 ghost use lib.IntN.{natAbs};
 ghost use lib.ListN.{length};
+ghost use Rattle.whole.specs.Outcome.{outcome};
 ghost use Rattle.listing.specs.Decimal.{natural, decimal};
 ghost use Rattle.listing.specs.Inside.{Laid, Width};
-ghost use Rattle.listing.specs.Written.{outcome, written};
+ghost use Rattle.listing.specs.Written.{written};
 use crate::Put;
 use crate::has_room;
 

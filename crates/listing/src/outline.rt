@@ -2,9 +2,9 @@
 ghost use Prim.Native.Nat.{_+_, _*_, _≤_};
 ghost use mathlib.Core.Path.{_≡_};
 ghost use lib.ListN.{length, take};
+ghost use Rattle.whole.specs.Outcome.{outcome};
 ghost use Rattle.listing.specs.Listing.{heading, pointLine, pointLines, listed};
 ghost use Rattle.listing.specs.Inside.{Laid, Room};
-ghost use Rattle.listing.specs.Written.{outcome};
 use crate::Put;
 use crate::has_room;
 use crate::number::decimal_width;

@@ -2,8 +2,9 @@
 ghost use Prim.Native.Nat.{_+_, _≤_};
 ghost use mathlib.Core.Path.{_≡_};
 ghost use lib.ListN.{length};
+ghost use Rattle.whole.specs.Outcome.{outcome};
 ghost use Rattle.listing.specs.Inside.{Laid};
-ghost use Rattle.listing.specs.Written.{outcome, written};
+ghost use Rattle.listing.specs.Written.{written};
 use crate::Put;
 use crate::has_room;
 

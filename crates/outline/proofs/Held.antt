@@ -6,13 +6,14 @@ use native.Mathlib.Omega.{arith}
 use borrow.Author.Tests.{ltb-false}
 use lib.IntN.{ℤ, pos}
 use lib.ListN.{getD, length}
+use Rattle.whole.specs.Outcome.{outcome}
 use Rattle.shape.specs.declared.Shape.{Shape}
 use Rattle.shape.specs.declared.Judged.the-variants.{Sound}
 use Rattle.shape.specs.Refusals.{shapeRows, judgeShape, planOf}
 use Rattle.shape.proofs.Refusals.{none-earlier, none-sound, row-fails}
 use Rattle.spans.proofs.Filled.{length-filled, in-filled}
 use Rattle.outline.specs.declared.Drawn.the-variants.{Points}
-use Rattle.outline.specs.Outline.{Outcome, outcome, numbers, points, drawn, planRows, drawRows, draws}
+use Rattle.outline.specs.Outline.{numbers, points, drawn, planRows, drawRows, draws}
 use Rattle.outline.proofs.Exactly.{points-none, none-drawn}
 
 module _ (s : Shape) (controls lent : List ℤ) (n : ℕ) (held : List ℤ) (answered : draws s controls lent ≡ outcome (Points n) held) where
@@ -20,7 +21,7 @@ module _ (s : Shape) (controls lent : List ℤ) (n : ℕ) (held : List ℤ) (ans
   held-sound = none-sound s (none-earlier (shapeRows s) (planRows (s .count) (planOf s) controls lent) (points-none s controls lent n held answered))
 
   pub held-drawn : drawn (planOf s) controls lent ≡ held
-  held-drawn = ap (λ (o : Outcome). o .held) (sym (none-drawn s controls lent (points-none s controls lent n held answered)) ∙ answered)
+  held-drawn = λ i. (sym (none-drawn s controls lent (points-none s controls lent n held answered)) ∙ answered) i .held
 
   room : 2 * points (planOf s) ≤ length lent
   room = ltb-false (length lent) (2 * points (planOf s)) (row-fails 9 (drawRows s controls lent) (points-none s controls lent n held answered))

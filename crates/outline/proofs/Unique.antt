@@ -1,11 +1,10 @@
 -- No second outcome: over the contract of each public call as it is generated from the source, two answers, each with what the lent lists hold at the end, that both
 -- meet it at the same arguments are the same. Of a view this is said of all that a program can see of it.
-use mathlib.Core.Path.{_≡_, refl, sym, ap, _∙_}
+use mathlib.Core.Path.{_≡_, refl, sym, _∙_}
 use borrow.Fn.Kinds.{Dens, resT, endedOf}
 use contract.Lifetimes.{Lfts}
 use denote.Triple.Clauses.{Lasts, atExit}
 use Rattle.whole.specs.Unique.{Unique}
-use Rattle.outline.specs.Outline.{Outcome, outcome}
 use Rattle.outline.proofs.by_weights.Kinds as weights
 use Rattle.outline.proofs.by_weights.Reads as weights-reads
 use Rattle.outline.proofs.by_halving.Kinds as halving
@@ -17,18 +16,18 @@ use Rattle.outline.proofs.view.Reads as view-reads
 
 pub by-weights-unique : Unique 2 weights.ps weights.r weights-reads.Post
 by-weights-unique κs a x y u v p q =
-    let same : outcome x (u .1 .1 .0) ≡ outcome y (v .1 .1 .0) = p ∙ sym q in
-    (ap (λ (o : Outcome). o .answer) same, λ i. (tt, (tt, (same i .held, tt))))
+    let same = p ∙ sym q in
+    (λ i. same i .answer, λ i. (tt, (tt, (same i .held, tt))))
 
 pub by-halving-unique : Unique 2 halving.ps halving.r halving-reads.Post
 by-halving-unique κs a x y u v p q =
-    let same : outcome x (u .1 .1 .0) ≡ outcome y (v .1 .1 .0) = p ∙ sym q in
-    (ap (λ (o : Outcome). o .answer) same, λ i. (tt, (tt, (same i .held, tt))))
+    let same = p ∙ sym q in
+    (λ i. same i .answer, λ i. (tt, (tt, (same i .held, tt))))
 
 pub by-differences-unique : Unique 2 differences.ps differences.r differences-reads.Post
 by-differences-unique κs a x y u v p q =
-    let same : outcome x (u .1 .1 .0) ≡ outcome y (v .1 .1 .0) = p ∙ sym q in
-    (ap (λ (o : Outcome). o .answer) same, λ i. (tt, (tt, (same i .held, tt))))
+    let same = p ∙ sym q in
+    (λ i. same i .answer, λ i. (tt, (tt, (same i .held, tt))))
 
 -- A view is a part of the caller's list: where it lies in memory and what stands there. Two results that meet the contract are the same in both, so no program can
 -- tell them apart. The reference's `name`, which the logic gives it for its own bookkeeping, is no part of what runs, and the contract leaves it open.

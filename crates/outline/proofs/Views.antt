@@ -13,6 +13,7 @@ use lib.IntN.{ℤ, pos}
 use lib.ListN.{length, take, drop, length-take, length-drop}
 use lib.Pow.{pow-pos}
 use lib.Seq.{ext-getD, getD-take, getD-drop}
+use Rattle.whole.specs.Outcome.{outcome}
 use Rattle.curve.specs.declared.Basis.{Basis}
 use Rattle.curve.specs.Numbers.{tab}
 use Rattle.curve.specs.Span.{coordinate, records, point}
@@ -29,7 +30,7 @@ use Rattle.shape.proofs.Tests.{either}
 use Rattle.spans.specs.Numbers.{number, perSpan}
 use Rattle.spans.proofs.Numbers.{per-span, located}
 use Rattle.outline.specs.declared.Drawn.the-variants.{Points}
-use Rattle.outline.specs.Outline.{outcome, draws}
+use Rattle.outline.specs.Outline.{draws}
 use Rattle.outline.specs.View.{Part, emptyPart, outOfSight, partOf, viewed, Unseen}
 use Rattle.outline.proofs.Held.{held-sound, held-room, held-number}
 

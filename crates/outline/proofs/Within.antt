@@ -8,6 +8,7 @@ use native.Mathlib.Omega.{arith}
 use lib.IntN.{ℤ, pos, natAbs}
 use lib.ListN.{getD, length}
 use lib.Pow.{pow-pos}
+use Rattle.whole.specs.Outcome.{outcome}
 use Rattle.curve.specs.Limits.{reach}
 use Rattle.curve.specs.Span.{firstRecord, coordinate, records}
 use Rattle.curve.proofs.Limits.{point-size}
@@ -20,9 +21,9 @@ use Rattle.shape.proofs.Refusals.{none-earlier, none-later, good-plan, good-rec
 use Rattle.shape.proofs.Tests.{either}
 use Rattle.spans.specs.Numbers.{number}
 use Rattle.outline.specs.declared.Drawn.the-variants.{Points}
-use Rattle.outline.specs.Outline.{Outcome, outcome, numbers, points, planRows, draws}
+use Rattle.outline.specs.Outline.{numbers, points, planRows, draws}
 use Rattle.outline.proofs.Exactly.{points-none, none-drawn}
-use Rattle.outline.proofs.Held.{held-sound, held-number}
+use Rattle.outline.proofs.Held.{held-number}
 
 -- point g of m spans of d steps is at most d steps past its span's start: the last one at the last span's end
 step-within : (g m d : ℕ) → 0 < d → 1 ≤ m → g ≤ m * d → g - min (g / d) (m - 1) * d ≤ d
@@ -56,7 +57,7 @@ pub drawn-within : (s : Shape) (controls lent : List ℤ) (n : ℕ) (held : List
 drawn-within s controls lent n held answered q h =
     let p = planOf s in
     let none = points-none s controls lent n held answered in
-    let all : Points n ≡ Points (points p) = ap (λ (o : Outcome). o .answer) (sym answered ∙ none-drawn s controls lent none) in
+    let all : Points n ≡ Points (points p) = λ i. (sym answered ∙ none-drawn s controls lent none) i .answer in
     let few : n ≡ points p = cc in
     let within : q < 2 * points p = omega (arith, few) in
     let good = good-plan s (none-earlier (shapeRows s) (planRows (s .count) p controls lent) none) in

@@ -4,9 +4,11 @@ use mathlib.Core.List.{List, [], _∷_, _++_}
 use Prim.Native.Nat.{ℕ, _+_, _*_}
 use lib.IntN.{ℤ, pos}
 use lib.ListN.{length, replicate}
+use Rattle.whole.specs.Outcome.{Outcome, outcome}
 use Rattle.curve.specs.Numbers.{neg}
+use Rattle.outline.specs.declared.Drawn.{Drawn}
 use Rattle.outline.specs.declared.Drawn.the-variants.{Points}
-use Rattle.outline.specs.Outline.{Outcome, outcome, draws}
+use Rattle.outline.specs.Outline.{draws}
 
 -- The basis by its number, the depth, the records' x, and the points' x that the paper gives, from t = 0 to t = 1. Where the paper gives the middle alone (P4, P6, P8), the
 -- span's two ends stand beside it.
@@ -22,10 +24,10 @@ onX [] = []
 onX (x ∷ l) = x ∷ pos 0 ∷ onX l
 
 -- What the drawing call comes to, and what the paper gives: so many points, these, and past them what was there.
-abbrev pub given : Case → Outcome
+abbrev pub given : Case → Outcome Drawn (List ℤ)
 given c = draws (record { basis = c .basis; depth = c .depth; count = length (c .records) }) (onX (c .records)) (replicate (2 * length (c .points) + 2) (neg 1))
 
-abbrev pub paper : Case → Outcome
+abbrev pub paper : Case → Outcome Drawn (List ℤ)
 paper c = outcome (Points (length (c .points))) (onX (c .points) ++ neg 1 ∷ neg 1 ∷ [])
 
 -- A half goes to the greater, above zero and below.

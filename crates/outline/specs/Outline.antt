@@ -3,9 +3,9 @@ use mathlib.Core.List.{List, [], _∷_, _++_}
 use Prim.Native.Nat.{ℕ, _*_}
 use lib.IntN.{ℤ, pos}
 use lib.ListN.{length}
+use Rattle.whole.specs.Outcome.{Outcome, outcome, refuses}
 use Rattle.shape.specs.declared.Shape.{Shape}
 use Rattle.shape.specs.declared.Plan.{Plan}
-use Rattle.shape.specs.declared.Refusal.{Refusal}
 use Rattle.shape.specs.Refusals.{Row, judge, shapeRows, listRows, planOf}
 use Rattle.shape.specs.Shape.{pointsOf}
 use Rattle.shape.specs.Exactly.{Told, Refuses, Accepts}
@@ -32,27 +32,15 @@ abbrev pub told : Drawn → Told
 told (Points n) = Accepts (pos n ∷ [])
 told (Refused r) = Refuses r
 
--- The answer, and the lent points as the call leaves them.
-pub record Outcome : Type 0 where
-  pub answer : Drawn
-  pub held : List ℤ
-
-abbrev pub outcome : Drawn → List ℤ → Outcome
-outcome r l = record { answer = r; held = l }
-
 -- All points from the list's start, everything past them as it was.
 abbrev pub drawn : Plan → List ℤ → List ℤ → List ℤ
 drawn p controls lent = filled (numbers p controls) 0 (2 * points p) lent
 
--- A refusal leaves the lent points as they came.
-abbrev pub refuses : List ℤ → Refusal → Outcome
-refuses lent r = outcome (Refused r) lent
-
-abbrev pub accepts : Plan → List ℤ → List ℤ → Outcome
+abbrev pub accepts : Plan → List ℤ → List ℤ → Outcome Drawn (List ℤ)
 accepts p controls lent = outcome (Points (points p)) (drawn p controls lent)
 
-unfoldable pub drawsPlan : ℕ → Plan → List ℤ → List ℤ → Outcome
-drawsPlan n p controls lent = judge (planRows n p controls lent) (refuses lent) (accepts p controls lent)
+unfoldable pub drawsPlan : ℕ → Plan → List ℤ → List ℤ → Outcome Drawn (List ℤ)
+drawsPlan n p controls lent = judge (planRows n p controls lent) (refuses Refused lent) (accepts p controls lent)
 
-unfoldable pub draws : Shape → List ℤ → List ℤ → Outcome
-draws s controls lent = judge (drawRows s controls lent) (refuses lent) (accepts (planOf s) controls lent)
+unfoldable pub draws : Shape → List ℤ → List ℤ → Outcome Drawn (List ℤ)
+draws s controls lent = judge (drawRows s controls lent) (refuses Refused lent) (accepts (planOf s) controls lent)

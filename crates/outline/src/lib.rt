@@ -1,11 +1,12 @@
 // The outline of a shape in the lent points, three ways, and the view of one of its spans. Every public call takes any input to an end: none has a `requires`.
 ghost use mathlib.Core.Path.{_≡_};
 ghost use Prim.Native.Nat.{_+_, _*_};
+ghost use Rattle.whole.specs.Outcome.{outcome};
 ghost use Rattle.shape.specs.Good.{Good};
-ghost use Rattle.outline.specs.Outline.{draws, drawsPlan, outcome};
+ghost use Rattle.outline.specs.Outline.{draws, drawsPlan};
 ghost use Rattle.outline.specs.View.{partOf, viewed};
+use shape::Checked;
 use shape::Judged;
-use shape::Listed;
 use shape::Plan;
 use shape::Refusal;
 use shape::Shape;
@@ -58,7 +59,7 @@ fn draw_plan(way: Way, shape: Shape, plan: Plan, controls: &[i32], points: &mut 
     ensures { λ r. ⌜ outcome r (now (points .exit)) ≡ drawsPlan (shape .count) plan (now (controls .entry)) (now (points .entry)) ⌝ }
 {
     let count = plan.points();
-    if let Listed::Bad(refusal) = check_lists(shape.count, controls, count, points.len()) {
+    if let Checked::Bad(refusal) = check_lists(shape.count, controls, count, points.len()) {
         return Drawn::Refused(refusal);
     }
     let basis = plan.basis;

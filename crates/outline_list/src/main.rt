@@ -5,12 +5,13 @@ use console::tell;
 use console::write_output;
 use file_list::MOST_TEXT;
 use file_list::list_file;
+use record_file::MOST_BYTES;
 
 // One byte more than the longest file has, so that a longer one is seen.
-const MOST_BYTES: usize = 769;
+const TOO_LONG: usize = MOST_BYTES + 1;
 
 fn main() {
-    let mut file = [0u8; MOST_BYTES];
+    let mut file = [0u8; TOO_LONG];
     if let Input::Bytes(length) = read_input(&mut file) {
         list(&file[..length]);
     }

@@ -7,18 +7,21 @@ use crate::outlines::put_outline;
 use console::add_phrase;
 use console::add_word;
 use console::end_line;
+use curve::DEEPEST;
+use curve::LIMIT;
+use shape::MOST_RECORDS;
 
-// Depth 6 and 7; 64 records, 5 and 2^32; a coordinate of 4,000,000 and one more.
+// The deepest and one more; the most records, 5 and 2^32; the farthest coordinate and one more.
 pub(crate) fn put_limits(text: &mut Text, at: usize) -> usize {
-    let deepest = put_last(text, at, 6, 4, false);
-    let too_deep = put_last(text, deepest, 7, 4, false);
+    let deepest = put_last(text, at, DEEPEST, 4, false);
+    let too_deep = put_last(text, deepest, DEEPEST + 1, 4, false);
     let past_counts = put_counts(text, too_deep);
-    let farthest = put_last(text, past_counts, 1, 4000000, true);
-    put_last(text, farthest, 1, 4000001, true)
+    let farthest = put_last(text, past_counts, 1, LIMIT, true);
+    put_last(text, farthest, 1, LIMIT + 1, true)
 }
 
 fn put_counts(text: &mut Text, at: usize) -> usize {
-    let most = put_zeros(text, at, 64);
+    let most = put_zeros(text, at, MOST_RECORDS);
     let odd = put_zeros(text, most, 5);
     put_zeros(text, odd, 4294967296)
 }

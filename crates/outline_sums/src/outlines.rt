@@ -6,6 +6,7 @@ use console::add_spaced_natural;
 use console::add_word;
 use console::add_x;
 use console::end_line;
+use curve::DEEPEST;
 use outline::Drawn;
 use outline::by_weights;
 use shape::Shape;
@@ -17,8 +18,8 @@ const B_SPLINE: usize = 2;
 
 pub(crate) const CARDINAL: usize = 3;
 
-// Enough for 64 records, and for the 65 points of one span at depth 6.
-pub(crate) const ROOM: usize = 130;
+// Enough for the points of one span at the deepest, and for the most records.
+pub(crate) const ROOM: usize = 2 * ((1 << DEEPEST) + 1);
 
 // P1 to P8.
 pub(crate) fn put_bases(text: &mut Text, at: usize) -> usize {

@@ -21,8 +21,8 @@ use preview::Previewed;
 use record_file::Reading;
 use shape::Shape;
 
-// A place is below 2^63.
-const HALF: u64 = 9223372036854775808;
+// Places are below 2^63.
+const PLACES: u64 = 9223372036854775808;
 
 // What a call came to once its line is written: the bench afterwards. Where the line was not written the run ends.
 pub(crate) fn go_on(is_written: bool, bench: Bench) -> Turn {
@@ -92,7 +92,7 @@ pub(crate) fn place_record(
     controls: &mut [i32],
     points: &mut [i32],
 ) -> Turn {
-    if r.a >= HALF {
+    if r.a >= PLACES {
         return Turn::Bad;
     }
     let Placed::At(at) = control(r.b, r.c) else {
@@ -110,7 +110,7 @@ pub(crate) fn remove_record(
     controls: &mut [i32],
     points: &mut [i32],
 ) -> Turn {
-    if r.a >= HALF {
+    if r.a >= PLACES {
         return Turn::Bad;
     }
     let shape = bench.shape;
@@ -120,7 +120,7 @@ pub(crate) fn remove_record(
 
 // The view of a span: its length, and its numbers where there are any.
 pub(crate) fn view(bench: Bench, r: Record, points: &[i32]) -> Turn {
-    if r.a >= HALF {
+    if r.a >= PLACES {
         return Turn::Bad;
     }
     let shape = bench.shape;

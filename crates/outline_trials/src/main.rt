@@ -22,24 +22,24 @@ use text::say_bad;
 use text::say_numbers;
 use text::say_patterns;
 
-// The bytes of a record.
-const RECORD: usize = 56;
+// The bytes of a record of the trials file.
+const TRIAL: usize = 56;
 
 // The longest lists, and the longest file.
-const MOST_CONTROLS: usize = 160;
+const LONGEST_CONTROLS: usize = 160;
 
-const MOST_POINTS: usize = 8000;
+pub(crate) const LONGEST_POINTS: usize = 8000;
 
-const MOST_FILE: usize = 800;
+const LONGEST_FILE: usize = 800;
 
 // The lists and the file, each as long as it can be.
-type Controls = [i32; MOST_CONTROLS];
+type Controls = [i32; LONGEST_CONTROLS];
 
-type Points = [i32; MOST_POINTS];
+type Points = [i32; LONGEST_POINTS];
 
-type Preview = [f64; MOST_POINTS];
+type Preview = [f64; LONGEST_POINTS];
 
-type File = [u8; MOST_FILE];
+type File = [u8; LONGEST_FILE];
 
 // The operation that adds to the file.
 const MORE_FILE: u8 = 6;
@@ -178,11 +178,11 @@ fn play_next(
     preview: &mut Preview,
     file: &mut File,
 ) -> Turn {
-    let mut bytes = [0u8; RECORD];
+    let mut bytes = [0u8; TRIAL];
     let Input::Bytes(got) = read_input(&mut bytes) else {
         return Turn::End;
     };
-    if got < RECORD {
+    if got < TRIAL {
         return cut_short(got);
     }
     let r = decoded(&bytes);
@@ -215,9 +215,9 @@ fn play_all(controls: &mut Controls, points: &mut Points, preview: &mut Preview,
 }
 
 fn main() {
-    let mut controls = [0i32; MOST_CONTROLS];
-    let mut points = [0i32; MOST_POINTS];
-    let mut preview = [0.0f64; MOST_POINTS];
-    let mut file = [0u8; MOST_FILE];
+    let mut controls = [0i32; LONGEST_CONTROLS];
+    let mut points = [0i32; LONGEST_POINTS];
+    let mut preview = [0.0f64; LONGEST_POINTS];
+    let mut file = [0u8; LONGEST_FILE];
     play_all(&mut controls, &mut points, &mut preview, &mut file);
 }

@@ -1,4 +1,5 @@
 // The lines that a trial writes, each built in a text and sent whole. Each call answers whether its line was written.
+use crate::LONGEST_POINTS;
 use console::add_naturals;
 use console::add_numbers;
 use console::add_patterns;
@@ -10,10 +11,10 @@ use console::tell;
 use console::write_output;
 use shape::Refusal;
 
-// Room for a line of a few numbers, and for a line of all numbers of the longest list: 8,000 of up to 20 digits, and one character after each.
+// Room for a line of a few numbers, and for a line of all numbers of the longest list: each of up to 20 digits with one character after it, and one at the end.
 const SHORT: usize = 160;
 
-const LONG: usize = 168001;
+const LONG: usize = 21 * LONGEST_POINTS + 1;
 
 // Ends the line at a place of the text, and writes it.
 fn send(text: &mut [u8], at: usize) -> bool {

@@ -18,6 +18,7 @@ use Rattle.whole.specs.Nearest.{nearest}
 use Rattle.whole.proofs.Fit.{Bounded, ev-size}
 use Rattle.whole.proofs.Nearest.{nearest-scale}
 use Rattle.whole.proofs.Ring.{_⊗_, solve}
+use Rattle.whole.specs.Outcome.{Outcome, outcome}
 use Rattle.curve.specs.declared.Four.{Four}
 use Rattle.curve.specs.declared.Basis.the-variants.{Bezier}
 use Rattle.curve.specs.Limits.{Inside, limit}
@@ -35,12 +36,13 @@ use Rattle.shape.proofs.Refusals.{none-earlier, none-later, row-fails, good-pla
 use Rattle.shape.proofs.Tests.{passes}
 use Rattle.doubles.specs.Exact.{Value, minusZero}
 use Rattle.doubles.proofs.Exact.{dyadic-exact, dyadic-not-minus-zero}
+use Rattle.preview.specs.declared.Previewed.{Previewed}
 use Rattle.preview.specs.declared.Previewed.the-variants.{Drawn}
-use Rattle.preview.specs.Preview.{sum, value, bezierRow, previewRows, Outcome, both, drawing, previewing}
 use Rattle.preview.proofs.Spans.{points-are}
 use Rattle.preview.proofs.Numbers.{plain}
 use Rattle.preview.proofs.Rows.{bezier-inside}
 use Rattle.preview.proofs.Exactly.{drawn-none, none-drawn}
+use Rattle.preview.specs.Preview.{sum, value, bezierRow, previewRows, accepts, previewing}
 
 -- ---- a sum is below 2^53
 
@@ -48,7 +50,7 @@ weighted-small : (q : Four) (j n : ℕ) → Inside limit q → j ≤ 2 ^ deepest
 unfolding weighted weights dot
 weighted-small q j n inside hj hn =
     let r = R.values q (pos j) (pos n) in
-    let bs = limit ∷ limit ∷ limit ∷ limit ∷ 64 ∷ 64 ∷ [] in
+    let bs = limit ∷ limit ∷ limit ∷ limit ∷ 2 ^ deepest ∷ 2 ^ deepest ∷ [] in
     let ok : Bounded r bs = (inside .a, (inside .b, (inside .c, (inside .d, (hj, (hn, tt)))))) in
     le-trans (ev-size r bs ok (weightedᵉ p i h)) (lit≤ tt)
 
@@ -95,7 +97,7 @@ front points vs q room l =
     ap (λ v. getD v q nan) (sets-eq vs points 0 (omega arith)) ∙ List·getD-append vs (drop (0 + length vs) points) nan q l
 
 -- Where the preview draws n points, each of the 2n numbers has exactly the value of its weighted sum over 2^(3k), and none is -0.
-pub drawn-exact : (s : Shape) (controls : List ℤ) (points : List Float) (n : ℕ) (l : List Float) → previewing s controls points ≡ both (Drawn n) l → (q : ℕ) → q < 2 * n
+pub drawn-exact : (s : Shape) (controls : List ℤ) (points : List Float) (n : ℕ) (l : List Float) → previewing s controls points ≡ outcome (Drawn n) l → (q : ℕ) → q < 2 * n
     → Value (getD l q nan) (sum (s .depth) (planOf s .spans) controls q) (2 ^ (3 * s .depth)) × T (not (minusZero (getD l q nan)))
 unfolding planOf
 drawn-exact s controls points n l e q below =
@@ -111,12 +113,12 @@ drawn-exact s controls points n l e q below =
     let inside = bezier-inside s plan controls points good first count (length points) lent in
     let numbers = tab (value k m controls) 0 (2 * count) in
     let long = length-tab (value k m controls) 0 (2 * count) in
-    let drawn : both (Drawn n) l ≡ drawing plan controls points = sym e ∙ none-drawn s controls points none in
-    let answer : Drawn n ≡ Drawn count = ap (λ (o : Outcome). o .answer) drawn in
+    let drawn : outcome (Drawn n) l ≡ accepts plan controls points = sym e ∙ none-drawn s controls points none in
+    let answer : Drawn n ≡ Drawn count = λ i. drawn i .answer in
     let all : n ≡ count = cc in
     let q-in : q < 2 * count = omega arith in
     let here : getD l q nan ≡ value k m controls q =
-    ap (λ (o : Outcome). getD (o .held) q nan) drawn
+    ap (λ (o : Outcome Previewed (List Float)). getD (o .held) q nan) drawn
     ∙ front points numbers q (omega (arith, long, lent .points-room)) (omega (arith, long))
     ∙ getD-tab (value k m controls) 0 (2 * count) q q-in nan
     ∙ ap (value k m controls) (omega arith) in (

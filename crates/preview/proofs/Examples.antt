@@ -5,14 +5,15 @@ use mathlib.Core.List.{List, [], _∷_}
 use lib.IntN.{ℤ, pos, negsuc}
 use lib.Ieee.{Float, nan, fin, round}
 use lib.ListN.{replicate}
+use Rattle.whole.specs.Outcome.{outcome, refuses}
 use Rattle.curve.specs.Numbers.{dot, tab}
 use Rattle.curve.specs.Published.{weights}
 use Rattle.curve.specs.Span.{coordinate, firstRecord, recordsFrom, weighted}
 use Rattle.shape.specs.Shape.{basisOf, spansOf, recordsOf, allowed, pointsOf}
 use Rattle.shape.specs.Refusals.{judge, outside, seek, planOf}
 use Rattle.doubles.specs.Exact.{dyadic}
-use Rattle.preview.specs.declared.Previewed.the-variants.{Drawn}
-use Rattle.preview.specs.Preview.{sum, value, both, refusing, previewing}
+use Rattle.preview.specs.declared.Previewed.the-variants.{Drawn, Refused}
+use Rattle.preview.specs.Preview.{sum, value, previewing}
 
 -- x is 0, 0, 0, 4 and y is 0, 0, 0, -2
 abbrev controls : List ℤ
@@ -23,10 +24,10 @@ zero = fin false 0 (pos 0)
 
 pub halves-drawn :
     previewing (record { basis = 1; depth = 1; count = 4 }) controls (replicate 7 nan)
-    ≡ both (Drawn 3) (zero ∷ zero ∷ fin false 1 (negsuc 0) ∷ fin true 1 (negsuc 1) ∷ fin false 1 (pos 2) ∷ fin true 1 (pos 1) ∷ nan ∷ [])
+    ≡ outcome (Drawn 3) (zero ∷ zero ∷ fin false 1 (negsuc 0) ∷ fin true 1 (negsuc 1) ∷ fin false 1 (pos 2) ∷ fin true 1 (pos 1) ∷ nan ∷ [])
 unfolding previewing judge value sum weighted weights dot tab coordinate firstRecord recordsFrom basisOf spansOf recordsOf allowed pointsOf planOf outside seek dyadic round
 halves-drawn = refl
 
-pub other-basis : previewing (record { basis = 2; depth = 1; count = 4 }) controls (replicate 6 nan) ≡ refusing (replicate 6 nan) (record { number = 4; place = 0 })
+pub other-basis : previewing (record { basis = 2; depth = 1; count = 4 }) controls (replicate 6 nan) ≡ refuses Refused (replicate 6 nan) (record { number = 4; place = 0 })
 unfolding previewing judge basisOf spansOf recordsOf allowed planOf
 other-basis = refl

@@ -1,12 +1,11 @@
 -- No second outcome: over the contract of the public call as it is generated from the source, two answers, each with what the lent points hold at the end, that both
 -- meet it are the same, since it equates both with one reading.
-use mathlib.Core.Path.{_≡_, sym, ap, _∙_}
+use mathlib.Core.Path.{sym, _∙_}
 use Rattle.whole.specs.Unique.{Unique}
-use Rattle.preview.specs.Preview.{Outcome, both}
 use Rattle.preview.proofs.preview.Kinds as preview
 use Rattle.preview.proofs.preview.Reads as preview-reads
 
 pub preview-unique : Unique 2 preview.ps preview.r preview-reads.Post
 preview-unique κs a x y v w p q =
-    let same : both x (v .1 .1 .0) ≡ both y (w .1 .1 .0) = p ∙ sym q in
-    (ap (λ (o : Outcome). o .answer) same, λ i. (tt, (tt, (same i .held, tt))))
+    let same = p ∙ sym q in
+    (λ i. same i .answer, λ i. (tt, (tt, (same i .held, tt))))

@@ -8,12 +8,12 @@ use lib.IntN.{ℤ, pos}
 use lib.Ieee.{Float}
 use lib.ListN.{length}
 use lib.Seq.{sets}
+use Rattle.whole.specs.Outcome.{Outcome, outcome, refuses}
 use Rattle.curve.specs.declared.Basis.the-variants.{Bezier}
 use Rattle.curve.specs.Numbers.{tab}
 use Rattle.curve.specs.Span.{coordinate, records, weighted}
 use Rattle.shape.specs.declared.Shape.{Shape}
 use Rattle.shape.specs.declared.Plan.{Plan}
-use Rattle.shape.specs.declared.Refusal.{Refusal}
 use Rattle.shape.specs.Shape.{pointsOf}
 use Rattle.shape.specs.Refusals.{Row, row, judge, shapeRows, listRows, planOf}
 use Rattle.shape.specs.Exactly.{Told, Refuses, Accepts}
@@ -48,26 +48,14 @@ previewRows s controls len = shapeRows s ++ laterRows s (planOf s) controls len
 
 -- ---- the reading
 
--- An answer, and what the lent points hold then.
-pub record Outcome : Type 0 where
-  pub answer : Previewed
-  pub held : List Float
-
-abbrev pub both : Previewed → List Float → Outcome
-both r l = record { answer = r; held = l }
-
--- A refusal changes nothing.
-abbrev pub refusing : List Float → Refusal → Outcome
-refusing points r = both (Refused r) points
-
 -- All points are written from the start of the lent list on, x then y, and all past them is kept.
-abbrev pub drawing : Plan → List ℤ → List Float → Outcome
-drawing p controls points =
+abbrev pub accepts : Plan → List ℤ → List Float → Outcome Previewed (List Float)
+accepts p controls points =
     let n = pointsOf (p .depth) (p .spans) in
-    both (Drawn n) (sets points 0 (tab (value (p .depth) (p .spans) controls) 0 (2 * n)))
+    outcome (Drawn n) (sets points 0 (tab (value (p .depth) (p .spans) controls) 0 (2 * n)))
 
-unfoldable pub previewing : Shape → List ℤ → List Float → Outcome
-previewing s controls points = judge (previewRows s controls (length points)) (refusing points) (drawing (planOf s) controls points)
+unfoldable pub previewing : Shape → List ℤ → List Float → Outcome Previewed (List Float)
+previewing s controls points = judge (previewRows s controls (length points)) (refuses Refused points) (accepts (planOf s) controls points)
 
 -- What the answer tells: how many points were drawn, or the refusal.
 abbrev pub told : Previewed → Told

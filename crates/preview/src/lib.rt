@@ -3,20 +3,21 @@ ghost use mathlib.Core.Path.{_≡_};
 ghost use Prim.Native.Nat.{_+_, _*_, _^_, _≤_, _<_};
 ghost use lib.ListN.{length, set};
 ghost use lib.Seq.{sets};
+ghost use Rattle.whole.specs.Outcome.{outcome, refuses};
 ghost use Rattle.curve.specs.Span.{firstRecord};
 ghost use Rattle.curve.specs.Ways.{deepest};
 ghost use Rattle.shape.specs.Refusals.{judge};
 ghost use Rattle.shape.specs.Shape.{mostRecords, pointsOf};
 ghost use Rattle.shape.specs.Good.{Good};
 ghost use Rattle.preview.specs.Halving.{control, pieces, spanPieces, halved};
-ghost use Rattle.preview.specs.Preview.{both, laterRows, refusing, drawing, previewing};
+ghost use Rattle.preview.specs.Preview.{laterRows, accepts, previewing};
 use curve::Basis;
 use curve::records::first_record;
 use doubles::Pair;
 use doubles::double_of;
 use doubles::midpoint_pair;
+use shape::Checked;
 use shape::Judged;
-use shape::Listed;
 use shape::Plan;
 use shape::Refusal;
 use shape::Shape;
@@ -107,7 +108,7 @@ fn fill_spans(controls: &[i32], spans: usize, depth: usize, points: &mut [f64])
 // Rows 4, 7, 8, 9 for a shape that was found sound, and then the points.
 fn preview_plan(shape: Shape, plan: Plan, controls: &[i32], points: &mut [f64]) -> Previewed
     requires { ⌜ Good shape plan ⌝ }
-    ensures { λ r. ⌜ both r (now (points .exit)) ≡ judge (laterRows shape plan (now (controls .entry)) (length (now (points .entry)))) (refusing (now (points .entry))) (drawing plan (now (controls .entry)) (now (points .entry))) ⌝ }
+    ensures { λ r. ⌜ outcome r (now (points .exit)) ≡ judge (laterRows shape plan (now (controls .entry)) (length (now (points .entry)))) (refuses Previewed.Refused (now (points .entry))) (accepts plan (now (controls .entry)) (now (points .entry))) ⌝ }
 {
     let basis = shape.basis;
     if basis != BEZIER {
@@ -118,8 +119,8 @@ fn preview_plan(shape: Shape, plan: Plan, controls: &[i32], points: &mut [f64]) 
     }
     let count = plan.points();
     match check_lists(shape.count, controls, count, points.len()) {
-        Listed::Bad(refusal) => Previewed::Refused(refusal),
-        Listed::Fine => {
+        Checked::Bad(refusal) => Previewed::Refused(refusal),
+        Checked::Fine => {
             fill_spans(controls, plan.spans, plan.depth, points);
             Previewed::Drawn(count)
         }
@@ -130,7 +131,7 @@ fn preview_plan(shape: Shape, plan: Plan, controls: &[i32], points: &mut [f64]) 
 // from the start of the points on, x then y, in micrometres, exact and with zero as positive zero, keeps all past them, and answers how many points there are. A refusal
 // answers its number and place and writes nothing.
 pub fn preview(shape: Shape, controls: &[i32], points: &mut [f64]) -> Previewed
-    ensures { λ r. ⌜ both r (now (points .exit)) ≡ previewing shape (now (controls .entry)) (now (points .entry)) ⌝ }
+    ensures { λ r. ⌜ outcome r (now (points .exit)) ≡ previewing shape (now (controls .entry)) (now (points .entry)) ⌝ }
 {
     match check_shape(shape) {
         Judged::Unsound(refusal) => Previewed::Refused(refusal),

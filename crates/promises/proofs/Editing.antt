@@ -6,6 +6,7 @@ use mathlib.Core.List.{List}
 use Prim.Native.Nat.{ℕ, _+_, _*_, _/_, _^_, _≤_, _<_}
 use lib.IntN.{ℤ, pos}
 use lib.ListN.{getD, length}
+use Rattle.whole.specs.Outcome.{outcome}
 use Rattle.curve.specs.Span.{coordinate, records}
 use Rattle.shape.specs.declared.Shape.{Shape}
 use Rattle.shape.specs.declared.Plan.{Plan}
@@ -16,7 +17,7 @@ use Rattle.asked.specs.declared.Edit.{Edit}
 use Rattle.asked.specs.Edits.{asked}
 use Rattle.edit.specs.declared.Change.{Change}
 use Rattle.edit.specs.declared.Edited.the-variants.{Done}
-use Rattle.edit.specs.Reading.{outcome, shapeAfter, edits}
+use Rattle.edit.specs.Reading.{shapeAfter, edits}
 use Rattle.sequences.specs.Touched.{Touched, InRun, Fresh, oldSpan}
 use Rattle.sequences.proofs.Touched.{held-within}
 use Rattle.sequences.proofs.Answered.{answered-shape, answered-controls, answered-run, answered-nought, answered-every, answered-fresh, answered-other, answered-past, answered-past-controls, answered-records, answered-needed}
@@ -24,7 +25,7 @@ use Rattle.promises.specs.Points.{publishedNumber}
 use Rattle.promises.proofs.Points.{number-published}
 
 -- The call answered c, and left the controls `new` and the points `held`.
-module _ (e : Edit) (s : Shape) (j : ℕ) (controls lent : List ℤ) (c : Change) (new held : List ℤ) (done : edits e s j controls lent ≡ outcome (Done c) new held) where
+module _ (e : Edit) (s : Shape) (j : ℕ) (controls lent : List ℤ) (c : Change) (new held : List ℤ) (done : edits e s j controls lent ≡ outcome (Done c) (new, held)) where
   abbrev p : Plan
   p = planOf (c .shape)
 

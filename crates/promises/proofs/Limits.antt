@@ -5,6 +5,7 @@ use Prim.Native.Nat.{ℕ, _*_, _^_, _≤_, _<_}
 use lib.IntN.{ℤ, pos, natAbs}
 use lib.ListN.{getD}
 use lib.Signed.{_≤ℤ_}
+use Rattle.whole.specs.Outcome.{outcome}
 use Rattle.curve.specs.declared.Four.{Four}
 use Rattle.curve.specs.declared.Basis.{Basis}
 use Rattle.curve.specs.declared.Basis.the-variants.{Bezier, BSpline}
@@ -14,7 +15,7 @@ use Rattle.curve.proofs.Limits as curve
 use Rattle.shape.specs.declared.Shape.{Shape}
 use Rattle.shape.specs.Refusals.{planOf}
 use Rattle.outline.specs.declared.Drawn.the-variants.{Points}
-use Rattle.outline.specs.Outline.{outcome, points, draws}
+use Rattle.outline.specs.Outline.{points, draws}
 use Rattle.outline.proofs.Within as outline
 use Rattle.sequences.specs.Played.{Call, state, played}
 use Rattle.sequences.proofs.Again as sequences

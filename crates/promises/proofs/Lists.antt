@@ -4,10 +4,11 @@ use mathlib.Core.List.{List}
 use Prim.Native.Nat.{ℕ, _*_}
 use lib.IntN.{ℤ}
 use lib.Ieee.{Float}
+use Rattle.whole.specs.Outcome.{outcome}
 use Rattle.shape.specs.declared.Shape.{Shape}
 use Rattle.shape.specs.Lists.{Keeps}
 use Rattle.outline.specs.declared.Drawn.the-variants.{Points}
-use Rattle.outline.specs.Outline.{outcome, draws}
+use Rattle.outline.specs.Outline.{draws}
 use Rattle.outline.proofs.Lists as outline
 use Rattle.preview.specs.declared.Previewed.the-variants.{Drawn}
 use Rattle.preview.specs.Preview as preview
@@ -26,13 +27,13 @@ pub drawing-keeps : (s : Shape) (controls lent : List ℤ) (n : ℕ) (held : Lis
 drawing-keeps = outline.drawn-keeps
 
 -- so does a preview
-pub preview-keeps : (s : Shape) (controls : List ℤ) (lent : List Float) (n : ℕ) (held : List Float) → preview.previewing s controls lent ≡ preview.both (Drawn n) held → Keeps 0 (2 * n) lent held
+pub preview-keeps : (s : Shape) (controls : List ℤ) (lent : List Float) (n : ℕ) (held : List Float) → preview.previewing s controls lent ≡ outcome (Drawn n) held → Keeps 0 (2 * n) lent held
 preview-keeps = preview-lists.drawn-keeps
 
 -- a file that is read keeps every number past the last control
-pub file-keeps : (bytes : List ℕ) (controls : List ℤ) (s : Shape) (held : List ℤ) → file.reading bytes controls ≡ file.both (Read s) held → Keeps 0 (2 * s .count) controls held
+pub file-keeps : (bytes : List ℕ) (controls : List ℤ) (s : Shape) (held : List ℤ) → file.reading bytes controls ≡ outcome (Read s) held → Keeps 0 (2 * s .count) controls held
 file-keeps = file-lists.read-keeps
 
 -- a step keeps every number before the records that it adds, and every number past them
-pub step-keeps : (s : State) (step : Step) (controls : List ℤ) (t : State) (held : List ℤ) → steps.stepped s step controls ≡ steps.both (Next t) held → Keeps (2 * s .count) (2 * t .count) controls held
+pub step-keeps : (s : State) (step : Step) (controls : List ℤ) (t : State) (held : List ℤ) → steps.stepped s step controls ≡ outcome (Next t) held → Keeps (2 * s .count) (2 * t .count) controls held
 step-keeps = step-lists.step-keeps

@@ -5,6 +5,7 @@ use Prim.Native.Nat.{ℕ, _*_, _-_, _/_, _%_, _^_, _<_, min}
 use lib.IntN.{ℤ, pos}
 use lib.ListN.{getD}
 use Rattle.whole.specs.Nearest.{nearest}
+use Rattle.whole.specs.Outcome.{outcome}
 use Rattle.curve.specs.declared.Four.{Four}
 use Rattle.curve.specs.declared.Basis.{Basis}
 use Rattle.curve.specs.Published.{published, denominator}
@@ -16,7 +17,7 @@ use Rattle.shape.specs.declared.Shape.{Shape}
 use Rattle.shape.specs.Refusals.{planOf}
 use Rattle.spans.specs.Numbers.{number}
 use Rattle.outline.specs.declared.Drawn.the-variants.{Points}
-use Rattle.outline.specs.Outline.{outcome, points, draws}
+use Rattle.outline.specs.Outline.{points, draws}
 use Rattle.outline.proofs.Held.{held-number}
 use Rattle.promises.specs.Points.{publishedNumber}
 

@@ -33,26 +33,26 @@ drawing = outline-exactly.exactly
 pub editing : (e : Edit) (s : Shape) (j : ℕ) (controls lent : List ℤ) →
     let out = edit.edits e s j controls lent in
     let done = edit.accepts e s (planOf (edit.shapeAfter e s)) j controls lent in
-    Exactly {L = List ℤ × List ℤ} (edit-exactly.callRows e s j controls lent) (edit.told (out .answer)) (controls, lent) (out .controls, out .held) (values (edit.told (done .answer))) (done .controls, done .held)
+    Exactly (edit-exactly.callRows e s j controls lent) (edit.told (out .answer)) (controls, lent) (out .held) (values (edit.told (done .answer))) (done .held)
 editing = edit-exactly.exactly
 
 -- the preview: the number of points, and all points in the lent list
 pub previewing : (s : Shape) (controls : List ℤ) (lent : List Float) →
     let out = preview.previewing s controls lent in
-    let done = preview.drawing (planOf s) controls lent in
+    let done = preview.accepts (planOf s) controls lent in
     Exactly (preview.previewRows s controls (length lent)) (preview.told (out .answer)) lent (out .held) (values (preview.told (done .answer))) (done .held)
 previewing = preview-exactly.exactly
 
 -- a drawing step: the next state, and the lent controls; the state too is as it was on a refusal
 pub stepping : (s : State) (step : Step) (controls : List ℤ) →
     let out = steps.stepped s step controls in
-    let done = steps.accepted s step controls in
-    Exactly {L = State × List ℤ} (steps.rows s step controls) (steps.told (out .answer)) (s, controls) (steps.stateAfter s (out .answer), out .controls) (values (steps.told (done .answer))) (steps.stateAfter s (done .answer), done .controls)
+    let done = steps.accepts s step controls in
+    Exactly {L = State × List ℤ} (steps.rows s step controls) (steps.told (out .answer)) (s, controls) (steps.stateAfter s (out .answer), out .held) (values (steps.told (done .answer))) (steps.stateAfter s (done .answer), done .held)
 stepping = steps-exactly.exactly
 
 -- reading a record file: its shape, and the lent controls
 pub reading : (bytes : List ℕ) (controls : List ℤ) →
     let out = file.reading bytes controls in
-    let done = file.accepting bytes (file.recordCount bytes) controls in
+    let done = file.accepts bytes (file.recordCount bytes) controls in
     Exactly (file.fileRows bytes controls) (file.told (out .answer)) controls (out .held) (values (file.told (done .answer))) (done .held)
 reading = file-exactly.exactly

@@ -4,12 +4,13 @@ use mathlib.Core.Path.{_≡_, sym, _∙_, subst}
 use mathlib.Core.List.{List}
 use Prim.Native.Nat.{ℕ}
 use lib.IntN.{ℤ}
+use Rattle.whole.specs.Outcome.{outcome}
 use Rattle.shape.specs.declared.Shape.{Shape}
 use Rattle.shape.specs.declared.Refusal.{Refusal}
 use Rattle.shape.specs.Refusals.{planOf}
 use Rattle.spans.specs.declared.run.Way.{Way}
 use Rattle.outline.specs.declared.Drawn.the-variants.{Points}
-use Rattle.outline.specs.Outline.{outcome, draws}
+use Rattle.outline.specs.Outline.{draws}
 use Rattle.edit.specs.declared.Edited.the-variants.{Refused}
 use Rattle.sequences.specs.Played.{State, Call, state, answered, called, played, Outlined, Redraws}
 use Rattle.sequences.specs.Calls.{MeetsDrawing, Ends}

@@ -5,6 +5,7 @@ use mathlib.Core.List.{List, []}
 use Prim.Native.Nat.{ℕ, _+_, _*_, _^_, _≤_, _<_}
 use lib.IntN.{ℤ}
 use lib.ListN.{length}
+use Rattle.whole.specs.Outcome.{outcome}
 use Rattle.curve.proofs.Tab.{tab-same}
 use Rattle.shape.specs.declared.Shape.{Shape}
 use Rattle.shape.specs.declared.Plan.{Plan}
@@ -12,7 +13,7 @@ use Rattle.shape.specs.declared.Judged.the-variants.{Sound}
 use Rattle.shape.specs.Shape.{pointsOf}
 use Rattle.shape.specs.Refusals.{judgeShape, planOf}
 use Rattle.outline.specs.declared.Drawn.the-variants.{Points}
-use Rattle.outline.specs.Outline.{outcome, draws}
+use Rattle.outline.specs.Outline.{draws}
 use Rattle.outline.specs.View.{partOf, viewed, Unseen}
 use Rattle.outline.proofs.Views as outline
 use Rattle.promises.specs.Points.{publishedSpan}

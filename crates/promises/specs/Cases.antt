@@ -4,7 +4,9 @@ use mathlib.Core.List.{List, [], _∷_, _++_, map}
 use Prim.Native.Nat.{ℕ, _+_, _*_, _^_}
 use lib.IntN.{ℤ, pos}
 use lib.ListN.{replicate}
+use Rattle.whole.specs.Outcome.{Outcome, outcome}
 use Rattle.curve.specs.Numbers.{neg}
+use Rattle.outline.specs.declared.Drawn.{Drawn}
 use Rattle.outline.specs.declared.Drawn.the-variants.{Points}
 use Rattle.outline.specs.Outline as outline
 use Rattle.outline.specs.Outline.{draws}
@@ -13,17 +15,18 @@ use Rattle.doubles.specs.Exact.{dyadic}
 use Rattle.doubles.specs.Number.{measure}
 use Rattle.doubles.specs.Number as number
 use Rattle.shape.specs.Exactly as answer
+use Rattle.edit.specs.declared.Edited.{Edited}
 use Rattle.edit.specs.declared.Edited.the-variants.{Done}
 use Rattle.edit.specs.Cases as edit
 use Rattle.edit.specs.Reading as reading
-use Rattle.edit.specs.Reading.{Outcome, outcome, edits}
+use Rattle.edit.specs.Reading.{edits}
 
 pub record Case : Type 0 where
   pub given : List ℤ
   pub paper : List ℤ
 
 -- P1 to P8: what drawing a span comes to.
-abbrev pub toldDrawn : outline.Outcome → List ℤ
+abbrev pub toldDrawn : Outcome Drawn (List ℤ) → List ℤ
 toldDrawn o = pos (answer.number (outline.told (o .answer))) ∷ answer.values (outline.told (o .answer)) ++ o .held
 
 abbrev pub ofDrawing : outline-cases.Case → Case
@@ -34,18 +37,18 @@ abbrev pub start : Case
 start =
     record {
       given = toldDrawn (draws (edit.cardinal 6) edit.controlsBefore (replicate 10 (neg 1)));
-      paper = toldDrawn (outline.outcome (Points 4) edit.heldBefore);
+      paper = toldDrawn (outcome (Points 4) edit.heldBefore);
     }
 
 -- P9 to P11: what an edit of it comes to.
-abbrev pub told : Outcome → List ℤ
-told o = pos (answer.number (reading.told (o .answer))) ∷ answer.values (reading.told (o .answer)) ++ (o .controls ++ o .held)
+abbrev pub told : Outcome Edited (List ℤ × List ℤ) → List ℤ
+told o = pos (answer.number (reading.told (o .answer))) ∷ answer.values (reading.told (o .answer)) ++ (o .held .0 ++ o .held .1)
 
 abbrev pub ofEdit : edit.Case → Case
 ofEdit c =
     record {
       given = told (edits (c .edit) (edit.cardinal 6) (c .place) edit.controlsBefore edit.heldBefore);
-      paper = told (outcome (Done (record { shape = edit.cardinal (c .count); first = c .first; fresh = c .fresh })) (c .controls) (c .held));
+      paper = told (outcome (Done (record { shape = edit.cardinal (c .count); first = c .first; fresh = c .fresh })) (c .controls, c .held));
     }
 
 -- P12: 0.0625 mm is 63, -0.0625 mm is -62; 4000.00048828125 mm is accepted, 4000.0009765625 mm gives 11. These doubles are 1/2^4, -1/2^4, 4000 + 1/2^11 and

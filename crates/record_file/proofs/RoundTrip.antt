@@ -1,16 +1,15 @@
--- A file of given records is read back: record by record its bytes are the fields they were made from, four bytes and two's complement lose nothing of 32 bits, and so
--- the table's rows are those of the records themselves.
+-- A file of given records is read back: record by record its bytes are the fields they were made from, and so the table's rows are those of the records themselves.
 use mathlib.Core.Path.{_≡_, refl, sym, ap, _∙_, subst}
 use mathlib.Core.Bool.{false, not, _&&_}
 use mathlib.Core.List.{List, [], _∷_, _++_}
-use Prim.Native.Nat.{ℕ, zero, suc, _+_, _*_, _-_, _/_, _%_, _^_, _≤_, _<_}
-use native.Mathlib.Nat.{div-div-eq-div-mul, mod-eq-of-lt}
+use Prim.Native.Nat.{ℕ, zero, suc, _+_, _*_, _-_, _/_, _%_, _≤_, _<_}
 use native.Mathlib.Omega.{arith}
 use borrow.Author.Tests.{eq-eqb, ne-eqb, le-ltb}
 use lib.Dec.{eqb}
-use lib.IntN.{ℤ, pos, negsuc, natAbs}
+use lib.IntN.{ℤ, pos, natAbs}
 use lib.ListN.{length, getD}
 use lib.Seq.{sets, ext-getD}
+use Rattle.whole.specs.Outcome.{outcome}
 use Rattle.curve.specs.Limits.{limit}
 use Rattle.curve.specs.Span.{coordinate}
 use Rattle.curve.proofs.Tab.{length-tab, getD-tab}
@@ -18,40 +17,12 @@ use Rattle.shape.specs.declared.Shape.{Shape}
 use Rattle.shape.specs.Refusals.{NoRow, shapeRows, controlsRow, limitsRow}
 use Rattle.shape.specs.Good.{Lent}
 use Rattle.shape.proofs.Refusals.{none-both, none-earlier, row-fails, good-plan, lent-facts}
+use Rattle.shape.specs.Shape.{mostRecords}
 use Rattle.record_file.specs.declared.Reading.the-variants.{Read}
-use Rattle.record_file.specs.Format.{byte, word, signed, number, numbers, unsigned, encoded}
-use Rattle.record_file.specs.Rows.{mostBytes, recordRows, recordCount, laterRows, fileRows, shapeOf, both, accepting, reading}
-use Rattle.record_file.proofs.Words.{signed-low, signed-high}
+use Rattle.record_file.specs.Format.{byte, word, signed, number, numbers, encoded}
+use Rattle.record_file.specs.Rows.{mostBytes, recordRows, recordCount, laterRows, fileRows, shapeOf, accepts, reading}
+use Rattle.record_file.proofs.Words.{coordinate-back}
 use Rattle.record_file.proofs.Exactly.{none-read}
-
--- ---- one coordinate
-
-four-bytes : (n : ℕ) → n < 2 ^ 32 → n % 256 + 256 * (n / 256 % 256) + 65536 * (n / 65536 % 256) + 16777216 * (n / 16777216 % 256) ≡ n
-four-bytes n h = joined (n % 256) (n / 256 % 256) (n / 65536 % 256) (n / 16777216 % 256) (n / 256) (n / 65536) (n / 16777216) (split n) (split (n / 256) ∙ carried (n / 256 % 256) (div-div-eq-div-mul n 256 256)) (split (n / 65536) ∙ carried (n / 65536 % 256) (div-div-eq-div-mul n 65536 256)) (sym (mod-eq-of-lt (top n h)))
-  where
-    split : (m : ℕ) → m ≡ m % 256 + 256 * (m / 256)
-    split m = omega arith
-
-    carried : (a : ℕ) {m k : ℕ} → m ≡ k → a + 256 * m ≡ a + 256 * k
-    carried a e = ap (λ (j : ℕ). a + 256 * j) e
-
-    top : (n : ℕ) → n < 2 ^ 32 → n / 16777216 < 256
-    top n h = omega arith
-
-    joined : (a b c d p q r : ℕ) → n ≡ a + 256 * p → p ≡ b + 256 * q → q ≡ c + 256 * r → r ≡ d → a + 256 * b + 65536 * c + 16777216 * d ≡ n
-    joined a b c d p q r e f g k = omega arith
-
-unsigned-fits : (z : ℤ) → natAbs z ≤ limit → unsigned z < 2 ^ 32
-unsigned-fits (pos n) h = omega arith
-unsigned-fits (negsuc n) h = omega arith
-
-signed-unsigned : (z : ℤ) → natAbs z ≤ limit → signed (unsigned z) ≡ z
-signed-unsigned (pos n) h = signed-low n (omega arith)
-signed-unsigned (negsuc n) h = let e : 2 ^ 32 - suc (2 ^ 32 - suc n) ≡ n = omega arith in signed-high (2 ^ 32 - suc n) (omega arith) (omega arith) ∙ ap negsuc e
-
-coordinate-back : (z : ℤ) → natAbs z ≤ limit
-    → signed (unsigned z % 256 + 256 * (unsigned z / 256 % 256) + 65536 * (unsigned z / 65536 % 256) + 16777216 * (unsigned z / 16777216 % 256)) ≡ z
-coordinate-back z h = ap signed (four-bytes (unsigned z) (unsigned-fits z h)) ∙ signed-unsigned z h
 
 module _ (basis depth : ℕ) where
   -- ---- the first record, and the others
@@ -98,8 +69,8 @@ module _ (basis depth : ℕ) where
   unfolding encoded number word
   back [] q h n e l = absurd (omega arith)
   back (x ∷ []) q h n e l = absurd (omega arith)
-  back (x ∷ y ∷ rest) zero h n e l = coordinate-back x (h 0 (omega arith))
-  back (x ∷ y ∷ rest) (suc zero) h n e l = coordinate-back y (h 1 (omega arith))
+  back (x ∷ y ∷ rest) zero h n e l = coordinate-back x (omega (arith, h 0 (omega arith)))
+  back (x ∷ y ∷ rest) (suc zero) h n e l = coordinate-back y (omega (arith, h 1 (omega arith)))
   back (x ∷ y ∷ rest) (suc (suc q)) h n e l =
       ap signed (word-shifted x y rest (12 * (suc (suc q) / 2) + 4 + 4 * (suc (suc q) % 2)) (12 * (q / 2) + 4 + 4 * (q % 2)) (omega arith))
       ∙ back rest q (λ i k. h (suc (suc i)) (omega arith)) (n - 1) (omega arith) (omega arith)
@@ -135,13 +106,13 @@ module _ (basis depth n : ℕ) (records controls : List ℤ) (even : length reco
       (alike (byte file r 2) (byte file r 3) 0 0 c d, (alike (byte file r 0) (byte file r 1) (byte file 0 0) (byte file 0 1) (a ∙ sym a₀) (b ∙ sym b₀), records-pass (suc r) m (omega arith)))
 
   -- Reading a file of given records gives them back, wherever the rows of the records themselves pass: 1, 2, 3, 7 and 8.
-  pub read-back : NoRow (shapeRows given ++ (controlsRow n controls ∷ limitsRow n records ∷ [])) → reading file controls ≡ both (Read given) (sets controls 0 records)
+  pub read-back : NoRow (shapeRows given ++ (controlsRow n controls ∷ limitsRow n records ∷ [])) → reading file controls ≡ outcome (Read given) (sets controls 0 records)
   read-back h =
       let lists = controlsRow n controls ∷ limitsRow n records ∷ [] in
       let good = good-plan given (none-earlier (shapeRows given) lists h) in
       let lent = lent-facts n records 0 0 (omega arith) (row-fails 8 (shapeRows given ++ lists) h) (omega arith) in
       let some : 4 ≤ n = omega (arith, good .spans-least, good .spans-most) in
-      let few : n ≤ 64 = good .records-most in
+      let few : n ≤ mostRecords = good .records-most in
       let long = length-encoded basis depth records n even in
       let count : recordCount file ≡ n = omega (arith, long) in
       let (first, second, zero-2, zero-3) = heads basis depth records n 0 even (omega arith) in
@@ -157,7 +128,7 @@ module _ (basis depth n : ℕ) (records controls : List ℤ) (even : length reco
               (subst (λ v. NoRow (shapeRows given ++ (controlsRow n controls ∷ limitsRow n v ∷ []))) (sym whole) h))),
         ),
       ) in
-      none-read file controls none ∙ ap (λ (m : ℕ). accepting file m controls) count ∙ (λ k. both (Read (shape k)) (sets controls 0 (whole k)))
+      none-read file controls none ∙ ap (λ (m : ℕ). accepts file m controls) count ∙ (λ k. outcome (Read (shape k)) (sets controls 0 (whole k)))
     where
       same : Lent n records 0 0 → numbers file n ≡ records
       same lent =

@@ -7,8 +7,8 @@ use lib.Dec.{ltb, eqb}
 use lib.IntN.{ℤ, pos}
 use lib.ListN.{length}
 use lib.Seq.{sets}
+use Rattle.whole.specs.Outcome.{Outcome, outcome, refuses}
 use Rattle.shape.specs.declared.Shape.{Shape}
-use Rattle.shape.specs.declared.Refusal.{Refusal}
 use Rattle.shape.specs.Shape.{mostRecords}
 use Rattle.shape.specs.Refusals.{Row, row, judge, shapeRows, controlsRow, limitsRow}
 use Rattle.shape.specs.Exactly.{Told, Refuses, Accepts}
@@ -70,24 +70,12 @@ fileRows file controls =
     let n = recordCount file in
     lengthRows (length file) ++ (recordRows file 0 n ++ laterRows file n controls)
 
--- An answer, and what the lent controls hold then.
-pub record Outcome : Type 0 where
-  pub answer : Reading
-  pub held : List ℤ
-
-abbrev pub both : Reading → List ℤ → Outcome
-both r l = record { answer = r; held = l }
-
--- A refusal changes nothing.
-abbrev pub refusing : List ℤ → Refusal → Outcome
-refusing controls r = both (Refused r) controls
-
 -- n records are written from the start of the controls on, x then y, and all past them is kept.
-abbrev pub accepting : List ℕ → ℕ → List ℤ → Outcome
-accepting file n controls = both (Read (shapeOf file n)) (sets controls 0 (numbers file n))
+abbrev pub accepts : List ℕ → ℕ → List ℤ → Outcome Reading (List ℤ)
+accepts file n controls = outcome (Read (shapeOf file n)) (sets controls 0 (numbers file n))
 
-unfoldable pub reading : List ℕ → List ℤ → Outcome
-reading file controls = judge (fileRows file controls) (refusing controls) (accepting file (recordCount file) controls)
+unfoldable pub reading : List ℕ → List ℤ → Outcome Reading (List ℤ)
+reading file controls = judge (fileRows file controls) (refuses Refused controls) (accepts file (recordCount file) controls)
 
 -- What the answer tells: basis, depth and control count, or the refusal.
 abbrev pub told : Reading → Told

@@ -3,12 +3,14 @@ ghost use mathlib.Core.Path.{_≡_};
 ghost use Prim.Native.Nat.{_+_, _*_, _≤_};
 ghost use lib.ListN.{length};
 ghost use lib.Seq.{sets};
+ghost use Rattle.whole.specs.Outcome.{outcome, refuses};
 ghost use Rattle.shape.specs.Refusals.{judge};
 ghost use Rattle.shape.specs.Shape.{mostRecords};
-ghost use Rattle.record_file.specs.Format.{word, signed, numbers};
-ghost use Rattle.record_file.specs.Rows.{both, reading, fault, recordRows, laterRows, listRows, refusing, accepting};
+ghost use Rattle.record_file.specs.Format.{recordBytes, word, signed, numbers};
+ghost use Rattle.record_file.specs.Rows.{reading, fault, recordRows, laterRows, listRows, accepts};
+use shape::Checked;
 use shape::Judged;
-use shape::Listed;
+use shape::MOST_RECORDS;
 use shape::Refusal;
 use shape::Shape;
 use shape::check_shape;
@@ -20,13 +22,13 @@ pub enum Reading {
     Refused(Refusal),
 }
 
-// The bytes of a record, and of the longest file: 64 records.
+// The bytes of a record, and of the longest file.
 const RECORD: usize = 12;
 
-const MOST_BYTES: usize = 768;
+pub const MOST_BYTES: usize = MOST_RECORDS * RECORD;
 
-// The numbers of 64 records.
-const MOST_NUMBERS: usize = 128;
+// The numbers of the most records.
+pub const MOST_CONTROLS: usize = 2 * MOST_RECORDS;
 
 // A record's x stands from byte 4 on, and its y four bytes further.
 const COORDINATES: usize = 4;
@@ -66,7 +68,7 @@ fn coordinate(file: &[u8], at: usize) -> i32
 
 // Writes the numbers of `count` records, x then y, from the start of `list` on.
 fn write_numbers(file: &[u8], count: usize, list: &mut [i32])
-    requires { ⌜ (12 * count ≤ length (now file)) × (2 * count ≤ length (now list)) ⌝ }
+    requires { ⌜ (recordBytes * count ≤ length (now file)) × (2 * count ≤ length (now list)) ⌝ }
     ensures { λ _. ⌜ now (list .exit) ≡ sets (now (list .entry)) 0 (numbers (now (file .entry)) count) ⌝ }
 {
     let mut q = 0;
@@ -78,7 +80,7 @@ fn write_numbers(file: &[u8], count: usize, list: &mut [i32])
 
 // The number of what is wrong with record i, its two zero bytes first, or 0.
 fn fault_of(file: &[u8], i: usize) -> usize
-    requires { ⌜ 12 * i + 12 ≤ length (now file) ⌝ }
+    requires { ⌜ recordBytes * i + recordBytes ≤ length (now file) ⌝ }
     ensures { λ r. ⌜ r ≡ fault (now (file .entry)) i ⌝ }
 {
     let at = RECORD * i;
@@ -98,25 +100,25 @@ fn fault_of(file: &[u8], i: usize) -> usize
 }
 
 // The checks of `count` records, one after the other: 14 and 15.
-fn check_records(file: &[u8], count: usize) -> Listed
-    requires { ⌜ 12 * count ≤ length (now file) ⌝ }
-    ensures { λ r. ⌜ r ≡ judge (recordRows (now (file .entry)) 0 count) Listed.Bad Listed.Fine ⌝ }
+fn check_records(file: &[u8], count: usize) -> Checked
+    requires { ⌜ recordBytes * count ≤ length (now file) ⌝ }
+    ensures { λ r. ⌜ r ≡ judge (recordRows (now (file .entry)) 0 count) Checked.Bad Checked.Fine ⌝ }
 {
     let mut i = 0;
     while i < count {
         let number = fault_of(file, i);
         if number != 0 {
-            return Listed::Bad(Refusal { number, place: i });
+            return Checked::Bad(Refusal { number, place: i });
         }
         i += 1;
     }
-    Listed::Fine
+    Checked::Fine
 }
 
 // Rows 7 and 8, and then the controls. The records are looked at in a list of our own first, so that a refusal writes nothing.
 fn read_numbers(file: &[u8], shape: Shape, controls: &mut [i32]) -> Reading
-    requires { ⌜ (shape .count ≤ mostRecords) × (12 * shape .count ≤ length (now file)) ⌝ }
-    ensures { λ r. ⌜ both r (now (controls .exit)) ≡ judge (listRows (now (file .entry)) (shape .count) (now (controls .entry))) (refusing (now (controls .entry))) (both (Reading.Read shape) (sets (now (controls .entry)) 0 (numbers (now (file .entry)) (shape .count)))) ⌝ }
+    requires { ⌜ (shape .count ≤ mostRecords) × (recordBytes * shape .count ≤ length (now file)) ⌝ }
+    ensures { λ r. ⌜ outcome r (now (controls .exit)) ≡ judge (listRows (now (file .entry)) (shape .count) (now (controls .entry))) (refuses Reading.Refused (now (controls .entry))) (outcome (Reading.Read shape) (sets (now (controls .entry)) 0 (numbers (now (file .entry)) (shape .count)))) ⌝ }
 {
     let count = shape.count;
     if controls.len() < 2 * count {
@@ -125,7 +127,7 @@ fn read_numbers(file: &[u8], shape: Shape, controls: &mut [i32]) -> Reading
             place: 0,
         });
     }
-    let mut own = [0i32; MOST_NUMBERS];
+    let mut own = [0i32; MOST_CONTROLS];
     write_numbers(file, count, &mut own);
     let at = first_outside(&own, count);
     if at < count {
@@ -140,8 +142,8 @@ fn read_numbers(file: &[u8], shape: Shape, controls: &mut [i32]) -> Reading
 
 // Rows 1, 2, 3 for the shape of the first record, and on.
 fn read_records(file: &[u8], count: usize, controls: &mut [i32]) -> Reading
-    requires { ⌜ (1 ≤ count) × (count ≤ mostRecords) × (12 * count ≤ length (now file)) ⌝ }
-    ensures { λ r. ⌜ both r (now (controls .exit)) ≡ judge (laterRows (now (file .entry)) count (now (controls .entry))) (refusing (now (controls .entry))) (accepting (now (file .entry)) count (now (controls .entry))) ⌝ }
+    requires { ⌜ (1 ≤ count) × (count ≤ mostRecords) × (recordBytes * count ≤ length (now file)) ⌝ }
+    ensures { λ r. ⌜ outcome r (now (controls .exit)) ≡ judge (laterRows (now (file .entry)) count (now (controls .entry))) (refuses Reading.Refused (now (controls .entry))) (accepts (now (file .entry)) count (now (controls .entry))) ⌝ }
 {
     let shape = Shape {
         basis: file[0] as usize,
@@ -157,7 +159,7 @@ fn read_records(file: &[u8], count: usize, controls: &mut [i32]) -> Reading
 // Reads a record file: the checks of document 01 in its order, 3 for the length, 13, then record by record 14 and 15, then 1, 2, 3, 7, 8. An accepted file writes two
 // numbers for each record from the start of the controls on, x then y, keeps all past them, and answers the shape. A refusal answers its number and place and writes nothing.
 pub fn read(file: &[u8], controls: &mut [i32]) -> Reading
-    ensures { λ r. ⌜ both r (now (controls .exit)) ≡ reading (now (file .entry)) (now (controls .entry)) ⌝ }
+    ensures { λ r. ⌜ outcome r (now (controls .exit)) ≡ reading (now (file .entry)) (now (controls .entry)) ⌝ }
 {
     let length = file.len();
     if length == 0 {
@@ -180,7 +182,7 @@ pub fn read(file: &[u8], controls: &mut [i32]) -> Reading
     }
     let count = length / RECORD;
     match check_records(file, count) {
-        Listed::Bad(refusal) => Reading::Refused(refusal),
-        Listed::Fine => read_records(file, count, controls),
+        Checked::Bad(refusal) => Reading::Refused(refusal),
+        Checked::Fine => read_records(file, count, controls),
     }
 }

@@ -10,6 +10,7 @@ use borrow.Author.Tests.{le-leb, le-ltb, eq-eqb}
 use lib.IntN.{ℤ, pos, natAbs}
 use lib.ListN.{getD, length}
 use lib.Seq.{sets}
+use Rattle.whole.specs.Outcome.{outcome}
 use Rattle.curve.specs.Limits.{limit, reach}
 use Rattle.curve.specs.Span.{coordinate}
 use Rattle.curve.specs.Ways.{deepest}
@@ -25,7 +26,6 @@ use Rattle.shape.proofs.Seek.{seek-none}
 use Rattle.shape.proofs.Spans.{spans-records}
 use Rattle.spans.proofs.Filled.{length-filled, same-filled}
 use Rattle.outline.specs.declared.Drawn.the-variants.{Points}
-use Rattle.outline.specs.Outline as outline
 use Rattle.outline.specs.Outline.{numbers, points, drawn, drawRows, draws}
 use Rattle.outline.proofs.Exactly.{points-none, none-drawn}
 use Rattle.outline.proofs.Held.{held-drawn}
@@ -74,7 +74,7 @@ redrawn t out =
 
 outlined-redraws : (t : State) → Outlined t → NoRow (drawRows (t .shape) (t .controls) (t .held)) → Redraws t
 outlined-redraws t out none =
-    none-drawn (t .shape) (t .controls) (t .held) none ∙ ap (outline.outcome (Points (points (planOf (t .shape))))) (redrawn t out)
+    none-drawn (t .shape) (t .controls) (t .held) none ∙ ap (outcome (Points (points (planOf (t .shape))))) (redrawn t out)
 
 -- ---- one call
 
@@ -124,7 +124,7 @@ played-redraws t (c ∷ calls) again = played-redraws (called t c) calls (called
 -- ---- from the first drawing on
 
 -- after a drawing call that answers points, drawing again changes nothing
-pub drawn-redraws : (s : Shape) (controls lent : List ℤ) (n : ℕ) (held : List ℤ) → draws s controls lent ≡ outline.outcome (Points n) held → Redraws (state s controls held)
+pub drawn-redraws : (s : Shape) (controls lent : List ℤ) (n : ℕ) (held : List ℤ) → draws s controls lent ≡ outcome (Points n) held → Redraws (state s controls held)
 drawn-redraws s controls lent n held answered =
     let p = planOf s in
     let long : length lent ≡ length held = sym (length-filled (numbers p controls) 0 (2 * points p) lent) ∙ ap length (held-drawn s controls lent n held answered) in
@@ -132,11 +132,11 @@ drawn-redraws s controls lent n held answered =
     (subst (λ (len : ℕ). NoRow (shapeRows s ++ listRows (s .count) controls (points p) len)) long (points-none s controls lent n held answered))
 
 -- nor does it after any calls more
-pub drawn-played-redraws : (s : Shape) (controls lent : List ℤ) (n : ℕ) (held : List ℤ) (calls : List Call) → draws s controls lent ≡ outline.outcome (Points n) held → Redraws (played (state s controls held) calls)
+pub drawn-played-redraws : (s : Shape) (controls lent : List ℤ) (n : ℕ) (held : List ℤ) (calls : List Call) → draws s controls lent ≡ outcome (Points n) held → Redraws (played (state s controls held) calls)
 drawn-played-redraws s controls lent n held calls answered = played-redraws (state s controls held) calls (drawn-redraws s controls lent n held answered)
 
 -- and every number of the outline is then within 5,000,000 either way
-pub drawn-played-within : (s : Shape) (controls lent : List ℤ) (n : ℕ) (held : List ℤ) (calls : List Call) → draws s controls lent ≡ outline.outcome (Points n) held
+pub drawn-played-within : (s : Shape) (controls lent : List ℤ) (n : ℕ) (held : List ℤ) (calls : List Call) → draws s controls lent ≡ outcome (Points n) held
     → (q : ℕ) → q < 2 * points (planOf (played (state s controls held) calls .shape))
     → natAbs (getD (played (state s controls held) calls .held) q (pos 0)) ≤ reach
 drawn-played-within s controls lent n held calls answered q h =

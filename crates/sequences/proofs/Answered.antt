@@ -9,6 +9,7 @@ use native.Mathlib.Nat.{mul-le-mul-right}
 use native.Mathlib.Omega.{arith}
 use lib.IntN.{ℤ, pos}
 use lib.ListN.{getD, length}
+use Rattle.whole.specs.Outcome.{Outcome, outcome}
 use Rattle.curve.specs.declared.Basis.{Basis}
 use Rattle.curve.specs.Span.{coordinate, records}
 use Rattle.shape.specs.declared.Shape.{Shape}
@@ -28,8 +29,9 @@ use Rattle.asked.specs.Edits.{countAfter, controlAt, asked, firstFresh, pastFre
 use Rattle.asked.specs.Ready.{Askable}
 use Rattle.asked.proofs.Run.{run-spans}
 use Rattle.edit.specs.declared.Change.{Change}
+use Rattle.edit.specs.declared.Edited.{Edited}
 use Rattle.edit.specs.declared.Edited.the-variants.{Done}
-use Rattle.edit.specs.Reading.{Outcome, outcome, shapeAfter, planAfter, change, controlsAfter, pointsAfter, edits}
+use Rattle.edit.specs.Reading.{shapeAfter, planAfter, change, controlsAfter, pointsAfter, edits}
 use Rattle.edit.specs.Ready.{Editable, Workable}
 use Rattle.edit.proofs.Exactly.{callRows, done-none, none-done}
 use Rattle.edit.proofs.Passed.{may-edit, same-plan, room-fine}
@@ -52,7 +54,7 @@ old-room Remove j n len can = can .1
 done-same : (c d : Change) → Done c ≡ Done d → c ≡ d
 done-same c d h = cc
 
-module _ (e : Edit) (s : Shape) (j : ℕ) (controls lent : List ℤ) (c : Change) (new held : List ℤ) (done : edits e s j controls lent ≡ outcome (Done c) new held) where
+module _ (e : Edit) (s : Shape) (j : ℕ) (controls lent : List ℤ) (c : Change) (new held : List ℤ) (done : edits e s j controls lent ≡ outcome (Done c) (new, held)) where
   abbrev before : Plan
   before = planOf s
 
@@ -73,10 +75,10 @@ module _ (e : Edit) (s : Shape) (j : ℕ) (controls lent : List ℤ) (c : Change
       → P (change e s (after .basis) j (after .spans)) after (controlsAfter e s j controls) (pointsAfter e s after j controls lent) → P c (planOf (c .shape)) new held
   by-answer P fact =
       let q = planOf (shapeAfter e s) in
-      let is : _≡_ {A = Outcome} _ (outcome (Done c) new held) = sym (none-done e s j controls lent none) ∙ done in
-      let same = done-same (change e s (q .basis) j (q .spans)) c (ap (λ (o : Outcome). o .answer) is) in
-      subst (λ l. P c (planOf (c .shape)) new l) (ap (λ (o : Outcome). o .held) is)
-      (subst (λ l. P c (planOf (c .shape)) l (pointsAfter e s q j controls lent)) (ap (λ (o : Outcome). o .controls) is)
+      let is : _≡_ {A = Outcome Edited (List ℤ × List ℤ)} _ (outcome (Done c) (new, held)) = sym (none-done e s j controls lent none) ∙ done in
+      let same = done-same (change e s (q .basis) j (q .spans)) c (λ i. is i .answer) in
+      subst (λ l. P c (planOf (c .shape)) new l) (λ i. is i .held .1)
+      (subst (λ l. P c (planOf (c .shape)) l (pointsAfter e s q j controls lent)) (λ i. is i .held .0)
       (subst (λ d. P d (planOf (d .shape)) (controlsAfter e s j controls) (pointsAfter e s q j controls lent)) same
       (subst (λ r. P (change e s (r .basis) j (r .spans)) r (controlsAfter e s j controls) (pointsAfter e s r j controls lent)) (sym (same-plan e s j controls lent none)) fact)))
 

@@ -5,31 +5,32 @@ use mathlib.Core.List.{List, [], _∷_}
 use Prim.Native.Nat.{ℕ}
 use lib.IntN.{ℤ}
 use denote.Ref.{RefT}
+use Rattle.whole.specs.Outcome.{Outcome}
 use Rattle.shape.specs.declared.Shape.{Shape}
 use Rattle.spans.specs.declared.run.Way.{Way}
 use Rattle.spans.specs.declared.run.Way.the-variants.{Weights, Halving, Differences}
-use Rattle.outline.specs.Outline as outline
+use Rattle.outline.specs.declared.Drawn.{Drawn}
 use Rattle.outline.specs.Outline.{draws}
 use Rattle.asked.specs.declared.Edit.{Edit}
 use Rattle.asked.specs.declared.Edit.the-variants.{Move, Insert, Remove}
-use Rattle.edit.specs.Reading.{Outcome}
+use Rattle.edit.specs.declared.Edited.{Edited}
 use Rattle.sequences.specs.Played.{State, Call, stateThen, answered, called, played}
 use Rattle.sequences.specs.Calls.{MeetsDrawing, MeetsCall, Ends}
 
 -- ---- one call: its contract equates what it leaves with the reading of what was asked
 
-abbrev drawing : Shape × List ℤ × List ℤ → outline.Outcome
+abbrev drawing : Shape × List ℤ × List ℤ → Outcome Drawn (List ℤ)
 drawing asked = draws (asked .0) (asked .1) (asked .2)
 
-pub meets-draws : (w : Way) (s : Shape) (controls lent : List ℤ) (o : outline.Outcome) → MeetsDrawing w (s, controls, lent) o → draws s controls lent ≡ o
+pub meets-draws : (w : Way) (s : Shape) (controls lent : List ℤ) (o : Outcome Drawn (List ℤ)) → MeetsDrawing w (s, controls, lent) o → draws s controls lent ≡ o
 meets-draws Weights s controls lent o call = sym (sym (call .leaves) ∙ call .meets ∙ ap drawing (call .asks))
 meets-draws Halving s controls lent o call = sym (sym (call .leaves) ∙ call .meets ∙ ap drawing (call .asks))
 meets-draws Differences s controls lent o call = sym (sym (call .leaves) ∙ call .meets ∙ ap drawing (call .asks))
 
-abbrev reading : State × Call → Outcome
+abbrev reading : State × Call → Outcome Edited (List ℤ × List ℤ)
 reading asked = answered (asked .0) (asked .1)
 
-meets-reading : (e : Edit) (asked : State × Call) (o : Outcome) → MeetsCall e asked o → o ≡ reading asked
+meets-reading : (e : Edit) (asked : State × Call) (o : Outcome Edited (List ℤ × List ℤ)) → MeetsCall e asked o → o ≡ reading asked
 meets-reading (Move x y) asked o call = sym (call .leaves) ∙ call .meets ∙ ap reading (call .asks)
 meets-reading (Insert x y) asked o call = sym (call .leaves) ∙ call .meets ∙ ap reading (call .asks)
 meets-reading Remove asked o call = sym (call .leaves) ∙ call .meets ∙ ap reading (call .asks)
@@ -66,7 +67,7 @@ reading-meets (Move x y) t j =
       lifetimes = ([], ([], tt));
       arguments = (t .shape, (j, (x, (y, (lent (t .controls), (lent (t .held), tt))))));
       result = o .answer;
-      last = (tt, (tt, (tt, (tt, (o .controls, (o .held, tt))))));
+      last = (tt, (tt, (tt, (tt, (o .held .0, (o .held .1, tt))))));
       asks = refl;
       leaves = refl;
       meets = refl;
@@ -77,7 +78,7 @@ reading-meets (Insert x y) t j =
       lifetimes = ([], ([], tt));
       arguments = (t .shape, (j, (x, (y, (lent (t .controls), (lent (t .held), tt))))));
       result = o .answer;
-      last = (tt, (tt, (tt, (tt, (o .controls, (o .held, tt))))));
+      last = (tt, (tt, (tt, (tt, (o .held .0, (o .held .1, tt))))));
       asks = refl;
       leaves = refl;
       meets = refl;
@@ -88,7 +89,7 @@ reading-meets Remove t j =
       lifetimes = ([], ([], tt));
       arguments = (t .shape, (j, (lent (t .controls), (lent (t .held), tt))));
       result = o .answer;
-      last = (tt, (tt, (o .controls, (o .held, tt))));
+      last = (tt, (tt, (o .held .0, (o .held .1, tt))));
       asks = refl;
       leaves = refl;
       meets = refl;

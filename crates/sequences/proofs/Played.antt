@@ -6,13 +6,13 @@ use Prim.Native.Nat.{ℕ, _*_}
 use native.Mathlib.Omega.{arith}
 use lib.IntN.{ℤ, pos}
 use lib.ListN.{getD}
+use Rattle.whole.specs.Outcome.{outcome}
 use Rattle.shape.specs.declared.Shape.{Shape}
 use Rattle.shape.specs.declared.Refusal.{Refusal}
 use Rattle.shape.specs.Refusals.{First, NoRow, planOf}
-use Rattle.shape.proofs.Refusals.{row-fails, verdict}
+use Rattle.shape.proofs.Refusals.{verdict}
 use Rattle.spans.proofs.Filled.{length-filled, in-filled}
 use Rattle.outline.specs.declared.Drawn.the-variants.{Points}
-use Rattle.outline.specs.Outline as outline
 use Rattle.outline.specs.Outline.{numbers, points, draws}
 use Rattle.outline.proofs.Held.{held-room, held-number}
 use Rattle.asked.specs.declared.Edit.{Edit}
@@ -20,7 +20,7 @@ use Rattle.asked.specs.Edits.{pointAt}
 use Rattle.edit.specs.declared.Change.{Change}
 use Rattle.edit.specs.declared.Edited.{Edited}
 use Rattle.edit.specs.declared.Edited.the-variants.{Done, Refused}
-use Rattle.edit.specs.Reading.{Outcome, shapeAfter, controlsAfter, accepts, edits}
+use Rattle.edit.specs.Reading.{shapeAfter, controlsAfter, accepts, edits}
 use Rattle.edit.proofs.Exactly.{callRows, first-refused, none-done}
 use Rattle.sequences.specs.Played.{State, Call, state, stateThen, answered, called, played, Outlined}
 use Rattle.sequences.proofs.Redrawn.{room-then, edit-draws}
@@ -62,7 +62,7 @@ refused-keeps t c r refused =
     let rows = callRows (c .edit) (t .shape) (c .place) (t .controls) (t .held) in
     ⊎-elim
     (λ (v : (q : Refusal) × First rows q). ap (stateThen (t .shape)) (first-refused (c .edit) (t .shape) (c .place) (t .controls) (t .held) (v .0) (v .1)))
-    (λ (none : NoRow rows). absurd (refused-apart _ _ r (ap (λ (o : Outcome). o .answer) (none-done (c .edit) (t .shape) (c .place) (t .controls) (t .held) none)) refused))
+    (λ (none : NoRow rows). absurd (refused-apart _ _ r (λ i. (none-done (c .edit) (t .shape) (c .place) (t .controls) (t .held) none) i .answer) refused))
     (verdict rows)
 
 -- ---- every list of calls
@@ -75,5 +75,5 @@ played-outlined t (c ∷ calls) out = played-outlined (called t c) calls (called
 -- ---- from the first drawing on
 
 -- a drawing call that answers points leaves an outline
-pub drawn-outlined : (s : Shape) (controls lent : List ℤ) (n : ℕ) (held : List ℤ) → draws s controls lent ≡ outline.outcome (Points n) held → Outlined (state s controls held)
+pub drawn-outlined : (s : Shape) (controls lent : List ℤ) (n : ℕ) (held : List ℤ) → draws s controls lent ≡ outcome (Points n) held → Outlined (state s controls held)
 drawn-outlined s controls lent n held answered = record { room = held-room s controls lent n held answered; holds = held-number s controls lent n held answered }

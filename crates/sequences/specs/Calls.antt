@@ -6,19 +6,20 @@ use lib.IntN.{ℤ}
 use borrow.Fn.Kinds.{PK, RK, Out, Dens, resT, endedOf}
 use contract.Lifetimes.{Lfts}
 use denote.Triple.Clauses.{Lasts, atExit}
+use Rattle.whole.specs.Outcome.{Outcome, outcome}
 use Rattle.asked.specs.declared.Edit.{Edit}
 use Rattle.asked.specs.declared.Edit.the-variants.{Move, Insert, Remove}
 use Rattle.shape.specs.declared.Shape.{Shape}
 use Rattle.spans.specs.declared.run.Way.{Way}
 use Rattle.spans.specs.declared.run.Way.the-variants.{Weights, Halving, Differences}
-use Rattle.outline.specs.Outline as outline
+use Rattle.outline.specs.declared.Drawn.{Drawn}
 use Rattle.outline.proofs.by_weights.Kinds as by-weights
 use Rattle.outline.proofs.by_weights.Reads as by-weights-reads
 use Rattle.outline.proofs.by_halving.Kinds as by-halving
 use Rattle.outline.proofs.by_halving.Reads as by-halving-reads
 use Rattle.outline.proofs.by_differences.Kinds as by-differences
 use Rattle.outline.proofs.by_differences.Reads as by-differences-reads
-use Rattle.edit.specs.Reading.{Outcome, outcome}
+use Rattle.edit.specs.declared.Edited.{Edited}
 use Rattle.edit.proofs.move_record.Kinds as move
 use Rattle.edit.proofs.move_record.Reads as move-reads
 use Rattle.edit.proofs.insert_record.Kinds as insert
@@ -45,13 +46,13 @@ pub record Meets
 -- ---- drawing
 
 -- The drawing call of a way. Its arguments in their order are the shape, the controls and the points.
-abbrev pub MeetsDrawing : Way → Shape × List ℤ × List ℤ → outline.Outcome → Type 0
+abbrev pub MeetsDrawing : Way → Shape × List ℤ × List ℤ → Outcome Drawn (List ℤ) → Type 0
 MeetsDrawing Weights =
-    Meets 2 by-weights.ps by-weights.r by-weights-reads.Post (λ κs a. (a .0, a .1 .0 .now, a .1 .1 .0 .now)) (λ κs a r u. outline.outcome r (u .1 .1 .0))
+    Meets 2 by-weights.ps by-weights.r by-weights-reads.Post (λ κs a. (a .0, a .1 .0 .now, a .1 .1 .0 .now)) (λ κs a r u. outcome r (u .1 .1 .0))
 MeetsDrawing Halving =
-    Meets 2 by-halving.ps by-halving.r by-halving-reads.Post (λ κs a. (a .0, a .1 .0 .now, a .1 .1 .0 .now)) (λ κs a r u. outline.outcome r (u .1 .1 .0))
+    Meets 2 by-halving.ps by-halving.r by-halving-reads.Post (λ κs a. (a .0, a .1 .0 .now, a .1 .1 .0 .now)) (λ κs a r u. outcome r (u .1 .1 .0))
 MeetsDrawing Differences =
-    Meets 2 by-differences.ps by-differences.r by-differences-reads.Post (λ κs a. (a .0, a .1 .0 .now, a .1 .1 .0 .now)) (λ κs a r u. outline.outcome r (u .1 .1 .0))
+    Meets 2 by-differences.ps by-differences.r by-differences-reads.Post (λ κs a. (a .0, a .1 .0 .now, a .1 .1 .0 .now)) (λ κs a r u. outcome r (u .1 .1 .0))
 
 -- ---- editing
 
@@ -60,17 +61,17 @@ abbrev pub asking : Edit → Shape → ℕ → List ℤ → List ℤ → State �
 asking e s j controls held = (state s controls held, record { edit = e; place = j })
 
 -- The call of an edit. Its arguments in their order are the shape, the place, the new record's x and y where there is one, the controls and the points.
-abbrev pub MeetsCall : Edit → State × Call → Outcome → Type 0
+abbrev pub MeetsCall : Edit → State × Call → Outcome Edited (List ℤ × List ℤ) → Type 0
 MeetsCall (Move x y) =
     Meets 2 move.ps move.r move-reads.Post (λ κs a. asking (Move (a .1 .1 .0) (a .1 .1 .1 .0)) (a .0) (a .1 .0) (a .1 .1 .1 .1 .0 .now) (a .1 .1 .1 .1 .1 .0 .now))
-    (λ κs a r u. outcome r (u .1 .1 .1 .1 .0) (u .1 .1 .1 .1 .1 .0))
+    (λ κs a r u. outcome r (u .1 .1 .1 .1 .0, u .1 .1 .1 .1 .1 .0))
 MeetsCall (Insert x y) =
     Meets 2 insert.ps insert.r insert-reads.Post (λ κs a. asking (Insert (a .1 .1 .0) (a .1 .1 .1 .0)) (a .0) (a .1 .0) (a .1 .1 .1 .1 .0 .now) (a .1 .1 .1 .1 .1 .0 .now))
-    (λ κs a r u. outcome r (u .1 .1 .1 .1 .0) (u .1 .1 .1 .1 .1 .0))
+    (λ κs a r u. outcome r (u .1 .1 .1 .1 .0, u .1 .1 .1 .1 .1 .0))
 MeetsCall Remove =
-    Meets 2 remove.ps remove.r remove-reads.Post (λ κs a. asking Remove (a .0) (a .1 .0) (a .1 .1 .0 .now) (a .1 .1 .1 .0 .now)) (λ κs a r u. outcome r (u .1 .1 .0) (u .1 .1 .1 .0))
+    Meets 2 remove.ps remove.r remove-reads.Post (λ κs a. asking Remove (a .0) (a .1 .0) (a .1 .1 .0 .now) (a .1 .1 .1 .0 .now)) (λ κs a r u. outcome r (u .1 .1 .0, u .1 .1 .1 .0))
 
 -- From a state, calls of the code end in a last state: each is given what the one before it left.
 unfoldable pub Ends : State → List Call → State → Type 0
 Ends t [] last = last ≡ t
-Ends t (c ∷ calls) last = (o : Outcome) × MeetsCall (c .edit) (t, c) o × Ends (stateThen (t .shape) o) calls last
+Ends t (c ∷ calls) last = (o : Outcome Edited (List ℤ × List ℤ)) × MeetsCall (c .edit) (t, c) o × Ends (stateThen (t .shape) o) calls last

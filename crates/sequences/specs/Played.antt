@@ -4,15 +4,15 @@ use mathlib.Core.Path.{_≡_}
 use Prim.Native.Nat.{ℕ, _*_, _≤_, _<_}
 use lib.IntN.{ℤ, pos}
 use lib.ListN.{getD, length}
+use Rattle.whole.specs.Outcome.{Outcome, outcome}
 use Rattle.shape.specs.declared.Shape.{Shape}
 use Rattle.shape.specs.Refusals.{planOf}
 use Rattle.outline.specs.declared.Drawn.the-variants.{Points}
-use Rattle.outline.specs.Outline as outline
 use Rattle.outline.specs.Outline.{numbers, points, draws}
 use Rattle.asked.specs.declared.Edit.{Edit}
 use Rattle.edit.specs.declared.Edited.{Edited}
 use Rattle.edit.specs.declared.Edited.the-variants.{Done, Refused}
-use Rattle.edit.specs.Reading.{Outcome, edits}
+use Rattle.edit.specs.Reading.{edits}
 
 -- The shape as the last answer gave it, and the two lent lists.
 pub record State : Type 0 where
@@ -32,11 +32,11 @@ abbrev pub shapeThen : Shape → Edited → Shape
 shapeThen s (Done c) = c .shape
 shapeThen s (Refused r) = s
 
-abbrev pub stateThen : Shape → Outcome → State
-stateThen s o = state (shapeThen s (o .answer)) (o .controls) (o .held)
+abbrev pub stateThen : Shape → Outcome Edited (List ℤ × List ℤ) → State
+stateThen s o = state (shapeThen s (o .answer)) (o .held .0) (o .held .1)
 
 -- What a call comes to on a state, and the state that it leaves.
-abbrev pub answered : State → Call → Outcome
+abbrev pub answered : State → Call → Outcome Edited (List ℤ × List ℤ)
 answered t c = edits (c .edit) (t .shape) (c .place) (t .controls) (t .held)
 
 unfoldable pub called : State → Call → State
@@ -53,4 +53,4 @@ pub record Outlined (t : State) : Type 0 where
 
 -- Drawing the controls again is done, and changes nothing.
 abbrev pub Redraws : State → Type 0
-Redraws t = draws (t .shape) (t .controls) (t .held) ≡ outline.outcome (Points (points (planOf (t .shape)))) (t .held)
+Redraws t = draws (t .shape) (t .controls) (t .held) ≡ outcome (Points (points (planOf (t .shape)))) (t .held)

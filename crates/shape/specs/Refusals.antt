@@ -16,8 +16,8 @@ use Rattle.shape.specs.declared.Plan.{Plan}
 use Rattle.shape.specs.declared.Refusal.{Refusal}
 use Rattle.shape.specs.declared.Judged.{Judged}
 use Rattle.shape.specs.declared.Judged.the-variants.{Sound, Unsound}
-use Rattle.shape.specs.declared.Listed.{Listed}
-use Rattle.shape.specs.declared.Listed.the-variants.{Fine, Bad}
+use Rattle.shape.specs.declared.Checked.{Checked}
+use Rattle.shape.specs.declared.Checked.the-variants.{Fine, Bad}
 use Rattle.shape.specs.Shape.{basisOf, spansOf, allowed}
 
 pub record Row : Type 0 where
@@ -102,5 +102,5 @@ pointRows points len = pointsRow points len ∷ []
 abbrev pub listRows : ℕ → List ℤ → ℕ → ℕ → List Row
 listRows n controls points len = controlRows n n controls ++ pointRows points len
 
-unfoldable pub judgeLists : ℕ → List ℤ → ℕ → ℕ → Listed
+unfoldable pub judgeLists : ℕ → List ℤ → ℕ → ℕ → Checked
 judgeLists n controls points len = judge (listRows n controls points len) Bad Fine

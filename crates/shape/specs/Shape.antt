@@ -6,7 +6,7 @@ use Rattle.curve.specs.Ways.{deepest}
 use Rattle.curve.specs.declared.Basis.{Basis}
 use Rattle.curve.specs.declared.Basis.the-variants.{Bezier, BSpline, Cardinal, Hermite}
 
--- The basis of a number from 1 to 4.
+-- The basis of a number from 1 to 4. Of any other number, which row 1 refuses, it says Hermite, and nothing comes of that.
 unfoldable pub basisOf : ℕ → Basis
 basisOf zero = Hermite
 basisOf (suc zero) = Bezier

@@ -37,8 +37,8 @@ pub enum Judged {
     Unsound(Refusal),
 }
 
-// What the checks of the lent lists find (rows 7, 8, 9).
-pub enum Listed {
+// What a check finds: nothing that is wrong, or the refusal.
+pub enum Checked {
     Fine,
     Bad(Refusal),
 }
@@ -186,28 +186,28 @@ pub fn first_outside(controls: &[i32], count: usize) -> usize
 
 // The checks of the lent lists in the paper's order, 7, 8, 9: `count` records in `controls`, inside the limits, and room for `points` points in a list of `len` numbers.
 // For crates that have checked the shape.
-pub fn check_lists(count: usize, controls: &[i32], points: usize, len: usize) -> Listed
+pub fn check_lists(count: usize, controls: &[i32], points: usize, len: usize) -> Checked
     requires { ⌜ (count ≤ mostRecords) × (points ≤ mostPoints) ⌝ }
     ensures { λ r. ⌜ r ≡ judgeLists count (now (controls .entry)) points len ⌝ }
 {
     if controls.len() < 2 * count {
-        return Listed::Bad(Refusal {
+        return Checked::Bad(Refusal {
             number: 7,
             place: 0,
         });
     }
     let at = first_outside(controls, count);
     if at < count {
-        return Listed::Bad(Refusal {
+        return Checked::Bad(Refusal {
             number: 8,
             place: at,
         });
     }
     if len < 2 * points {
-        return Listed::Bad(Refusal {
+        return Checked::Bad(Refusal {
             number: 9,
             place: 0,
         });
     }
-    Listed::Fine
+    Checked::Fine
 }

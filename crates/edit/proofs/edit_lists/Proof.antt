@@ -4,12 +4,13 @@ use mathlib.Core.List.{List}
 use Prim.Native.Nat.{ℕ, _+_, _*_}
 use borrow.Author.Needs.{needs}
 use lib.IntN.{ℤ}
+use Rattle.whole.specs.Outcome.{outcome}
 use Rattle.spans.specs.Numbers.{filled, perSpan}
 use Rattle.spans.specs.Ready.{Drawable}
 use Rattle.outline.proofs.Draws.{all-numbers}
 use Rattle.asked.specs.Edits.{pointAt}
 use Rattle.edit.specs.declared.Edited.the-variants.{Done}
-use Rattle.edit.specs.Reading.{outcome, controlsAfter}
+use Rattle.edit.specs.Reading.{controlsAfter}
 use Rattle.edit.proofs.edit_lists.Statement.{statement}
 use Rattle.edit.proofs.edit_lists.Tie as tie
 
@@ -42,7 +43,7 @@ returns c =
     let worked : List ℤ → ℕ → List ℤ = λ controls n. filled (pointAt (a .edit) (q .basis) (q .depth) (a .place) (q .spans) controls lent) 0 n lent in
     let all = q .spans * perSpan (q .depth) + 2 in
     let points = r .work .ensures ∙ ap (λ l. worked l all) (t .ask .ensures) ∙ ap (worked (controlsAfter (a .edit) (a .shape) (a .place) (a .controls .now))) (sym (all-numbers (q .depth) (q .spans))) in
-    λ i. outcome (Done (c .change-of .ensures i)) (t .ask .ensures i) (points i)
+    λ i. outcome (Done (c .change-of .ensures i)) (t .ask .ensures i, points i)
 
 pub edit-lists-spec : {M : Type 1} → statement M
 edit-lists-spec =

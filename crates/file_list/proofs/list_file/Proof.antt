@@ -2,8 +2,8 @@
 use mathlib.Core.Path.{sym, ap, _∙_}
 use lib.Seq.{length-take-le}
 use borrow.Author.Needs.{needs}
+use Rattle.whole.specs.Outcome.{outcome}
 use Rattle.listing.specs.declared.Put.the-variants.{End, Full}
-use Rattle.listing.specs.Written.{outcome}
 use Rattle.file_list.specs.Files.{fileText}
 use Rattle.file_list.proofs.Texts.{ends-inside, counted-text}
 use Rattle.file_list.proofs.list_file.Statement.{statement}

@@ -1,7 +1,7 @@
 -- The text is that of what drawing answered: the refusal's, or the listing of the points, which are all there.
 use mathlib.Core.Path.{sym, ap, _∙_}
 use Prim.Native.Nat.{ℕ}
-use Rattle.outline.specs.Outline.{outcome}
+use Rattle.whole.specs.Outcome.{outcome}
 use Rattle.listing.specs.Listing.{listed}
 use Rattle.listing.specs.Written.{written}
 use Rattle.file_list.proofs.Texts.{refused-text, listed-text}

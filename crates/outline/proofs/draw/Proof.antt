@@ -1,5 +1,5 @@
 -- A shape that is not sound is refused at once; of a sound one the rest is the plan's.
-use mathlib.Core.Path.{sym, ap, _∙_}
+use mathlib.Core.Path.{sym, _∙_}
 use borrow.Author.Needs.{needs}
 use Rattle.shape.proofs.Refusals.{sound-facts}
 use Rattle.outline.proofs.Draws.{draws-sound, draws-unsound}

@@ -7,17 +7,18 @@ use native.Mathlib.Omega.{arith}
 use borrow.Author.Needs.{needs}
 use lib.IntN.{ℤ}
 use lib.ListN.{length}
+use Rattle.whole.specs.Outcome.{outcome}
 use Rattle.shape.specs.declared.Plan.{Plan}
-use Rattle.shape.specs.declared.Listed.the-variants.{Fine}
+use Rattle.shape.specs.declared.Checked.the-variants.{Fine}
 use Rattle.shape.specs.Shape.{mostPoints}
 use Rattle.shape.specs.Refusals.{judgeLists}
 use Rattle.shape.specs.Good.{Lent}
 use Rattle.shape.proofs.Refusals.{fine-facts}
 use Rattle.shape.proofs.Spans.{points-at-most}
-use Rattle.spans.specs.Numbers.{number, filled, perSpan}
+use Rattle.spans.specs.Numbers.{filled, perSpan}
 use Rattle.spans.specs.Ready.{Drawable}
 use Rattle.outline.specs.declared.Drawn.the-variants.{Points}
-use Rattle.outline.specs.Outline.{outcome, numbers, points, drawn}
+use Rattle.outline.specs.Outline.{numbers, points, drawn}
 use Rattle.outline.proofs.Draws.{all-numbers, plan-bad, plan-drawn, drawable}
 use Rattle.outline.proofs.draw_plan.Statement.{statement}
 use Rattle.outline.proofs.draw_plan.Tie as tie

@@ -1,14 +1,16 @@
 -- The shape's rows decide, or leave the rest of the table to the callee, whose plan is the shape's.
 use mathlib.Core.Path.{_≡_, sym, ap, _∙_}
 use lib.ListN.{length}
+use Rattle.whole.specs.Outcome.{refuses}
 use Rattle.shape.specs.declared.Plan.{Plan}
 use Rattle.shape.specs.declared.Judged.the-variants.{Sound}
 use Rattle.shape.specs.Refusals.{judge, judgeShape, planOf}
 use Rattle.shape.proofs.Refusals.{sound, unsound, sound-plan, sound-facts}
-use Rattle.preview.specs.Preview.{laterRows, refusing, drawing, previewing}
+use Rattle.preview.specs.declared.Previewed.the-variants.{Refused}
 use borrow.Author.Needs.{needs}
 use Rattle.preview.proofs.preview.Statement.{statement}
 use Rattle.preview.proofs.preview.Tie as tie
+use Rattle.preview.specs.Preview.{laterRows, accepts, previewing}
 
 -- the plan is what the shape's checks found
 found : (c : tie.After-plan) → judgeShape (c .before .before .before .before .args .shape) ≡ Sound (c .plan .given .0 .0)
@@ -33,7 +35,7 @@ returns c =
     let m = c .before .refusal .given in
     sym
     (unsound (a .shape) (m .0 .0) (sym (c .before .before .before .check-shape .ensures) ∙ m .1)
-    (laterRows (a .shape) (planOf (a .shape)) (a .controls .now) (length (a .points .now))) (refusing (a .points .now)) (drawing (planOf (a .shape)) (a .controls .now) (a .points .now)))
+    (laterRows (a .shape) (planOf (a .shape)) (a .controls .now) (length (a .points .now))) (refuses Refused (a .points .now)) (accepts (planOf (a .shape)) (a .controls .now) (a .points .now)))
 
 same-length : tie.Need-same-length
 same-length c = search needs
@@ -47,8 +49,8 @@ returns-2 c =
     let p = c .before .before .before .before .before .plan .given .0 .0 in
     let e = found (c .before .before .before .before .before) in
     c .before .before .preview-plan .ensures
-    ∙ ap (λ (q : Plan). judge (laterRows s q (a .controls .now) n) (refusing (a .points .now)) (drawing q (a .controls .now) (a .points .now))) (sound-plan s p e)
-    ∙ sym (sound s p e (laterRows s (planOf s) (a .controls .now) n) (refusing (a .points .now)) (drawing (planOf s) (a .controls .now) (a .points .now)))
+    ∙ ap (λ (q : Plan). judge (laterRows s q (a .controls .now) n) (refuses Refused (a .points .now)) (accepts q (a .controls .now) (a .points .now))) (sound-plan s p e)
+    ∙ sym (sound s p e (laterRows s (planOf s) (a .controls .now) n) (refuses Refused (a .points .now)) (accepts (planOf s) (a .controls .now) (a .points .now)))
 
 pub preview-spec : {M : Type 1} → statement M
 preview-spec =

@@ -2,7 +2,7 @@
 use mathlib.Core.Path.{_≡_, sym, ap, _∙_}
 use Prim.Native.Nat.{ℕ, _-_, _≤_}
 use native.Mathlib.Omega.{arith}
-use Rattle.shape.specs.declared.Listed.the-variants.{Fine, Bad}
+use Rattle.shape.specs.declared.Checked.the-variants.{Fine, Bad}
 use Rattle.shape.specs.Refusals.{judge}
 use Rattle.record_file.specs.Rows.{recordRows}
 use Rattle.record_file.proofs.Records.{faulty, faultless, no-more}

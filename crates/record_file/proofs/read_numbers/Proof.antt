@@ -10,20 +10,22 @@ use lib.Dec.{ltb}
 use lib.IntN.{ℤ}
 use lib.ListN.{length}
 use lib.Seq.{sets}
+use Rattle.whole.specs.Outcome.{Outcome, outcome, refuses}
 use Rattle.curve.proofs.Tab.{length-tab}
 use Rattle.shape.specs.declared.Shape.{Shape}
 use Rattle.shape.specs.Refusals.{firstOutside}
 use Rattle.shape.proofs.Refusals.{judge-first, judge-none}
-use Rattle.record_file.specs.declared.Reading.the-variants.{Read}
+use Rattle.record_file.specs.declared.Reading.{Reading}
+use Rattle.record_file.specs.declared.Reading.the-variants.{Read, Refused}
 use Rattle.record_file.specs.Format.{number, numbers}
-use Rattle.record_file.specs.Rows.{Outcome, both, listRows, refusing}
 use Rattle.record_file.proofs.Outside.{outside-written}
 use borrow.Author.Needs.{needs}
 use Rattle.record_file.proofs.read_numbers.Statement.{statement}
 use Rattle.record_file.proofs.read_numbers.Tie as tie
+use Rattle.record_file.specs.Rows.{listRows}
 
-abbrev accepted : List ℕ → Shape → List ℤ → Outcome
-accepted file s controls = both (Read s) (sets controls 0 (numbers file (s .count)))
+abbrev accepted : List ℕ → Shape → List ℤ → Outcome Reading (List ℤ)
+accepted file s controls = outcome (Read s) (sets controls 0 (numbers file (s .count)))
 
 -- row 7 did not hold
 room : (c : tie.Else1) → ltb (length (c .before .before .args .controls .now)) (2 * c .before .before .args .shape .count) ≡ false
@@ -45,7 +47,7 @@ returns : tie.Need-returns
 returns c =
     let a = c .before .before .args in
     let n = a .shape .count in
-    sym (judge-first (listRows (a .file .now) n (a .controls .now)) (refusing (a .controls .now)) (accepted (a .file .now) (a .shape) (a .controls .now)) (record { number = 7; place = 0 }) (inl (lt-ltb (length (a .controls .now)) (2 * n) (c .if1 .taken), refl)))
+    sym (judge-first (listRows (a .file .now) n (a .controls .now)) (refuses Refused (a .controls .now)) (accepted (a .file .now) (a .shape) (a .controls .now)) (record { number = 7; place = 0 }) (inl (lt-ltb (length (a .controls .now)) (2 * n) (c .if1 .taken), refl)))
 
 slice-aggregate-write-numbers : tie.Need-slice-aggregate-write-numbers
 slice-aggregate-write-numbers c = search needs
@@ -66,7 +68,7 @@ returns-2 c =
     let e = found (c .before) in
     let at = firstOutside (numbers (a .file .now) n) n in
     sym
-    (judge-first (listRows (a .file .now) n (a .controls .now)) (refusing (a .controls .now)) (accepted (a .file .now) (a .shape) (a .controls .now)) (record { number = 8; place = c .before .first-outside .result })
+    (judge-first (listRows (a .file .now) n (a .controls .now)) (refuses Refused (a .controls .now)) (accepted (a .file .now) (a .shape) (a .controls .now)) (record { number = 8; place = c .before .first-outside .result })
     (inr (room (c .before .before .before .before .before .before), inl (lt-ltb at n (subst (λ m. m < n) e (c .if2 .taken)), (λ k. record { number = 8; place = sym e k })))))
 
 write-numbers-requires-2 : tie.Need-write-numbers-requires-2
@@ -81,9 +83,9 @@ returns-3 c =
     let n = a .shape .count in
     let e = found (c .before .before .before .before) in
     let at = firstOutside (numbers (a .file .now) n) n in
-    ap (both (Read (a .shape))) (c .before .write-numbers2 .ensures)
+    ap (outcome (Read (a .shape))) (c .before .write-numbers2 .ensures)
     ∙ sym
-    (judge-none (listRows (a .file .now) n (a .controls .now)) (refusing (a .controls .now)) (accepted (a .file .now) (a .shape) (a .controls .now))
+    (judge-none (listRows (a .file .now) n (a .controls .now)) (refuses Refused (a .controls .now)) (accepted (a .file .now) (a .shape) (a .controls .now))
     (room (c .before .before .before .before .before .before .before .before .before), (le-ltb at n (subst (λ m. n ≤ m) e (c .before .before .before .if2 .left)), tt)))
 
 pub read-numbers-spec : {M : Type 1} → statement M

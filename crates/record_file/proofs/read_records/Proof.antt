@@ -1,11 +1,13 @@
 -- The shape's rows decide, or leave the rest of the table to the callee.
 use mathlib.Core.Path.{sym, _∙_}
 use native.Mathlib.Omega.{arith}
+use Rattle.whole.specs.Outcome.{refuses}
 use Rattle.shape.proofs.Refusals.{sound, unsound}
-use Rattle.record_file.specs.Rows.{shapeOf, listRows, refusing, accepting}
+use Rattle.record_file.specs.declared.Reading.the-variants.{Refused}
 use borrow.Author.Needs.{needs}
 use Rattle.record_file.proofs.read_records.Statement.{statement}
 use Rattle.record_file.proofs.read_records.Tie as tie
+use Rattle.record_file.specs.Rows.{shapeOf, listRows, accepts}
 
 shared-slice-read-t7 : tie.Need-shared-slice-read-t7
 shared-slice-read-t7 c = search needs
@@ -37,7 +39,7 @@ returns c =
     let m = c .before .refusal .given in
     sym
     (unsound (shapeOf (a .file .now) (a .count)) (m .0 .0) (sym (c .before .before .before .check-shape .ensures) ∙ m .1)
-    (listRows (a .file .now) (a .count) (a .controls .now)) (refusing (a .controls .now)) (accepting (a .file .now) (a .count) (a .controls .now)))
+    (listRows (a .file .now) (a .count) (a .controls .now)) (refuses Refused (a .controls .now)) (accepts (a .file .now) (a .count) (a .controls .now)))
 
 same-length : tie.Need-same-length
 same-length c = search needs
@@ -49,7 +51,7 @@ returns-2 c =
     c .before .read-numbers .ensures
     ∙ sym
     (sound (shapeOf (a .file .now) (a .count)) (m .0 .0) (sym (c .before .before .before .before .before .check-shape .ensures) ∙ m .1)
-    (listRows (a .file .now) (a .count) (a .controls .now)) (refusing (a .controls .now)) (accepting (a .file .now) (a .count) (a .controls .now)))
+    (listRows (a .file .now) (a .count) (a .controls .now)) (refuses Refused (a .controls .now)) (accepts (a .file .now) (a .count) (a .controls .now)))
 
 pub read-records-spec : {M : Type 1} → statement M
 read-records-spec =

@@ -1,7 +1,6 @@
 -- The lesser of a place and the length counts bytes of the text.
 use native.Mathlib.Omega.{arith}
 use Rattle.io.proofs.Counting.{counts}
-use borrow.Author.Needs.{needs}
 use Rattle.console.proofs.number.length_of.Statement.{statement}
 use Rattle.console.proofs.number.length_of.Tie as tie
 

@@ -1,8 +1,8 @@
 -- The rows 6 and 7 are tested in their order; where neither holds, the three records are written.
 use mathlib.Core.Path.{sym, ap, _∙_}
 use mathlib.Core.List.{[], _∷_}
+use Rattle.whole.specs.Outcome.{outcome}
 use Rattle.drawing.specs.declared.Stepped.the-variants.{Next}
-use Rattle.drawing.specs.Reading.{both}
 use Rattle.drawing.proofs.Tables.{too-many, too-short, roomy}
 use borrow.Author.Needs.{needs}
 use Rattle.drawing.proofs.State.add_three.Statement.{statement}
@@ -37,7 +37,7 @@ returns-3 : tie.Need-returns-3
 returns-3 c =
     let e = c .before .before .before in
     let t = e .before .before .before .args in
-    ap (both (Next _)) (c .before .put-three .ensures)
+    ap (outcome (Next _)) (c .before .put-three .ensures)
     ∙ sym (roomy (t .self) (t .a ∷ t .b ∷ t .c ∷ []) (t .self .start) (t .closed) (t .controls .now) (e .before .if1 .left) (e .if2 .left))
 
 pub add-three-spec : {M : Type 1} → statement M

@@ -5,21 +5,22 @@ use mathlib.Core.List.{List, []}
 use Prim.Native.Nat.{_+_, _*_, _≤_, _<_}
 use lib.IntN.{ℤ}
 use lib.ListN.{length}
+use Rattle.whole.specs.Outcome.{outcome, refuses}
+use Rattle.shape.specs.Shape.{mostRecords}
 use Rattle.drawing.specs.declared.State.{State}
 use native.Mathlib.Omega.{arith}
 use borrow.Author.Tests.{not-true, not-false}
 use Rattle.drawing.specs.declared.Step.the-variants.{Close}
-use Rattle.drawing.specs.declared.Checked.the-variants.{Fine}
-use Rattle.drawing.specs.declared.Stepped.the-variants.{Next}
+use Rattle.shape.specs.declared.Checked.the-variants.{Fine}
+use Rattle.drawing.specs.declared.Stepped.the-variants.{Next, Refused}
 use Rattle.drawing.specs.Drawing.{same, line, added}
-use Rattle.drawing.specs.Reading.{both, refused}
 use Rattle.drawing.specs.Parts.{judgeState, extends, goesOn}
 use Rattle.drawing.proofs.Tables.{reached-most, fine-reached, numbers-good, too-short, roomy}
 use borrow.Author.Needs.{needs}
 use Rattle.drawing.proofs.State.close.Statement.{statement}
 use Rattle.drawing.proofs.State.close.Tie as tie
 
-few : (s : State) → judgeState s false ≡ Fine → s .count ≤ 64
+few : (s : State) → judgeState s false ≡ Fine → s .count ≤ mostRecords
 few s e = reached-most (s .count) (fine-reached s false e)
 
 lined : (s : State) (l : List ℤ) → same (s .current) (s .start) ≡ false → goesOn s Close l ≡ extends s (line (s .current) (s .start)) (s .start) true l
@@ -30,14 +31,14 @@ nothing : (s : State) (l : List ℤ) → same (s .current) (s .start) ≡ true �
 unfolding added
 nothing s l e = numbers-good s Close l tt ∙ ap (λ cs. extends s cs (s .start) true l) (rw e)
 
-module _ (s : State) (l : List ℤ) (e : same (s .current) (s .start) ≡ true) (h : s .count ≤ 64) where
-  no-room : length l < 2 * s .count → goesOn s Close l ≡ refused l (record { number = 7; place = 0 })
+module _ (s : State) (l : List ℤ) (e : same (s .current) (s .start) ≡ true) (h : s .count ≤ mostRecords) where
+  no-room : length l < 2 * s .count → goesOn s Close l ≡ refuses Refused l (record { number = 7; place = 0 })
   no-room short = nothing s l e ∙ too-short s [] (s .start) true l (omega arith) (omega arith)
 
-  stays : 2 * s .count ≤ length l → goesOn s Close l ≡ both (Next (record { count = s .count; start = s .start; current = s .current; closed = true })) l
+  stays : 2 * s .count ≤ length l → goesOn s Close l ≡ outcome (Next (record { count = s .count; start = s .start; current = s .current; closed = true })) l
   stays long =
       let as-many : s .count + 0 ≡ s .count = omega arith in
-      nothing s l e ∙ roomy s [] (s .start) true l (omega arith) (omega arith) ∙ (λ k. both (Next (record { count = as-many k; start = s .start; current = s .current; closed = true })) l)
+      nothing s l e ∙ roomy s [] (s .start) true l (omega arith) (omega arith) ∙ (λ k. outcome (Next (record { count = as-many k; start = s .start; current = s .current; closed = true })) l)
 
 is-same-requires : tie.Need-is-same-requires
 is-same-requires c κs = search needs

@@ -6,46 +6,49 @@ use Prim.Native.Nat.{_+_}
 use lib.Ieee.{Float}
 use lib.IntN.{ℤ}
 use lib.ListN.{length}
+use Rattle.whole.specs.Outcome.{Outcome, refuses}
 use Rattle.shape.specs.declared.Refusal.{Refusal}
 use Rattle.drawing.specs.declared.Control.{Control}
 use Rattle.drawing.specs.declared.State.{State}
 use Rattle.shape.specs.Refusals.{Row}
 use Rattle.drawing.specs.declared.Step.the-variants.{Cubic}
 use Rattle.drawing.specs.declared.Placed.the-variants.{At, Amiss}
+use Rattle.drawing.specs.declared.Stepped.{Stepped}
+use Rattle.drawing.specs.declared.Stepped.the-variants.{Refused}
 use Rattle.drawing.specs.Drawing.{added}
-use Rattle.drawing.specs.Reading.{Outcome, refused, numberRows, spaceRows, accepted}
-use Rattle.drawing.specs.Parts.{judgeControl, extends, goesOn}
 use Rattle.drawing.proofs.Tables.{reached-most, fine-reached, placed-none, placed-is, placed, amiss, numbers-good}
 use borrow.Author.Needs.{needs}
 use Rattle.drawing.proofs.State.cubic_to.Statement.{statement}
 use Rattle.drawing.proofs.State.cubic_to.Tie as tie
+use Rattle.drawing.specs.Reading.{numberRows, spaceRows, accepts}
+use Rattle.drawing.specs.Parts.{judgeControl, extends, goesOn}
 
 module _ (s : State) (x0 y0 x1 y1 x2 y2 : Float) (l : List ℤ) where
   -- the rows after those of the first control, and after those of the second
   space : List Row
   space = spaceRows (s .count) (s .count + length (added s (Cubic x0 y0 x1 y1 x2 y2))) l
 
-  done : Outcome
-  done = accepted s (Cubic x0 y0 x1 y1 x2 y2) l
+  done : Outcome Stepped (List ℤ)
+  done = accepts s (Cubic x0 y0 x1 y1 x2 y2) l
 
-  first-wrong : (r : Refusal) → judgeControl 0 x0 y0 ≡ Amiss r → goesOn s (Cubic x0 y0 x1 y1 x2 y2) l ≡ refused l r
+  first-wrong : (r : Refusal) → judgeControl 0 x0 y0 ≡ Amiss r → goesOn s (Cubic x0 y0 x1 y1 x2 y2) l ≡ refuses Refused l r
   unfolding goesOn space done
-  first-wrong r e = amiss 0 x0 y0 r e (numberRows 2 (x1 ∷ y1 ∷ x2 ∷ y2 ∷ []) ++ space) (refused l) done
+  first-wrong r e = amiss 0 x0 y0 r e (numberRows 2 (x1 ∷ y1 ∷ x2 ∷ y2 ∷ []) ++ space) (refuses Refused l) done
 
   module _ (first : Control) (is-first : judgeControl 0 x0 y0 ≡ At first) where
-    second-wrong : (r : Refusal) → judgeControl 2 x1 y1 ≡ Amiss r → goesOn s (Cubic x0 y0 x1 y1 x2 y2) l ≡ refused l r
+    second-wrong : (r : Refusal) → judgeControl 2 x1 y1 ≡ Amiss r → goesOn s (Cubic x0 y0 x1 y1 x2 y2) l ≡ refuses Refused l r
     unfolding goesOn space done
     second-wrong r e =
-        placed 0 x0 y0 first is-first (numberRows 2 (x1 ∷ y1 ∷ x2 ∷ y2 ∷ []) ++ space) (refused l) done
-        ∙ amiss 2 x1 y1 r e (numberRows 4 (x2 ∷ y2 ∷ []) ++ space) (refused l) done
+        placed 0 x0 y0 first is-first (numberRows 2 (x1 ∷ y1 ∷ x2 ∷ y2 ∷ []) ++ space) (refuses Refused l) done
+        ∙ amiss 2 x1 y1 r e (numberRows 4 (x2 ∷ y2 ∷ []) ++ space) (refuses Refused l) done
 
     module _ (second : Control) (is-second : judgeControl 2 x1 y1 ≡ At second) where
-      third-wrong : (r : Refusal) → judgeControl 4 x2 y2 ≡ Amiss r → goesOn s (Cubic x0 y0 x1 y1 x2 y2) l ≡ refused l r
+      third-wrong : (r : Refusal) → judgeControl 4 x2 y2 ≡ Amiss r → goesOn s (Cubic x0 y0 x1 y1 x2 y2) l ≡ refuses Refused l r
       unfolding goesOn space done
       third-wrong r e =
-          placed 0 x0 y0 first is-first (numberRows 2 (x1 ∷ y1 ∷ x2 ∷ y2 ∷ []) ++ space) (refused l) done
-          ∙ placed 2 x1 y1 second is-second (numberRows 4 (x2 ∷ y2 ∷ []) ++ space) (refused l) done
-          ∙ amiss 4 x2 y2 r e space (refused l) done
+          placed 0 x0 y0 first is-first (numberRows 2 (x1 ∷ y1 ∷ x2 ∷ y2 ∷ []) ++ space) (refuses Refused l) done
+          ∙ placed 2 x1 y1 second is-second (numberRows 4 (x2 ∷ y2 ∷ []) ++ space) (refuses Refused l) done
+          ∙ amiss 4 x2 y2 r e space (refuses Refused l) done
 
       drawn : (third : Control) → judgeControl 4 x2 y2 ≡ At third → goesOn s (Cubic x0 y0 x1 y1 x2 y2) l ≡ extends s (first ∷ second ∷ third ∷ []) (s .start) (s .closed) l
       unfolding added

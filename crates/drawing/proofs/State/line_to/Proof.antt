@@ -6,22 +6,24 @@ use Prim.Native.Nat.{_+_}
 use lib.Ieee.{Float}
 use lib.IntN.{ℤ}
 use lib.ListN.{length}
+use Rattle.whole.specs.Outcome.{refuses}
 use Rattle.shape.specs.declared.Refusal.{Refusal}
 use Rattle.drawing.specs.declared.Control.{Control}
 use Rattle.drawing.specs.declared.State.{State}
 use Rattle.drawing.specs.declared.Step.the-variants.{Line}
 use Rattle.drawing.specs.declared.Placed.the-variants.{At, Amiss}
+use Rattle.drawing.specs.declared.Stepped.the-variants.{Refused}
 use Rattle.drawing.specs.Drawing.{line, added}
-use Rattle.drawing.specs.Reading.{refused, spaceRows, accepted}
-use Rattle.drawing.specs.Parts.{judgeControl, extends, goesOn}
+use Rattle.drawing.specs.Reading.{spaceRows, accepts}
 use Rattle.drawing.proofs.Tables.{reached-most, fine-reached, placed-none, placed-is, amiss, numbers-good}
 use borrow.Author.Needs.{needs}
 use Rattle.drawing.proofs.State.line_to.Statement.{statement}
 use Rattle.drawing.proofs.State.line_to.Tie as tie
+use Rattle.drawing.specs.Parts.{judgeControl, extends, goesOn}
 
-wrong : (s : State) (x y : Float) (l : List ℤ) (r : Refusal) → judgeControl 0 x y ≡ Amiss r → goesOn s (Line x y) l ≡ refused l r
+wrong : (s : State) (x y : Float) (l : List ℤ) (r : Refusal) → judgeControl 0 x y ≡ Amiss r → goesOn s (Line x y) l ≡ refuses Refused l r
 unfolding goesOn
-wrong s x y l r e = amiss 0 x y r e (spaceRows (s .count) (s .count + length (added s (Line x y))) l) (refused l) (accepted s (Line x y) l)
+wrong s x y l r e = amiss 0 x y r e (spaceRows (s .count) (s .count + length (added s (Line x y))) l) (refuses Refused l) (accepts s (Line x y) l)
 
 drawn : (s : State) (x y : Float) (l : List ℤ) (end : Control) → judgeControl 0 x y ≡ At end → goesOn s (Line x y) l ≡ extends s (line (s .current) end) (s .start) (s .closed) l
 unfolding added

@@ -8,33 +8,34 @@ use lib.Ieee.{Float}
 use lib.IntN.{ℤ}
 use lib.ListN.{length}
 use lib.Seq.{sets}
+use Rattle.whole.specs.Outcome.{outcome, refuses}
 use Rattle.shape.specs.declared.Refusal.{Refusal}
 use Rattle.drawing.specs.declared.Control.{Control}
 use Rattle.drawing.specs.declared.State.{State}
 use Rattle.drawing.specs.declared.Step.the-variants.{Move}
-use Rattle.drawing.specs.declared.Checked.the-variants.{Fine}
+use Rattle.shape.specs.declared.Checked.the-variants.{Fine}
 use Rattle.drawing.specs.declared.Placed.the-variants.{At, Amiss}
-use Rattle.drawing.specs.declared.Stepped.the-variants.{Next}
+use Rattle.drawing.specs.declared.Stepped.the-variants.{Next, Refused}
 use Rattle.drawing.specs.Drawing.{at, added, flat}
-use Rattle.drawing.specs.Reading.{both, refused, spaceRows, accepted}
+use Rattle.drawing.specs.Reading.{spaceRows, accepts}
 use Rattle.drawing.specs.Parts.{judgeState, judgeControl, goesOn}
 use Rattle.drawing.proofs.Tables.{fine-open, fine-empty, placed-none, placed-is, amiss, numbers-good, too-short, roomy}
 use borrow.Author.Needs.{needs}
 use Rattle.drawing.proofs.State.move_to.Statement.{statement}
 use Rattle.drawing.proofs.State.move_to.Tie as tie
 
-wrong : (s : State) (x y : Float) (l : List ℤ) (r : Refusal) → judgeControl 0 x y ≡ Amiss r → goesOn s (Move x y) l ≡ refused l r
+wrong : (s : State) (x y : Float) (l : List ℤ) (r : Refusal) → judgeControl 0 x y ≡ Amiss r → goesOn s (Move x y) l ≡ refuses Refused l r
 unfolding goesOn
-wrong s x y l r e = amiss 0 x y r e (spaceRows (s .count) (s .count + length (added s (Move x y))) l) (refused l) (accepted s (Move x y) l)
+wrong s x y l r e = amiss 0 x y r e (spaceRows (s .count) (s .count + length (added s (Move x y))) l) (refuses Refused l) (accepts s (Move x y) l)
 
 module _ (s : State) (x y : Float) (l : List ℤ) (fine : judgeState s true ≡ Fine) (first : Control) (is : judgeControl 0 x y ≡ At first) where
-  no-room : length l < 2 → goesOn s (Move x y) l ≡ refused l (record { number = 7; place = 0 })
+  no-room : length l < 2 → goesOn s (Move x y) l ≡ refuses Refused l (record { number = 7; place = 0 })
   unfolding added
   no-room h =
       let empty = fine-empty s fine in
       numbers-good s (Move x y) l (placed-none 0 x y first is) ∙ too-short s (at x y ∷ []) (at x y) (s .closed) l (omega arith) (omega arith)
 
-  written : 2 ≤ length l → (m : List ℤ) → m ≡ sets l 0 (flat (first ∷ [])) → goesOn s (Move x y) l ≡ both (Next (record { count = 1; start = first; current = first; closed = false })) m
+  written : 2 ≤ length l → (m : List ℤ) → m ≡ sets l 0 (flat (first ∷ [])) → goesOn s (Move x y) l ≡ outcome (Next (record { count = 1; start = first; current = first; closed = false })) m
   unfolding added
   written h m e =
       let empty = fine-empty s fine in
@@ -44,7 +45,7 @@ module _ (s : State) (x y : Float) (l : List ℤ) (fine : judgeState s true ≡ 
       let list = (λ k. sets l (from k) (flat (control k ∷ []))) ∙ sym e in
       numbers-good s (Move x y) l (placed-none 0 x y first is)
       ∙ roomy s (at x y ∷ []) (at x y) (s .closed) l (omega arith) (omega arith)
-      ∙ (λ k. both (Next (record { count = one k; start = control k; current = control k; closed = fine-open s true fine k })) (list k))
+      ∙ (λ k. outcome (Next (record { count = one k; start = control k; current = control k; closed = fine-open s true fine k })) (list k))
 
 control-of-requires : tie.Need-control-of-requires
 control-of-requires c κs = search needs

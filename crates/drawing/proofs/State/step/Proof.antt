@@ -1,14 +1,18 @@
 -- The state is checked first; where it is fit, the kind of step decides, and each kind does what is left of the call.
 use mathlib.Core.Path.{_≡_, sym, ap, _∙_}
+use mathlib.Core.List.{List}
+use lib.IntN.{ℤ}
+use Rattle.whole.specs.Outcome.{Outcome}
 use Rattle.drawing.specs.declared.Step.{Step}
-use Rattle.drawing.specs.declared.Checked.the-variants.{Fine}
+use Rattle.shape.specs.declared.Checked.the-variants.{Fine}
+use Rattle.drawing.specs.declared.Stepped.{Stepped}
 use Rattle.drawing.specs.Drawing.{opens}
-use Rattle.drawing.specs.Reading.{Outcome, stepped}
-use Rattle.drawing.specs.Parts.{judgeState, goesOn}
+use Rattle.drawing.specs.Reading.{stepped}
 use Rattle.drawing.proofs.Tables.{fit, unfit}
 use borrow.Author.Needs.{needs}
 use Rattle.drawing.proofs.State.step.Statement.{statement}
 use Rattle.drawing.proofs.State.step.Tie as tie
+use Rattle.drawing.specs.Parts.{judgeState, goesOn}
 
 -- where the check found the state fit, it is fit for the kind that the step is
 fit-for :
@@ -20,7 +24,7 @@ fit-for c kind e =
 -- what the kind's method ensures is what the call does
 went-on :
     (c : tie.After-enum-told) (kind : Step) → c .before .before .before .before .args .step ≡ kind
-    → (out : Outcome) → out ≡ goesOn (c .before .before .before .before .args .self) kind (c .before .before .before .before .args .controls .now)
+    → (out : Outcome Stepped (List ℤ)) → out ≡ goesOn (c .before .before .before .before .args .self) kind (c .before .before .before .before .args .controls .now)
     → out ≡ stepped (c .before .before .before .before .args .self) (c .before .before .before .before .args .step) (c .before .before .before .before .args .controls .now)
 went-on c kind e out g =
     let t = c .before .before .before .before .args in

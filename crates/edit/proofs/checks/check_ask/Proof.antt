@@ -2,7 +2,7 @@
 use mathlib.Core.Path.{refl, sym, ap, _∙_}
 use mathlib.Core.Bool.{not}
 use mathlib.Core.Logic.{inl, inr}
-use Rattle.shape.specs.declared.Listed.the-variants.{Fine, Bad}
+use Rattle.shape.specs.declared.Checked.the-variants.{Fine, Bad}
 use Rattle.shape.proofs.Refusals.{judge-first, judge-none}
 use Rattle.edit.specs.Reading.{askRows, judgeAsk}
 use borrow.Author.Needs.{needs}
