@@ -11,7 +11,6 @@ use lib.Dec.{ltb, eqb}
 use lib.IntN.{ℤ, pos, natAbs}
 use lib.ListN.{getD, length}
 use Rattle.curve.specs.declared.Basis.{Basis}
-use Rattle.curve.specs.declared.Basis.the-variants.{Bezier, BSpline, Cardinal, Hermite}
 use Rattle.curve.specs.Limits.{beyond, limit}
 use Rattle.curve.specs.Span.{coordinate}
 use Rattle.shape.specs.declared.Shape.{Shape}
@@ -20,9 +19,9 @@ use Rattle.shape.specs.declared.Refusal.{Refusal}
 use Rattle.shape.specs.declared.Judged.the-variants.{Sound, Unsound}
 use Rattle.shape.specs.declared.Listed.the-variants.{Fine, Bad}
 use Rattle.shape.specs.Good.{Good, Lent}
-use Rattle.shape.specs.Shape.{spansOf, recordsOf, mostRecords}
+use Rattle.shape.specs.Shape.{spansOf, recordsOf, leastRecords, mostRecords}
 use Rattle.shape.specs.Refusals.{NoRow, judgeShape, planOf, controlRows, pointRows}
-use Rattle.shape.proofs.Tests.{passes, true-is-not-false, or-false, either}
+use Rattle.shape.proofs.Tests.{passes, or-false, either}
 use Rattle.shape.proofs.Refusals.{judge-first, judge-none, sound, unsound, sound-plan, rows-first, rows-none, rows-bad, rows-fine, none-later, row-fails, lent-facts}
 use Rattle.shape.proofs.Spans.{spans-records, spans-below}
 use Rattle.spans.specs.Numbers.{perSpan, filled}
@@ -33,46 +32,26 @@ use Rattle.asked.specs.declared.Edit.{Edit}
 use Rattle.asked.specs.declared.Edit.the-variants.{Move, Insert, Remove}
 use Rattle.asked.specs.Edits.{countAfter, spansAfter, offered, inRange, atTheEnd, newOutside, choose, controlAt, asked, pastFresh}
 use Rattle.asked.specs.Ready.{Askable}
+use Rattle.asked.proofs.Splines.{spline-records}
 use Rattle.edit.specs.Carried.{Carriable}
 use Rattle.edit.specs.Reading.{shapeAfter, planAfter, askRows, judgeAsk, newRows, roomRows, judgeRoom, editRows, refuses, accepts, editsPlan, editsRoom, edits}
 use Rattle.edit.specs.Ready.{Editable, Workable}
 
 -- ---- the new shape
 
--- insert and remove are of the splines, whose records are three more than their spans
-spans-then : (e : Edit) (b : Basis) (m : ℕ) → offered e b ≡ true → 1 ≤ m → spansOf b (countAfter e (recordsOf b m)) ≡ spansAfter e m
-unfolding spansOf recordsOf
-spans-then (Move x y) b m o h = spans-records b m
-spans-then (Insert x y) Bezier m o h = absurd (true-is-not-false o refl)
-spans-then (Insert x y) BSpline m o h = omega arith
-spans-then (Insert x y) Cardinal m o h = omega arith
-spans-then (Insert x y) Hermite m o h = absurd (true-is-not-false o refl)
-spans-then Remove Bezier m o h = absurd (true-is-not-false o refl)
-spans-then Remove BSpline m o h = omega arith
-spans-then Remove Cardinal m o h = omega arith
-spans-then Remove Hermite m o h = absurd (true-is-not-false o refl)
-
 pub records-then : (e : Edit) (b : Basis) (m : ℕ) → offered e b ≡ true → 1 ≤ m → recordsOf b (spansAfter e m) ≡ countAfter e (recordsOf b m)
-unfolding recordsOf
 records-then (Move x y) b m o h = refl
-records-then (Insert x y) Bezier m o h = absurd (true-is-not-false o refl)
-records-then (Insert x y) BSpline m o h = omega arith
-records-then (Insert x y) Cardinal m o h = omega arith
-records-then (Insert x y) Hermite m o h = absurd (true-is-not-false o refl)
-records-then Remove Bezier m o h = absurd (true-is-not-false o refl)
-records-then Remove BSpline m o h = omega arith
-records-then Remove Cardinal m o h = omega arith
-records-then Remove Hermite m o h = absurd (true-is-not-false o refl)
+records-then (Insert x y) b m o h = omega (arith, spline-records b o m, spline-records b o (m + 1))
+records-then Remove b m o h = omega (arith, spline-records b o m, spline-records b o (m - 1))
+
+spans-then : (e : Edit) (b : Basis) (m : ℕ) → offered e b ≡ true → 1 ≤ m → spansOf b (countAfter e (recordsOf b m)) ≡ spansAfter e m
+spans-then e b m o h = ap (spansOf b) (sym (records-then e b m o h)) ∙ spans-records b (spansAfter e m)
 
 -- more than four records are more than one span
 spans-left : (e : Edit) (b : Basis) (m : ℕ) → offered e b ≡ true → 1 ≤ m → atTheEnd e (recordsOf b m) ≡ false → 1 ≤ spansAfter e m
-unfolding recordsOf
 spans-left (Move x y) b m o h t = h
 spans-left (Insert x y) b m o h t = omega arith
-spans-left Remove Bezier m o h t = absurd (true-is-not-false o refl)
-spans-left Remove BSpline m o h t = omega (arith, leb-false (m + 3) 4 t)
-spans-left Remove Cardinal m o h t = omega (arith, leb-false (m + 3) 4 t)
-spans-left Remove Hermite m o h t = absurd (true-is-not-false o refl)
+spans-left Remove b m o h t = omega (arith, spline-records b o m, leb-false (recordsOf b m) leastRecords t)
 
 count-most : (e : Edit) (n : ℕ) → n ≤ mostRecords → atTheEnd e n ≡ false → countAfter e n ≤ mostRecords
 count-most (Move x y) n h t = h

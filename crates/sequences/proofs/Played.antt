@@ -9,7 +9,7 @@ use lib.ListN.{getD}
 use Rattle.shape.specs.declared.Shape.{Shape}
 use Rattle.shape.specs.declared.Refusal.{Refusal}
 use Rattle.shape.specs.Refusals.{First, NoRow, planOf}
-use Rattle.shape.proofs.Refusals.{row-fails, verdict}
+use Rattle.shape.proofs.Refusals.{verdict}
 use Rattle.spans.proofs.Filled.{length-filled, in-filled}
 use Rattle.outline.specs.declared.Drawn.the-variants.{Points}
 use Rattle.outline.specs.Outline as outline
