@@ -78,14 +78,6 @@ pointsAfter e s q j controls lent = filled (pointAt e (q .basis) (q .depth) j (q
 abbrev pub accepts : Edit → Shape → Plan → ℕ → List ℤ → List ℤ → Outcome
 accepts e s q j controls lent = outcome (Done (change e s (q .basis) j (q .spans))) (controlsAfter e s j controls) (pointsAfter e s q j controls lent)
 
-unfoldable pub editsPlan : Edit → Shape → Plan → Plan → ℕ → List ℤ → List ℤ → Outcome
-editsPlan e s p q j controls lent = judge (editRows e s p q j controls lent) (refuses controls lent) (accepts e s q j controls lent)
-
--- The same from row 7 on.
-unfoldable pub editsRoom : Edit → Shape → Plan → Plan → ℕ → List ℤ → List ℤ → Outcome
-editsRoom e s p q j controls lent =
-    judge (roomRows e (s .count) controls (max (points p) (points q)) (length lent)) (refuses controls lent) (accepts e s q j controls lent)
-
 unfoldable pub edits : Edit → Shape → ℕ → List ℤ → List ℤ → Outcome
 edits e s j controls lent =
     let p = planOf s in
