@@ -19,7 +19,8 @@ add-result : tie.Need-add-result
 unfolding firstRecord
 add-result c =
     let s = c .before .before in
-    omega (arith, c .before .first-record .ensures, c .shared-of .ensures, mul-le-mul {n₁ = stride (s .args .basis)} {m₁ = s .args .spans} {n₂ = 3} {m₂ = mostRecords} (stride-bounds (s .args .basis) .1) (s .pre))
+    let few = mul-le-mul {n₁ = stride (s .args .basis)} {m₁ = s .args .spans} {n₂ = 3} {m₂ = mostRecords} (stride-bounds (s .args .basis) .1) (s .pre) in
+    omega (arith, c .before .first-record .ensures, c .shared-of .ensures, few)
 
 returns : tie.Need-returns
 unfolding recordsOf firstRecord

@@ -1,10 +1,11 @@
 -- In each arm the case is that arm's, and the definition has the arm's answer there.
-use mathlib.Core.Path.{sym, ap, _∙_}
+use mathlib.Core.Path.{_≡_, sym, ap, _∙_}
 use Prim.Native.Nat.{ℕ, _+_, _/_, min}
 use native.Mathlib.Nat.{div-le-self}
 use native.Mathlib.Omega.{arith}
 use borrow.Author.Needs.{needs}
 use Rattle.curve.proofs.Stride.{stride-bounds}
+use Rattle.asked.specs.declared.Edit.{Edit}
 use Rattle.asked.specs.Edits.{pastFresh}
 use Rattle.asked.proofs.counts.past_fresh.Statement.{statement}
 use Rattle.asked.proofs.counts.past_fresh.Tie as tie
@@ -39,14 +40,21 @@ enum-told-3 c = search needs
 least-requires-3 : tie.Need-least-requires-3
 least-requires-3 c κs = search needs
 
+-- the definition at an arm's edit
+told : (s : tie.Start) (e : Edit) → s .args .edit ≡ e → pastFresh e (s .args .basis) (s .args .place) (s .args .spans) ≡ pastFresh (s .args .edit) (s .args .basis) (s .args .place) (s .args .spans)
+told s e is = ap (λ d. pastFresh d (s .args .basis) (s .args .place) (s .args .spans)) (sym is)
+
 returns : tie.Need-returns
-returns c = c .least .ensures ∙ ap (λ (d : ℕ). min (c .before .before .before .before .args .place / d + 1) (c .before .before .before .before .args .spans)) (c .before .stride-of .ensures) ∙ sym (ap (λ e. pastFresh e (c .before .before .before .before .args .basis) (c .before .before .before .before .args .place) (c .before .before .before .before .args .spans)) (c .before .before .enum-told .given .1))
+returns c =
+    let t = c .before .before in
+    let s = t .before .before in
+    c .least .ensures ∙ ap (λ (d : ℕ). min (s .args .place / d + 1) (s .args .spans)) (c .before .stride-of .ensures) ∙ told s _ (t .enum-told .given .1)
 
 returns-2 : tie.Need-returns-2
-returns-2 c = c .least2 .ensures ∙ sym (ap (λ e. pastFresh e (c .before .before .before .args .basis) (c .before .before .before .args .place) (c .before .before .before .args .spans)) (c .before .enum-told2 .given .1))
+returns-2 c = let t = c .before in c .least2 .ensures ∙ told (t .before .before) _ (t .enum-told2 .given .1)
 
 returns-3 : tie.Need-returns-3
-returns-3 c = c .least3 .ensures ∙ sym (ap (λ e. pastFresh e (c .before .before .before .args .basis) (c .before .before .before .args .place) (c .before .before .before .args .spans)) (c .before .enum-told3 .given .1))
+returns-3 c = let t = c .before in c .least3 .ensures ∙ told (t .before .before) _ (t .enum-told3 .given .1)
 
 pub past-fresh-spec : {M : Type 1} → statement M
 past-fresh-spec =
