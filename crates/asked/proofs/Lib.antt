@@ -1,3 +1,4 @@
 pub mod Controls
 pub mod InPlace
 pub mod Run
+pub mod Splines

@@ -4,12 +4,14 @@ use mathlib.Core.Path.{_≡_, refl, ap}
 use mathlib.Core.Bool.{Bool, true, false, cond, _&&_}
 use mathlib.Core.Logic.{⊎-elim, _↔_}
 use Prim.Native.Nat.{ℕ, _+_, _*_, _-_, _≤_, _<_}
-use native.Mathlib.Nat.{min-le-right}
+use native.Mathlib.Nat.{div-le-self, div-mul-le-self, le-div-iff-mul-le, min-le-right}
 use native.Mathlib.Omega.{arith}
 use borrow.Author.Tests.{ltb-true, leb-true, lt-ltb, le-ltb, le-leb}
 use lib.Dec.{leb, ltb}
 use Rattle.curve.specs.declared.Basis.{Basis}
-use Rattle.curve.specs.declared.Basis.the-variants.{Bezier, BSpline, Cardinal, Hermite}
+use Rattle.curve.specs.Span.{stride}
+use Rattle.shape.specs.Shape.{shared, spansOf}
+use Rattle.curve.proofs.Stride.{stride-bounds}
 use Rattle.shape.proofs.Tests.{either, and-true}
 use Rattle.spans.specs.Numbers.{perSpan}
 use Rattle.asked.specs.declared.Edit.{Edit}
@@ -52,10 +54,11 @@ past-most Remove b j m = min-le-right j m
 
 -- the first span that uses a record is not past the last, nor past the record
 first-below : (b : Basis) (j : ℕ) → (firstUsing b j ≤ lastUsing b j) × (lastUsing b j ≤ j)
-first-below Bezier j = (omega arith, omega arith)
-first-below BSpline j = (omega arith, omega arith)
-first-below Cardinal j = (omega arith, omega arith)
-first-below Hermite j = (omega arith, omega arith)
+unfolding spansOf
+first-below b j = (
+  le-div-iff-mul-le {k = stride b} {x = spansOf b j} {y = j} (stride-bounds b .0) .1 (omega (arith, div-mul-le-self (j - shared b) (stride b))),
+  div-le-self j (stride b),
+)
 
 -- its first span is not past the place
 pub first-place : (e : Edit) (b : Basis) (j : ℕ) → firstFresh e b j ≤ j

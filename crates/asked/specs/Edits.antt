@@ -6,9 +6,9 @@ use lib.Dec.{leb, ltb, eqb}
 use lib.IntN.{ℤ, pos}
 use lib.ListN.{getD}
 use Rattle.curve.specs.declared.Basis.{Basis}
-use Rattle.curve.specs.declared.Basis.the-variants.{Bezier, BSpline, Cardinal, Hermite}
 use Rattle.curve.specs.Limits.{beyond, limit}
-use Rattle.shape.specs.Shape.{mostRecords}
+use Rattle.curve.specs.Span.{stride}
+use Rattle.shape.specs.Shape.{spansOf, leastRecords, mostRecords}
 use Rattle.spans.specs.Numbers.{number, perSpan, filled}
 use Rattle.asked.specs.declared.Edit.{Edit}
 use Rattle.asked.specs.declared.Edit.the-variants.{Move, Insert, Remove}
@@ -27,12 +27,9 @@ spansAfter (Move x y) m = m
 spansAfter (Insert x y) m = m + 1
 spansAfter Remove m = m - 1
 
--- Insert and remove exist for bases 2 and 3, the splines.
+-- Insert and remove exist where each span begins a record after the one before: for bases 2 and 3, the splines.
 abbrev pub isSpline : Basis → Bool
-isSpline Bezier = false
-isSpline BSpline = true
-isSpline Cardinal = true
-isSpline Hermite = false
+isSpline b = eqb (stride b) 1
 
 abbrev pub offered : Edit → Basis → Bool
 offered (Move x y) b = true
@@ -46,9 +43,6 @@ inRange (Insert x y) j n = leb j n
 inRange Remove j n = ltb j n
 
 -- Insert at n = 64 and remove at n = 4 go past what a count may be.
-abbrev pub leastRecords : ℕ
-leastRecords = 4
-
 abbrev pub atTheEnd : Edit → ℕ → Bool
 atTheEnd (Move x y) n = false
 atTheEnd (Insert x y) n = leb mostRecords n
@@ -82,18 +76,12 @@ pub record Run : Type 0 where
   pub first : ℕ
   pub count : ℕ
 
--- The first and the last span that uses record j: span s uses records 3s, s, s, 2s and the three after it.
+-- The first and the last span that uses record j: the spans before have all their records among the first j, and those after begin past it.
 abbrev pub firstUsing : Basis → ℕ → ℕ
-firstUsing Bezier j = (j - 1) / 3
-firstUsing BSpline j = j - 3
-firstUsing Cardinal j = j - 3
-firstUsing Hermite j = (j - 2) / 2
+firstUsing b j = spansOf b j
 
 abbrev pub lastUsing : Basis → ℕ → ℕ
-lastUsing Bezier j = j / 3
-lastUsing BSpline j = j
-lastUsing Cardinal j = j
-lastUsing Hermite j = j / 2
+lastUsing b j = j / stride b
 
 -- Move: every span that uses record j. Insert: spans j-3 to j. Remove: spans j-3 to j-1. The first of them, and the one past the last, clipped to the m spans of the new
 -- shape.

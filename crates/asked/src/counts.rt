@@ -1,15 +1,20 @@
 // What an edit may do, and which spans it works afresh.
 ghost use mathlib.Core.Path.{_≡_};
 ghost use Prim.Native.Nat.{_-_, _≤_, _<_, max, min};
-ghost use Rattle.asked.specs.Edits.{atTheEnd, countAfter, firstFresh, firstUsing, inRange, lastUsing, newOutside, offered, pastFresh, spansAfter};
+ghost use Rattle.shape.specs.Shape.{mostRecords};
+ghost use Rattle.asked.specs.Edits.{atTheEnd, countAfter, firstFresh, inRange, newOutside, offered, pastFresh, spansAfter};
 use crate::Edit;
 use curve::Basis;
 use curve::LIMIT;
 use curve::bounds::is_beyond;
+use curve::records::stride_of;
+use shape::LEAST_RECORDS;
+use shape::MOST_RECORDS;
+use shape::spans_of;
 
 // The control count after an edit.
 pub fn count_after(edit: Edit, count: usize) -> usize
-    requires { ⌜ (0 < count) × (count ≤ 64) ⌝ }
+    requires { ⌜ (0 < count) × (count ≤ mostRecords) ⌝ }
     ensures { λ r. ⌜ r ≡ countAfter edit count ⌝ }
 {
     match edit {
@@ -21,7 +26,7 @@ pub fn count_after(edit: Edit, count: usize) -> usize
 
 // The spans after an edit.
 pub fn spans_after(edit: Edit, spans: usize) -> usize
-    requires { ⌜ (0 < spans) × (spans ≤ 64) ⌝ }
+    requires { ⌜ (0 < spans) × (spans ≤ mostRecords) ⌝ }
     ensures { λ r. ⌜ r ≡ spansAfter edit spans ⌝ }
 {
     match edit {
@@ -31,25 +36,14 @@ pub fn spans_after(edit: Edit, spans: usize) -> usize
     }
 }
 
-// Insert and remove exist for bases 2 and 3: the splines.
-fn is_spline(basis: Basis) -> bool
-    ensures { λ r. ⌜ r ≡ offered Edit.Remove basis ⌝ }
-{
-    match basis {
-        Basis::Bezier => false,
-        Basis::BSpline => true,
-        Basis::Cardinal => true,
-        Basis::Hermite => false,
-    }
-}
-
+// Insert and remove exist for bases 2 and 3: the splines, whose spans begin a record apart.
 pub fn is_offered(edit: Edit, basis: Basis) -> bool
     ensures { λ r. ⌜ r ≡ offered edit basis ⌝ }
 {
     match edit {
         Edit::Move(_, _) => true,
-        Edit::Insert(_, _) => is_spline(basis),
-        Edit::Remove => is_spline(basis),
+        Edit::Insert(_, _) => stride_of(basis) == 1,
+        Edit::Remove => stride_of(basis) == 1,
     }
 }
 
@@ -68,8 +62,8 @@ pub fn is_at_the_end(edit: Edit, count: usize) -> bool
 {
     match edit {
         Edit::Move(_, _) => false,
-        Edit::Insert(_, _) => 64 <= count,
-        Edit::Remove => count <= 4,
+        Edit::Insert(_, _) => MOST_RECORDS <= count,
+        Edit::Remove => count <= LEAST_RECORDS,
     }
 }
 
@@ -123,34 +117,13 @@ fn least(a: usize, b: usize) -> usize
     b
 }
 
-fn first_using(basis: Basis, place: usize) -> usize
-    ensures { λ r. ⌜ r ≡ firstUsing basis place ⌝ }
-{
-    match basis {
-        Basis::Bezier => less(place, 1) / 3,
-        Basis::BSpline => less(place, 3),
-        Basis::Cardinal => less(place, 3),
-        Basis::Hermite => less(place, 2) / 2,
-    }
-}
-
-fn last_using(basis: Basis, place: usize) -> usize
-    ensures { λ r. ⌜ r ≡ lastUsing basis place ⌝ }
-{
-    match basis {
-        Basis::Bezier => place / 3,
-        Basis::BSpline => place,
-        Basis::Cardinal => place,
-        Basis::Hermite => place / 2,
-    }
-}
-
 // The first span worked afresh.
 pub fn first_fresh(edit: Edit, basis: Basis, place: usize) -> usize
+    requires { ⌜ place ≤ mostRecords ⌝ }
     ensures { λ r. ⌜ r ≡ firstFresh edit basis place ⌝ }
 {
     match edit {
-        Edit::Move(_, _) => first_using(basis, place),
+        Edit::Move(_, _) => spans_of(basis, place),
         Edit::Insert(_, _) => less(place, 3),
         Edit::Remove => less(place, 3),
     }
@@ -158,11 +131,11 @@ pub fn first_fresh(edit: Edit, basis: Basis, place: usize) -> usize
 
 // One past the last span worked afresh, of `spans` in the new shape.
 pub fn past_fresh(edit: Edit, basis: Basis, place: usize, spans: usize) -> usize
-    requires { ⌜ place ≤ 64 ⌝ }
+    requires { ⌜ place ≤ mostRecords ⌝ }
     ensures { λ r. ⌜ r ≡ pastFresh edit basis place spans ⌝ }
 {
     match edit {
-        Edit::Move(_, _) => least(last_using(basis, place) + 1, spans),
+        Edit::Move(_, _) => least(place / stride_of(basis) + 1, spans),
         Edit::Insert(_, _) => least(place + 1, spans),
         Edit::Remove => least(place, spans),
     }

@@ -3,6 +3,7 @@ pub mod Fills
 pub mod Reflect
 pub mod Published
 pub mod BSpline
+pub mod Stride
 pub mod Span
 pub mod Powers
 pub mod Ways

@@ -1,5 +1,5 @@
 -- The sixfold Bezier controls of document 01 draw the published curves, and a span ends where the next one starts. Each is an identity of polynomials.
-use mathlib.Core.Path.{_≡_, sym, ap, _∙_}
+use mathlib.Core.Path.{_≡_, refl, sym, ap, _∙_}
 use mathlib.Core.List.{[], _∷_}
 use Prim.Native.Nat.{ℕ, suc, _+_, _*_, _^_, _<_}
 use native.Mathlib.Nat.{mul-left-comm, mul-pos}
@@ -15,7 +15,8 @@ use Rattle.curve.specs.declared.Basis.{Basis}
 use Rattle.curve.specs.declared.Basis.the-variants.{Bezier, BSpline, Cardinal, Hermite}
 use Rattle.curve.specs.Numbers.{dot}
 use Rattle.curve.specs.Published.{published, denominator, cubic, weights, bezierMatrix, hermiteMatrix, cardinalMatrix, bSplineMatrix}
-use Rattle.curve.specs.Span.{sixfold, firstRecord, recordsFrom, records, sixfoldControls, weighted, divisor, point}
+use Rattle.curve.specs.Span.{stride, sixfold, firstRecord, recordsFrom, records, sixfoldControls, weighted, divisor, point}
+use Rattle.curve.proofs.Stride.{next-first}
 use Rattle.curve.proofs.Reflect.{fourᵉ, num, p, i, h, values, cubicᵉ, weightedᵉ, sixfoldᵉ}
 
 -- For every basis, i and h: the weighted sum of the sixfold controls over 6·h^3 is the published value, a numerator over `denominator`·h^3.
@@ -59,17 +60,19 @@ pub weighted-end : (q : Four) (y : ℤ) → weighted q y y ≡ y *ℤ y *ℤ y *
 unfolding weighted weights dot
 weighted-end q y = solve (values q (pos 0) y) (weightedᵉ p h h) (h ⊗ h ⊗ h ⊗ p .d) tt
 
--- the last sixfold control of a span is the first of the next one
+-- the last sixfold control of a span is the first of the next one, a stride on
+a-stride-on : (b : Basis) (r : ℕ) (at : ℕ → ℤ) → sixfoldControls b (recordsFrom r at) .d ≡ sixfoldControls b (recordsFrom (r + stride b) at) .a
+unfolding sixfoldControls recordsFrom
+a-stride-on Bezier r at = refl
+a-stride-on BSpline r at =
+    let e : r + 1 + 1 ≡ r + 2 = omega arith in
+    let f : r + 1 + 2 ≡ r + 3 = omega arith in
+    rw (e, f)
+a-stride-on Cardinal r at = ap (λ n. pos 6 *ℤ at n) (omega arith)
+a-stride-on Hermite r at = refl
+
 controls-meet : (b : Basis) (s : ℕ) (at : ℕ → ℤ) → sixfoldControls b (records b s at) .d ≡ sixfoldControls b (records b (suc s) at) .a
-unfolding sixfoldControls recordsFrom firstRecord
-controls-meet Bezier s at = ap (λ r. pos 6 *ℤ at r) (omega arith)
-controls-meet BSpline s at =
-    let e : s + 1 ≡ suc s = omega arith in
-    let f : s + 2 ≡ suc s + 1 = omega arith in
-    let g : s + 3 ≡ suc s + 2 = omega arith in
-    rw (e, f, g)
-controls-meet Cardinal s at = ap (λ r. pos 6 *ℤ at r) (omega arith)
-controls-meet Hermite s at = ap (λ r. pos 6 *ℤ at r) (omega arith)
+controls-meet b s at = a-stride-on b (firstRecord b s) at ∙ ap (λ r. sixfoldControls b (recordsFrom r at) .a) (sym (next-first b s))
 
 -- For each basis a span's end, at t = 1, is the next span's start, at t = 0.
 pub joint : (b : Basis) (k s : ℕ) (at : ℕ → ℤ) → point b k (records b s at) (2 ^ k) ≡ point b k (records b (suc s) at) 0

@@ -10,12 +10,16 @@ use Rattle.curve.specs.declared.Basis.the-variants.{Bezier, BSpline, Car
 use Rattle.curve.specs.Numbers.{four, dot}
 use Rattle.curve.specs.Published.{weights}
 
--- The first of the four records that span s uses (document 01, the table of bases).
+-- The one number of a basis that counts and places follow from (document 01, the table of bases): how many records after a span's first the next span's first is.
+abbrev pub stride : Basis → ℕ
+stride Bezier = 3
+stride BSpline = 1
+stride Cardinal = 1
+stride Hermite = 2
+
+-- The first of the four records that span s uses.
 unfoldable pub firstRecord : Basis → ℕ → ℕ
-firstRecord Bezier s = 3 * s
-firstRecord BSpline s = s
-firstRecord Cardinal s = s
-firstRecord Hermite s = 2 * s
+firstRecord b s = stride b * s
 
 -- The coordinate of record r on an axis (0 is x, 1 is y) in a list of controls, x then y.
 unfoldable pub coordinate : List ℤ → ℕ → ℕ → ℤ

@@ -1,23 +1,30 @@
 // Which records a span uses, and six times its Bezier controls.
 ghost use mathlib.Core.Path.{_≡_};
-ghost use Prim.Native.Nat.{_+_, _*_, _<_};
+ghost use Prim.Native.Nat.{_+_, _*_, _^_, _<_};
 ghost use lib.ListN.{length};
 ghost use Rattle.curve.specs.Limits.{Inside, limit};
-ghost use Rattle.curve.specs.Span.{firstRecord, recordsFrom, coordinate, sixfoldControls};
+ghost use Rattle.curve.specs.Span.{stride, firstRecord, recordsFrom, coordinate, sixfoldControls};
 use crate::Basis;
 use crate::Four;
 
-// The first of the four records that a span uses.
-pub fn first_record(basis: Basis, span: usize) -> usize
-    requires { ⌜ span < 64 ⌝ }
-    ensures { λ r. ⌜ r ≡ firstRecord basis span ⌝ }
+// How many records after a span's first the next span's first is: the one number of a basis that counts and places follow from.
+pub fn stride_of(basis: Basis) -> usize
+    ensures { λ r. ⌜ r ≡ stride basis ⌝ }
 {
     match basis {
-        Basis::Bezier => 3 * span,
-        Basis::BSpline => span,
-        Basis::Cardinal => span,
-        Basis::Hermite => 2 * span,
+        Basis::Bezier => 3,
+        Basis::BSpline => 1,
+        Basis::Cardinal => 1,
+        Basis::Hermite => 2,
     }
+}
+
+// The first of the four records that a span uses.
+pub fn first_record(basis: Basis, span: usize) -> usize
+    requires { ⌜ span < 2 ^ 62 ⌝ }
+    ensures { λ r. ⌜ r ≡ firstRecord basis span ⌝ }
+{
+    stride_of(basis) * span
 }
 
 // The four records from `first` on, on an axis: 0 is x, 1 is y.

@@ -35,7 +35,7 @@ module _ (e : Edit) (s : Shape) (j : ℕ) (controls lent : List ℤ) (none : NoR
   pub may-edit : Editable e s p j
   unfolding judgeAsk
   may-edit =
-      editable e s p j controls lent (good-plan s (none-earlier (shapeRows s) (editRows e s p q j controls lent) none))
+      editable e s p j (good-plan s (none-earlier (shapeRows s) (editRows e s p q j controls lent) none))
       (judge-none askedOf Bad Fine (none-earlier askedOf (roomOf q) none-later-on))
 
   pub same-plan : q ≡ planAfter e p

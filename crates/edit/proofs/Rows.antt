@@ -12,19 +12,19 @@ use lib.IntN.{ℤ, pos, natAbs}
 use lib.ListN.{getD, length}
 use Rattle.whole.specs.Outcome.{refuses}
 use Rattle.curve.specs.declared.Basis.{Basis}
-use Rattle.curve.specs.declared.Basis.the-variants.{Bezier, BSpline, Cardinal, Hermite}
 use Rattle.curve.specs.Limits.{beyond, limit}
 use Rattle.curve.specs.Span.{coordinate}
 use Rattle.shape.specs.declared.Shape.{Shape}
 use Rattle.shape.specs.declared.Plan.{Plan}
 use Rattle.shape.specs.declared.Refusal.{Refusal}
 use Rattle.shape.specs.declared.Judged.the-variants.{Sound, Unsound}
+use Rattle.shape.specs.declared.Checked.{Checked}
 use Rattle.shape.specs.declared.Checked.the-variants.{Fine, Bad}
 use Rattle.shape.specs.Good.{Good, Lent}
-use Rattle.shape.specs.Shape.{spansOf, recordsOf, mostRecords}
-use Rattle.shape.specs.Refusals.{NoRow, judgeShape, planOf, controlRows, pointRows}
-use Rattle.shape.proofs.Tests.{passes, true-is-not-false, or-false, either}
-use Rattle.shape.proofs.Refusals.{judge-first, judge-none, sound, unsound, sound-plan, rows-first, rows-none, rows-bad, rows-fine, none-later, row-fails, lent-facts}
+use Rattle.shape.specs.Shape.{spansOf, recordsOf, leastRecords, mostRecords}
+use Rattle.shape.specs.Refusals.{Row, NoRow, judge, judgeShape, planOf, controlRows, pointRows}
+use Rattle.shape.proofs.Tests.{passes, or-false, either}
+use Rattle.shape.proofs.Refusals.{judge-first, judge-none, sound, unsound, sound-plan, sound-facts, rows-first, rows-none, rows-bad, rows-fine, none-later, row-fails, lent-facts}
 use Rattle.shape.proofs.Spans.{spans-records, spans-below}
 use Rattle.spans.specs.Numbers.{perSpan, filled}
 use Rattle.spans.proofs.Filled.{length-filled, in-filled}
@@ -35,46 +35,26 @@ use Rattle.asked.specs.declared.Edit.the-variants.{Move, Insert, Remove}
 use Rattle.asked.specs.Edits.{countAfter, spansAfter, offered, inRange, atTheEnd, newOutside, choose, controlAt, asked, pastFresh}
 use Rattle.asked.specs.Ready.{Askable}
 use Rattle.edit.specs.declared.Edited.the-variants.{Refused}
+use Rattle.asked.proofs.Splines.{spline-records}
 use Rattle.edit.specs.Carried.{Carriable}
-use Rattle.edit.specs.Reading.{shapeAfter, planAfter, askRows, judgeAsk, newRows, roomRows, judgeRoom, editRows, accepts, editsPlan, editsRoom, edits}
-use Rattle.edit.specs.Ready.{Editable, Workable}
+use Rattle.edit.specs.Reading.{shapeAfter, planAfter, askRows, judgeAsk, newRows, roomRows, judgeRoom, editRows, accepts, edits}
+use Rattle.edit.specs.Ready.{Editable, Workable, Vetted}
 
 -- ---- the new shape
 
--- insert and remove are of the splines, whose records are three more than their spans
-spans-then : (e : Edit) (b : Basis) (m : ℕ) → offered e b ≡ true → 1 ≤ m → spansOf b (countAfter e (recordsOf b m)) ≡ spansAfter e m
-unfolding spansOf recordsOf
-spans-then (Move x y) b m o h = spans-records b m
-spans-then (Insert x y) Bezier m o h = absurd (true-is-not-false o refl)
-spans-then (Insert x y) BSpline m o h = omega arith
-spans-then (Insert x y) Cardinal m o h = omega arith
-spans-then (Insert x y) Hermite m o h = absurd (true-is-not-false o refl)
-spans-then Remove Bezier m o h = absurd (true-is-not-false o refl)
-spans-then Remove BSpline m o h = omega arith
-spans-then Remove Cardinal m o h = omega arith
-spans-then Remove Hermite m o h = absurd (true-is-not-false o refl)
-
 pub records-then : (e : Edit) (b : Basis) (m : ℕ) → offered e b ≡ true → 1 ≤ m → recordsOf b (spansAfter e m) ≡ countAfter e (recordsOf b m)
-unfolding recordsOf
 records-then (Move x y) b m o h = refl
-records-then (Insert x y) Bezier m o h = absurd (true-is-not-false o refl)
-records-then (Insert x y) BSpline m o h = omega arith
-records-then (Insert x y) Cardinal m o h = omega arith
-records-then (Insert x y) Hermite m o h = absurd (true-is-not-false o refl)
-records-then Remove Bezier m o h = absurd (true-is-not-false o refl)
-records-then Remove BSpline m o h = omega arith
-records-then Remove Cardinal m o h = omega arith
-records-then Remove Hermite m o h = absurd (true-is-not-false o refl)
+records-then (Insert x y) b m o h = omega (arith, spline-records b o m, spline-records b o (m + 1))
+records-then Remove b m o h = omega (arith, spline-records b o m, spline-records b o (m - 1))
+
+spans-then : (e : Edit) (b : Basis) (m : ℕ) → offered e b ≡ true → 1 ≤ m → spansOf b (countAfter e (recordsOf b m)) ≡ spansAfter e m
+spans-then e b m o h = ap (spansOf b) (sym (records-then e b m o h)) ∙ spans-records b (spansAfter e m)
 
 -- more than four records are more than one span
 spans-left : (e : Edit) (b : Basis) (m : ℕ) → offered e b ≡ true → 1 ≤ m → atTheEnd e (recordsOf b m) ≡ false → 1 ≤ spansAfter e m
-unfolding recordsOf
 spans-left (Move x y) b m o h t = h
 spans-left (Insert x y) b m o h t = omega arith
-spans-left Remove Bezier m o h t = absurd (true-is-not-false o refl)
-spans-left Remove BSpline m o h t = omega (arith, leb-false (m + 3) 4 t)
-spans-left Remove Cardinal m o h t = omega (arith, leb-false (m + 3) 4 t)
-spans-left Remove Hermite m o h t = absurd (true-is-not-false o refl)
+spans-left Remove b m o h t = omega (arith, spline-records b o m, leb-false (recordsOf b m) leastRecords t)
 
 count-most : (e : Edit) (n : ℕ) → n ≤ mostRecords → atTheEnd e n ≡ false → countAfter e n ≤ mostRecords
 count-most (Move x y) n h t = h
@@ -256,54 +236,69 @@ module _ (e : Edit) (s : Shape) (p : Plan) (j : ℕ) (ok : Editable e s p j) (co
         carriable = carriable-by e (p .basis) j (p .spans) (perSpan (p .depth)) len (ok .good .spans-least) (good-after e s p j ok .spans-least) old-fits new-fits;
       }
 
--- ---- the reading, row by row
+-- ---- the rows of a call, check by check
 
--- rows 1, 2, 3
-pub edits-unsound : (e : Edit) (s : Shape) (r : Refusal) → judgeShape s ≡ Unsound r → (j : ℕ) (controls lent : List ℤ) → edits e s j controls lent ≡ refuses Refused (controls, lent) r
-unfolding edits
-edits-unsound e s r t j controls lent =
-    let q = planOf (shapeAfter e s) in unsound s r t (editRows e s (planOf s) q j controls lent) (refuses Refused (controls, lent)) (accepts e s q j controls lent)
+pub editable : (e : Edit) (s : Shape) (p : Plan) (j : ℕ) → Good s p → judgeAsk e (p .basis) j (s .count) ≡ Fine → Editable e s p j
+unfolding judgeAsk
+editable e s p j good t =
+    let rows = askRows e (p .basis) j (s .count) in
+    let none = rows-none rows t in
+    record {
+      good = good;
+      offered = not-false (offered e (p .basis)) (row-fails 4 rows none);
+      inRange = not-false (inRange e j (s .count)) (row-fails 5 rows none);
+      notAtTheEnd = row-fails 6 rows none;
+    }
 
-pub edits-sound : (e : Edit) (s : Shape) (p : Plan) → judgeShape s ≡ Sound p → (j : ℕ) (controls lent : List ℤ) → edits e s j controls lent ≡ editsPlan e s p (planOf (shapeAfter e s)) j controls lent
-unfolding edits editsPlan
-edits-sound e s p t j controls lent =
-    let q = planOf (shapeAfter e s) in
-    sound s p t (editRows e s (planOf s) q j controls lent) (refuses Refused (controls, lent)) (accepts e s q j controls lent)
-    ∙ ap (λ r. editsPlan e s r q j controls lent) (sym (sound-plan s p t))
+module _ (e : Edit) (s : Shape) (j : ℕ) (controls lent : List ℤ) where
+  abbrev next : Plan
+  next = planOf (shapeAfter e s)
 
-module _ (e : Edit) (s : Shape) (p : Plan) (j : ℕ) (controls lent : List ℤ) where
-  -- rows 4, 5, 6
-  pub plan-bad : (q : Plan) (r : Refusal) → judgeAsk e (p .basis) j (s .count) ≡ Bad r → editsPlan e s p q j controls lent ≡ refuses Refused (controls, lent) r
-  unfolding editsPlan judgeAsk
-  plan-bad q r t =
-      rows-bad (askRows e (p .basis) j (s .count)) r t (roomRows e (s .count) controls (max (points p) (points q)) (length lent)) (refuses Refused (controls, lent)) (accepts e s q j controls lent)
+  abbrev roomOf : Plan → Plan → List Row
+  roomOf p q = roomRows e (s .count) controls (max (points p) (points q)) (length lent)
 
-  pub editable : Good s p → judgeAsk e (p .basis) j (s .count) ≡ Fine → Editable e s p j
-  unfolding judgeAsk
-  editable good t =
-      let rows = askRows e (p .basis) j (s .count) in
-      let none = rows-none rows t in
-      record {
-        good = good;
-        offered = not-false (offered e (p .basis)) (row-fails 4 rows none);
-        inRange = not-false (inRange e j (s .count)) (row-fails 5 rows none);
-        notAtTheEnd = row-fails 6 rows none;
-      }
+  -- rows 1, 2, 3
+  pub shape-bad : (r : Refusal) → judgeShape s ≡ Unsound r → edits e s j controls lent ≡ refuses Refused (controls, lent) r
+  unfolding edits
+  shape-bad r t = unsound s r t (editRows e s (planOf s) next j controls lent) (refuses Refused (controls, lent)) (accepts e s next j controls lent)
 
-  pub plan-fine : (q : Plan) → judgeAsk e (p .basis) j (s .count) ≡ Fine → editsPlan e s p q j controls lent ≡ editsRoom e s p q j controls lent
-  unfolding editsPlan judgeAsk editsRoom
-  plan-fine q t =
-      rows-fine (askRows e (p .basis) j (s .count)) t (roomRows e (s .count) controls (max (points p) (points q)) (length lent)) (refuses Refused (controls, lent)) (accepts e s q j controls lent)
+  module _ (p : Plan) (good : judgeShape s ≡ Sound p) where
+    abbrev asks : List Row
+    asks = askRows e (p .basis) j (s .count)
 
-  -- rows 7, 8, 9
-  pub room-bad : (q : Plan) (r : Refusal) → judgeRoom e (s .count) controls (max (points p) (points q)) (length lent) ≡ Bad r → editsRoom e s p q j controls lent ≡ refuses Refused (controls, lent) r
-  unfolding editsRoom judgeRoom
-  room-bad q r t =
-      let rows = roomRows e (s .count) controls (max (points p) (points q)) (length lent) in
-      judge-first rows (refuses Refused (controls, lent)) (accepts e s q j controls lent) r (rows-first rows r t)
+    from-ask : edits e s j controls lent ≡ judge (asks ++ roomOf p next) (refuses Refused (controls, lent)) (accepts e s next j controls lent)
+    unfolding edits
+    from-ask =
+        sound s p good (editRows e s (planOf s) next j controls lent) (refuses Refused (controls, lent)) (accepts e s next j controls lent)
+        ∙ ap (λ r. judge (editRows e s r next j controls lent) (refuses Refused (controls, lent)) (accepts e s next j controls lent)) (sym (sound-plan s p good))
 
-  pub room-fine : (q : Plan) → judgeRoom e (s .count) controls (max (points p) (points q)) (length lent) ≡ Fine → editsRoom e s p q j controls lent ≡ accepts e s q j controls lent
-  unfolding editsRoom judgeRoom
-  room-fine q t =
-      let rows = roomRows e (s .count) controls (max (points p) (points q)) (length lent) in
-      judge-none rows (refuses Refused (controls, lent)) (accepts e s q j controls lent) (rows-none rows t)
+    -- rows 4, 5, 6
+    pub ask-bad : (r : Refusal) → judgeAsk e (p .basis) j (s .count) ≡ Bad r → edits e s j controls lent ≡ refuses Refused (controls, lent) r
+    unfolding judgeAsk
+    ask-bad r t = from-ask ∙ rows-bad asks r t (roomOf p next) (refuses Refused (controls, lent)) (accepts e s next j controls lent)
+
+    module _ (fine : judgeAsk e (p .basis) j (s .count) ≡ Fine) where
+      pub may-edit : Editable e s p j
+      may-edit = editable e s p j (sound-facts s p good) fine
+
+      from-room : edits e s j controls lent ≡ judge (roomOf p (planAfter e p)) (refuses Refused (controls, lent)) (accepts e s (planAfter e p) j controls lent)
+      unfolding judgeAsk
+      from-room =
+          from-ask
+          ∙ rows-fine asks fine (roomOf p next) (refuses Refused (controls, lent)) (accepts e s next j controls lent)
+          ∙ ap (λ q. judge (roomOf p q) (refuses Refused (controls, lent)) (accepts e s q j controls lent)) (plan-after e s p j may-edit)
+
+      abbrev Found : Checked → Type 0
+      Found l = judgeRoom e (s .count) controls (max (points p) (points (planAfter e p))) (length lent) ≡ l
+
+      -- rows 7, 8, 9
+      pub room-bad : (r : Refusal) → Found (Bad r) → edits e s j controls lent ≡ refuses Refused (controls, lent) r
+      unfolding judgeRoom
+      room-bad r t = from-room ∙ judge-first (roomOf p (planAfter e p)) (refuses Refused (controls, lent)) _ r (rows-first (roomOf p (planAfter e p)) r t)
+
+      pub room-fine : Found Fine → Vetted e s j controls lent (Sound (planAfter e p))
+      unfolding judgeRoom
+      room-fine t = (
+        workable e s p j may-edit controls (length lent) t,
+        from-room ∙ judge-none (roomOf p (planAfter e p)) (refuses Refused (controls, lent)) _ (rows-none (roomOf p (planAfter e p)) t),
+      )

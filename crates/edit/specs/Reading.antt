@@ -67,14 +67,6 @@ pointsAfter e s q j controls lent = filled (pointAt e (q .basis) (q .depth) j (q
 abbrev pub accepts : Edit → Shape → Plan → ℕ → List ℤ → List ℤ → Outcome Edited (List ℤ × List ℤ)
 accepts e s q j controls lent = outcome (Done (change e s (q .basis) j (q .spans))) (controlsAfter e s j controls, pointsAfter e s q j controls lent)
 
-unfoldable pub editsPlan : Edit → Shape → Plan → Plan → ℕ → List ℤ → List ℤ → Outcome Edited (List ℤ × List ℤ)
-editsPlan e s p q j controls lent = judge (editRows e s p q j controls lent) (refuses Refused (controls, lent)) (accepts e s q j controls lent)
-
--- The same from row 7 on.
-unfoldable pub editsRoom : Edit → Shape → Plan → Plan → ℕ → List ℤ → List ℤ → Outcome Edited (List ℤ × List ℤ)
-editsRoom e s p q j controls lent =
-    judge (roomRows e (s .count) controls (max (points p) (points q)) (length lent)) (refuses Refused (controls, lent)) (accepts e s q j controls lent)
-
 unfoldable pub edits : Edit → Shape → ℕ → List ℤ → List ℤ → Outcome Edited (List ℤ × List ℤ)
 edits e s j controls lent =
     let p = planOf s in

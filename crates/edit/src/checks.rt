@@ -3,6 +3,7 @@ ghost use mathlib.Core.Path.{_≡_};
 ghost use Prim.Native.Nat.{_≤_};
 ghost use Rattle.shape.specs.Shape.{mostRecords, mostPoints};
 ghost use Rattle.edit.specs.Reading.{judgeAsk, judgeRoom};
+ghost use Rattle.edit.specs.Ready.{Vetted};
 use asked::Edit;
 use asked::counts::count_after;
 use asked::counts::greatest;
@@ -10,9 +11,14 @@ use asked::counts::is_at_the_end;
 use asked::counts::is_in_range;
 use asked::counts::is_new_outside;
 use asked::counts::is_offered;
+use asked::counts::spans_after;
 use curve::Basis;
 use shape::Checked;
+use shape::Judged;
+use shape::Plan;
 use shape::Refusal;
+use shape::Shape;
+use shape::check_shape;
 use shape::first_outside;
 
 // A refusal, as the checks find it.
@@ -23,7 +29,7 @@ fn refused(number: usize, place: usize) -> Checked
 }
 
 // The checks of what is asked in the paper's order, 4, 5, 6.
-pub(crate) fn check_ask(edit: Edit, basis: Basis, place: usize, count: usize) -> Checked
+fn check_ask(edit: Edit, basis: Basis, place: usize, count: usize) -> Checked
     ensures { λ r. ⌜ r ≡ judgeAsk edit basis place count ⌝ }
 {
     if !is_offered(edit, basis) {
@@ -39,13 +45,7 @@ pub(crate) fn check_ask(edit: Edit, basis: Basis, place: usize, count: usize) ->
 }
 
 // The checks of the lent lists in the paper's order, 7, 8, 8 for the new record, 9.
-pub(crate) fn check_room(
-    edit: Edit,
-    count: usize,
-    controls: &[i32],
-    most: usize,
-    len: usize,
-) -> Checked
+fn check_room(edit: Edit, count: usize, controls: &[i32], most: usize, len: usize) -> Checked
     requires { ⌜ (1 ≤ count) × (count ≤ mostRecords) × (most ≤ mostPoints) ⌝ }
     ensures { λ r. ⌜ r ≡ judgeRoom edit count (now (controls .entry)) most len ⌝ }
 {
@@ -63,4 +63,35 @@ pub(crate) fn check_room(
         return refused(9, 0);
     }
     Checked::Fine
+}
+
+// All checks of an edit in the paper's order, 1 to 9: a refusal, or the plan of the new shape.
+pub(crate) fn check_edit(
+    edit: Edit,
+    shape: Shape,
+    place: usize,
+    controls: &[i32],
+    points: &[i32],
+) -> Judged
+    ensures { λ r. ⌜ Vetted edit shape place (now (controls .entry)) (now (points .entry)) r ⌝ }
+{
+    let plan = match check_shape(shape) {
+        Judged::Unsound(refusal) => return Judged::Unsound(refusal),
+        Judged::Sound(plan) => plan,
+    };
+    let basis = plan.basis;
+    match check_ask(edit, basis, place, shape.count) {
+        Checked::Bad(refusal) => return Judged::Unsound(refusal),
+        Checked::Fine => {}
+    }
+    let next = Plan {
+        basis,
+        depth: plan.depth,
+        spans: spans_after(edit, plan.spans),
+    };
+    let most = greatest(plan.points(), next.points());
+    match check_room(edit, shape.count, controls, most, points.len()) {
+        Checked::Bad(refusal) => Judged::Unsound(refusal),
+        Checked::Fine => Judged::Sound(next),
+    }
 }

@@ -11,27 +11,20 @@ ghost use Prim.Native.Nat.{_≤_};
 ghost use lib.Dec.{ltb};
 ghost use lib.ListN.{length};
 ghost use Rattle.whole.specs.Outcome.{outcome};
-ghost use Rattle.shape.specs.Good.{Good};
-ghost use Rattle.shape.specs.Refusals.{planOf};
 ghost use Rattle.shape.specs.Shape.{mostRecords};
-ghost use Rattle.edit.specs.Reading.{accepts, change, edits, editsPlan, editsRoom, planAfter, shapeAfter};
-ghost use Rattle.edit.specs.Ready.{Editable, Workable};
+ghost use Rattle.edit.specs.Reading.{accepts, change, edits};
+ghost use Rattle.edit.specs.Ready.{Workable};
 use asked::asking::ask;
 use asked::counts::count_after;
 use asked::counts::first_fresh;
-use asked::counts::greatest;
 use asked::counts::less;
 use asked::counts::past_fresh;
-use asked::counts::spans_after;
-use checks::check_ask;
-use checks::check_room;
+use checks::check_edit;
 use curve::Basis;
-use shape::Checked;
 use shape::Judged;
 use shape::Plan;
 use shape::Refusal;
 use shape::Shape;
-use shape::check_shape;
 use working::work;
 
 // What an accepted edit answers: the new shape, the first span worked afresh and how many.
@@ -82,7 +75,7 @@ pub fn remove_record(shape: Shape, place: usize, controls: &mut [i32], points: &
     edit_shape(Edit::Remove, shape, place, controls, points)
 }
 
-// The checks of the shape, rows 1 to 3, and the rest where they pass.
+// The checks, rows 1 to 9, and the edit itself where they pass.
 fn edit_shape(
     edit: Edit,
     shape: Shape,
@@ -92,53 +85,9 @@ fn edit_shape(
 ) -> Edited
     ensures { λ r. ⌜ outcome r (now (controls .exit), now (points .exit)) ≡ edits edit shape place (now (controls .entry)) (now (points .entry)) ⌝ }
 {
-    match check_shape(shape) {
+    match check_edit(edit, shape, place, controls, points) {
         Judged::Unsound(refusal) => Edited::Refused(refusal),
-        Judged::Sound(plan) => edit_plan(edit, shape, plan, place, controls, points),
-    }
-}
-
-// What is asked, rows 4 to 6, and the rest where it may be done.
-fn edit_plan(
-    edit: Edit,
-    shape: Shape,
-    plan: Plan,
-    place: usize,
-    controls: &mut [i32],
-    points: &mut [i32],
-) -> Edited
-    requires { ⌜ Good shape plan ⌝ }
-    ensures { λ r. ⌜ outcome r (now (controls .exit), now (points .exit)) ≡ editsPlan edit shape plan (planOf (shapeAfter edit shape)) place (now (controls .entry)) (now (points .entry)) ⌝ }
-{
-    let basis = plan.basis;
-    match check_ask(edit, basis, place, shape.count) {
-        Checked::Bad(refusal) => Edited::Refused(refusal),
-        Checked::Fine => edit_room(edit, shape, plan, place, controls, points),
-    }
-}
-
-// The checks of the lent lists, rows 7 to 9, and the rest where they have room.
-fn edit_room(
-    edit: Edit,
-    shape: Shape,
-    plan: Plan,
-    place: usize,
-    controls: &mut [i32],
-    points: &mut [i32],
-) -> Edited
-    requires { ⌜ Editable edit shape plan place ⌝ }
-    ensures { λ r. ⌜ outcome r (now (controls .exit), now (points .exit)) ≡ editsRoom edit shape plan (planAfter edit plan) place (now (controls .entry)) (now (points .entry)) ⌝ }
-{
-    let basis = plan.basis;
-    let next = Plan {
-        basis,
-        depth: plan.depth,
-        spans: spans_after(edit, plan.spans),
-    };
-    let most = greatest(plan.points(), next.points());
-    match check_room(edit, shape.count, controls, most, points.len()) {
-        Checked::Bad(refusal) => Edited::Refused(refusal),
-        Checked::Fine => edit_lists(edit, shape, next, place, controls, points),
+        Judged::Sound(plan) => edit_lists(edit, shape, plan, place, controls, points),
     }
 }
 

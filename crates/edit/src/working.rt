@@ -3,6 +3,7 @@ ghost use mathlib.Core.Path.{_≡_};
 ghost use Prim.Native.Nat.{_+_, _*_, _≤_};
 ghost use lib.ListN.{length};
 ghost use Rattle.curve.specs.Ways.{deepest};
+ghost use Rattle.shape.specs.Shape.{mostRecords};
 ghost use Rattle.spans.specs.Numbers.{filled, number, perSpan};
 ghost use Rattle.spans.specs.Ready.{Drawable};
 ghost use Rattle.edit.specs.Carried.{Carriable, runLength};
@@ -37,7 +38,7 @@ fn rework(
 
 // All points of the outline that an edit asks for, from the points it was given: `plan` and `controls` are the new ones.
 pub(crate) fn work(edit: Edit, plan: Plan, place: usize, controls: &[i32], points: &mut [i32])
-    requires { ⌜ (plan .depth ≤ deepest) × (place ≤ 64) × (1 ≤ plan .spans) ⌝ }
+    requires { ⌜ (plan .depth ≤ deepest) × (place ≤ mostRecords) × (1 ≤ plan .spans) ⌝ }
     requires { ⌜ Drawable (plan .basis) (plan .spans) (now controls) ⌝ }
     requires { ⌜ plan .spans * perSpan (plan .depth) + 2 ≤ length (now points) ⌝ }
     requires { ⌜ Carriable edit (pastFresh edit (plan .basis) place (plan .spans)) (plan .spans) (perSpan (plan .depth)) (length (now points)) ⌝ }

@@ -1,12 +1,12 @@
 -- Drawing again: where the drawing call would be done and change nothing, so it would be after every list of calls. The shape stays sound, the records inside the limits
 -- and the lists long enough.
 use mathlib.Core.Path.{_≡_, sym, ap, _∙_, subst}
-use mathlib.Core.Bool.{false}
+use mathlib.Core.Bool.{false, not}
 use mathlib.Core.Logic.{⊎-elim}
 use mathlib.Core.List.{List, [], _∷_, _++_}
 use Prim.Native.Nat.{ℕ, _+_, _*_, _≤_, _<_}
 use native.Mathlib.Omega.{arith}
-use borrow.Author.Tests.{le-leb, le-ltb, eq-eqb}
+use borrow.Author.Tests.{le-leb, le-ltb}
 use lib.IntN.{ℤ, pos, natAbs}
 use lib.ListN.{getD, length}
 use lib.Seq.{sets}
@@ -19,11 +19,11 @@ use Rattle.shape.specs.declared.Shape.{Shape}
 use Rattle.shape.specs.declared.Plan.{Plan}
 use Rattle.shape.specs.declared.Refusal.{Refusal}
 use Rattle.shape.specs.Good.{Good, Lent}
-use Rattle.shape.specs.Shape.{basisOf, recordsOf, spansOf, allowed, mostRecords}
+use Rattle.shape.specs.Shape.{lastBasis, basisOf, recordsOf, spansOf}
 use Rattle.shape.specs.Refusals.{First, NoRow, outside, firstOutside, shapeRows, listRows, planOf}
 use Rattle.shape.proofs.Refusals.{none-both, verdict}
 use Rattle.shape.proofs.Seek.{seek-none}
-use Rattle.shape.proofs.Spans.{spans-records}
+use Rattle.shape.proofs.Spans.{spans-records, facts-allowed}
 use Rattle.spans.proofs.Filled.{length-filled, same-filled}
 use Rattle.outline.specs.declared.Drawn.the-variants.{Points}
 use Rattle.outline.specs.Outline.{numbers, points, drawn, drawRows, draws}
@@ -41,17 +41,16 @@ use Rattle.sequences.proofs.Played.{done-outlined, drawn-outlined}
 -- ---- no row holds of a sound shape, nor of lists that have what is needed
 
 good-none : (s : Shape) (p : Plan) → Good s p → NoRow (shapeRows s)
-unfolding allowed
 good-none s p good =
     let b = basisOf (s .basis) in
     let n = s .count in
     let records : recordsOf b (p .spans) ≡ n = subst (λ x. recordsOf x (p .spans) ≡ n) (good .basis) (good .records) in
     let spans : spansOf b n ≡ p .spans = ap (spansOf b) (sym records) ∙ spans-records b (p .spans) in
     let some : 1 ≤ spansOf b n = omega (arith, spans, good .spans-least) in (
-      simp (le-leb 1 (s .basis) (good .basis-least), le-leb (s .basis) 4 (good .basis-most)),
+      simp (le-leb 1 (s .basis) (good .basis-least), le-leb (s .basis) lastBasis (good .basis-most)),
       (
         le-ltb deepest (s .depth) (omega (arith, good .depth, good .depth-most)),
-        (simp (le-leb n mostRecords (good .records-most), le-leb 1 (spansOf b n) some, eq-eqb (recordsOf b (spansOf b n)) n (ap (recordsOf b) spans ∙ records)), tt),
+        (ap not (facts-allowed b n (good .records-most) some (ap (recordsOf b) spans ∙ records)), tt),
       ),
     )
 

@@ -13,11 +13,10 @@ use lib.IntN.{ℤ, pos}
 use lib.ListN.{getD, length}
 use lib.Pow.{pow-pos}
 use Rattle.curve.specs.declared.Basis.{Basis}
-use Rattle.curve.specs.declared.Basis.the-variants.{Bezier, BSpline, Cardinal, Hermite}
 use Rattle.curve.specs.Numbers.{four}
 use Rattle.curve.specs.Span.{firstRecord, coordinate, recordsFrom, records, point}
 use Rattle.shape.specs.Shape.{recordsOf}
-use Rattle.shape.proofs.Tests.{passes, either, true-is-not-false}
+use Rattle.shape.proofs.Tests.{passes, either}
 use Rattle.shape.proofs.Spans.{last-record}
 use Rattle.spans.specs.Numbers.{number, perSpan}
 use Rattle.spans.proofs.Filled.{in-filled}
@@ -25,10 +24,11 @@ use Rattle.spans.proofs.Numbers.{located}
 use Rattle.asked.specs.declared.Edit.{Edit}
 use Rattle.asked.specs.declared.Edit.the-variants.{Move, Insert, Remove}
 use Rattle.asked.specs.Edits.{countAfter, spansAfter, offered, inRange, controlAt, asked, firstFresh, pastFresh, runOf, carriedFrom, isFresh, pointAt}
+use Rattle.asked.proofs.Splines.{spline-first, spline-records}
 use Rattle.asked.proofs.Controls.{Beyond, control-before, control-beyond}
 use Rattle.edit.proofs.Worked.{fewer-numbers, fresh-at, stays-at, carried-at}
 use Rattle.edit.proofs.Rows.{records-then}
-use Rattle.sequences.proofs.Touched.{spline-first, first-bound, past-bound, next-span}
+use Rattle.sequences.proofs.Touched.{first-bound, past-bound, next-span}
 use Rattle.sequences.proofs.OldSpans.{owner-exists, owns, outside-run}
 
 -- ---- the records of the new controls, by what each of their numbers is
@@ -74,8 +74,8 @@ span-beyond Remove j r i h = omega arith
 -- a span past the run comes from the old span that has its records
 span-from : (e : Edit) (b : Basis) (j s i : ℕ) → offered e b ≡ true → Beyond e j (firstRecord b s) → carriedFrom e 1 (firstRecord b s + i) ≡ firstRecord b (carriedFrom e 1 s) + i
 span-from (Move x y) b j s i o h = refl
-span-from (Insert x y) b j s i o h = omega (arith, spline-first b s o, spline-first b (s - 1) o)
-span-from Remove b j s i o h = omega (arith, spline-first b s o, spline-first b (s + 1) o)
+span-from (Insert x y) b j s i o h = omega (arith, spline-first b o s, spline-first b o (s - 1))
+span-from Remove b j s i o h = omega (arith, spline-first b o s, spline-first b o (s + 1))
 
 module _ (e : Edit) (b : Basis) (j m : ℕ) (old : List ℤ) (o : offered e b ≡ true) (some : 1 ≤ m) (fits : 2 * countAfter e (recordsOf b m) ≤ length old) where
   -- the controls as the edit leaves them
@@ -151,20 +151,12 @@ source Remove b k j m q s i some left h span at past =
       within = omega (arith, wide);
     }
 
--- an insert is of the splines, whose records are three more than their spans
-insert-records : (x y : ℤ) (b : Basis) (m : ℕ) → offered (Insert x y) b ≡ true → recordsOf b m ≡ m + 3
-unfolding recordsOf
-insert-records x y Bezier m o = absurd (true-is-not-false o refl)
-insert-records x y BSpline m o = refl
-insert-records x y Cardinal m o = refl
-insert-records x y Hermite m o = absurd (true-is-not-false o refl)
-
 -- a number of a span before the fresh ones is a number of the old outline too
 stays-within : (e : Edit) (b : Basis) (k j m q : ℕ) → offered e b ≡ true → inRange e j (recordsOf b m) ≡ true → q < spansAfter e m * perSpan k + 2
     → min (q / perSpan k) (spansAfter e m - 1) < firstFresh e b j → q < m * perSpan k + 2
 stays-within (Move x y) b k j m q o range h first = h
 stays-within (Insert x y) b k j m q o range h first =
-    let below : q / perSpan k < m = omega (arith, leb-true j (recordsOf b m) range, insert-records x y b m o) in
+    let below : q / perSpan k < m = omega (arith, leb-true j (recordsOf b m) range, spline-records b o m) in
     omega (arith, div-lt-iff-lt-mul {k = perSpan k} {x = q} {y = m} (omega (arith, pow-pos k)) .0 below)
 stays-within Remove b k j m q o range h first = omega (arith, mul-le-mul-right {m = m - 1} {n = m} (perSpan k) (omega arith))
 

@@ -1,54 +1,51 @@
--- The spans of an edit's run are exactly those that it touches: two bounds, which alone look at the basis. And the fresh numbers are exactly those that a span of the run has among
+-- The spans of an edit's run are exactly those that it touches: two bounds, by the stride. And the fresh numbers are exactly those that a span of the run has among
 -- its points.
-use mathlib.Core.Path.{_≡_, refl, ap, _∙_}
+use mathlib.Core.Path.{_≡_, ap, _∙_}
 use mathlib.Core.Bool.{true}
 use mathlib.Core.Logic.{⊎-elim, _↔_}
 use Prim.Native.Nat.{ℕ, _+_, _*_, _-_, _/_, _^_, _≤_, _<_}
-use native.Mathlib.Nat.{suc-mul, mul-le-mul-right, le-div-iff-mul-le, div-mul-le-self, lt-div-mul-add}
+use native.Mathlib.Nat.{div-lt-iff-lt-mul, mul-comm, suc-mul, mul-le-mul-right, le-div-iff-mul-le, div-mul-le-self, lt-div-mul-add}
 use native.Mathlib.Numerals.{add-one}
 use native.Mathlib.Omega.{arith}
 use lib.Pow.{pow-pos}
 use Rattle.curve.specs.declared.Basis.{Basis}
-use Rattle.curve.specs.declared.Basis.the-variants.{Bezier, BSpline, Cardinal, Hermite}
-use Rattle.curve.specs.Span.{firstRecord}
-use Rattle.shape.proofs.Tests.{either, true-is-not-false}
+use Rattle.curve.specs.Span.{stride, firstRecord}
+use Rattle.curve.proofs.Stride.{stride-bounds}
+use Rattle.shape.proofs.Spans.{among-first}
+use Rattle.shape.proofs.Tests.{either}
 use Rattle.spans.proofs.Numbers.{per-span}
 use Rattle.asked.specs.declared.Edit.{Edit}
 use Rattle.asked.specs.declared.Edit.the-variants.{Move, Insert, Remove}
-use Rattle.asked.specs.Edits.{Run, isSpline, offered, firstFresh, pastFresh, runOf, isFresh}
+use Rattle.asked.specs.Edits.{Run, offered, firstFresh, pastFresh, runOf, isFresh}
 use Rattle.asked.proofs.Controls.{Beyond}
+use Rattle.asked.proofs.Splines.{spline-first}
 use Rattle.asked.proofs.Run.{run-count, run-nought, run-spans, past-most, fresh-facts, facts-fresh}
 use Rattle.sequences.specs.Touched.{Touched, Among}
 
 -- ---- the bounds of the run, by the records of a span
 
--- the splines' span t begins with record t
-pub spline-first : (b : Basis) (t : ℕ) → isSpline b ≡ true → firstRecord b t ≡ t
-unfolding firstRecord
-spline-first Bezier t o = absurd (true-is-not-false o refl)
-spline-first BSpline t o = refl
-spline-first Cardinal t o = refl
-spline-first Hermite t o = absurd (true-is-not-false o refl)
+-- what is below the one exactly when the other is: what is not, likewise
+not-below : {a b c d : ℕ} → ((a < b) ↔ (c < d)) → (b ≤ a) ↔ (d ≤ c)
+not-below {a} {b} {c} {d} (to, from) = (
+  (λ h. ⊎-elim (λ below. absurd (omega (arith, from below))) (λ past. past) (either c d)),
+  (λ h. ⊎-elim (λ below. absurd (omega (arith, to below))) (λ past. past) (either a b)),
+)
 
 -- a span is not before the run exactly when the place is not past its last record
 pub first-bound : (e : Edit) (b : Basis) (j t : ℕ) → offered e b ≡ true → (firstFresh e b j ≤ t) ↔ (j ≤ firstRecord b t + 3)
-unfolding firstRecord
-first-bound (Move x y) Bezier j t o = (omega arith, omega arith)
-first-bound (Move x y) BSpline j t o = (omega arith, omega arith)
-first-bound (Move x y) Cardinal j t o = (omega arith, omega arith)
-first-bound (Move x y) Hermite j t o = (omega arith, omega arith)
-first-bound (Insert x y) b j t o = (omega (arith, spline-first b t o), omega (arith, spline-first b t o))
-first-bound Remove b j t o = (omega (arith, spline-first b t o), omega (arith, spline-first b t o))
+first-bound (Move x y) b j t o = not-below (among-first b j t)
+first-bound (Insert x y) b j t o = (omega (arith, spline-first b o t), omega (arith, spline-first b o t))
+first-bound Remove b j t o = (omega (arith, spline-first b o t), omega (arith, spline-first b o t))
 
 -- and it is past the run exactly when its first record is past the place
 pub past-bound : (e : Edit) (b : Basis) (j m t : ℕ) → offered e b ≡ true → t < m → (pastFresh e b j m ≤ t) ↔ Beyond e j (firstRecord b t)
 unfolding firstRecord
-past-bound (Move x y) Bezier j m t o h = (omega arith, omega arith)
-past-bound (Move x y) BSpline j m t o h = (omega arith, omega arith)
-past-bound (Move x y) Cardinal j m t o h = (omega arith, omega arith)
-past-bound (Move x y) Hermite j m t o h = (omega arith, omega arith)
-past-bound (Insert x y) b j m t o h = (omega (arith, spline-first b t o), omega (arith, spline-first b t o))
-past-bound Remove b j m t o h = (omega (arith, spline-first b t o), omega (arith, spline-first b t o))
+past-bound (Move x y) b j m t o h =
+    let (to, from) = div-lt-iff-lt-mul {k = stride b} {x = j} {y = t} (stride-bounds b .0) in
+    let first = mul-comm (stride b) t in
+    ((λ past. omega (arith, first, to (omega arith))), (λ past. let last = from (omega (arith, first)) in omega (arith, last)))
+past-bound (Insert x y) b j m t o h = (omega (arith, spline-first b o t), omega (arith, spline-first b o t))
+past-bound Remove b j m t o h = (omega (arith, spline-first b o t), omega (arith, spline-first b o t))
 
 -- a span is touched where its first record is not past the place, nor the place past its last
 not-past : (e : Edit) (b : Basis) (j t : ℕ) → (Beyond e j (firstRecord b t) → ⊥) → j ≤ firstRecord b t + 3 → Touched e b j t

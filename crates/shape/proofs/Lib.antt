@@ -1,5 +1,6 @@
 pub mod Tests
 pub mod Spans
+pub mod Table
 pub mod Seek
 pub mod Refusals
 pub mod Exactly

@@ -19,7 +19,7 @@ use Rattle.shape.specs.declared.Plan.{Plan}
 use Rattle.shape.specs.declared.Refusal.{Refusal}
 use Rattle.shape.specs.declared.Judged.the-variants.{Sound, Unsound}
 use Rattle.shape.specs.declared.Checked.the-variants.{Fine, Bad}
-use Rattle.shape.specs.Shape.{basisOf, spansOf, allowed}
+use Rattle.shape.specs.Shape.{lastBasis, basisOf, spansOf, allowed}
 use Rattle.shape.specs.Refusals.{Row, judge, First, NoRow, shapeRows, planOf, judgeShape, outside, firstOutside, limitsRow, listRows, judgeLists}
 use Rattle.shape.specs.Good.{Good, Lent}
 use Rattle.shape.proofs.Tests.{passes, and-true, or-false}
@@ -162,12 +162,12 @@ pub good-plan : (s : Shape) → NoRow (shapeRows s) → Good s (planOf s)
 unfolding planOf
 good-plan s h =
     let b = basisOf (s .basis) in
-    let (least, most) = and-true (leb 1 (s .basis)) (leb (s .basis) 4) (not-false (leb 1 (s .basis) && leb (s .basis) 4) (row-fails 1 (shapeRows s) h)) in
+    let (least, most) = and-true (leb 1 (s .basis)) (leb (s .basis) lastBasis) (not-false (leb 1 (s .basis) && leb (s .basis) lastBasis) (row-fails 1 (shapeRows s) h)) in
     let (records-most, spans, records) = allowed-facts b (s .count) (not-false (allowed b (s .count)) (row-fails 3 (shapeRows s) h)) in
     record {
       basis = refl;
       basis-least = leb-true 1 (s .basis) least;
-      basis-most = leb-true (s .basis) 4 most;
+      basis-most = leb-true (s .basis) lastBasis most;
       depth = refl;
       depth-most = ltb-false deepest (s .depth) (row-fails 2 (shapeRows s) h);
       spans-least = spans;

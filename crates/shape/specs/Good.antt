@@ -9,13 +9,13 @@ use Rattle.curve.specs.Span.{coordinate}
 use Rattle.curve.specs.Ways.{deepest}
 use Rattle.shape.specs.declared.Shape.{Shape}
 use Rattle.shape.specs.declared.Plan.{Plan}
-use Rattle.shape.specs.Shape.{basisOf, recordsOf, mostRecords}
+use Rattle.shape.specs.Shape.{lastBasis, basisOf, recordsOf, mostRecords}
 
 -- A sound shape and its plan.
 pub record Good (s : Shape) (p : Plan) : Type 0 where
   pub basis : p .basis ≡ basisOf (s .basis)
   pub basis-least : 1 ≤ s .basis
-  pub basis-most : s .basis ≤ 4
+  pub basis-most : s .basis ≤ lastBasis
   pub depth : p .depth ≡ s .depth
   pub depth-most : p .depth ≤ deepest
   pub spans-least : 1 ≤ p .spans

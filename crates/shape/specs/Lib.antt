@@ -1,4 +1,5 @@
 pub mod Shape
+pub mod Table
 pub mod Refusals
 pub mod Good
 pub mod Exactly

@@ -18,7 +18,7 @@ use Rattle.shape.specs.declared.Judged.{Judged}
 use Rattle.shape.specs.declared.Judged.the-variants.{Sound, Unsound}
 use Rattle.shape.specs.declared.Checked.{Checked}
 use Rattle.shape.specs.declared.Checked.the-variants.{Fine, Bad}
-use Rattle.shape.specs.Shape.{basisOf, spansOf, allowed}
+use Rattle.shape.specs.Shape.{lastBasis, basisOf, spansOf, allowed}
 
 pub record Row : Type 0 where
   pub holds : Bool
@@ -49,7 +49,7 @@ seek test i (suc n) = cond (test i) i (seek test (suc i) n)
 -- ---- rows 1, 2, 3: the shape
 
 abbrev pub basisRow : Shape → Row
-basisRow s = row (not (leb 1 (s .basis) && leb (s .basis) 4)) 1 0
+basisRow s = row (not (leb 1 (s .basis) && leb (s .basis) lastBasis)) 1 0
 
 abbrev pub depthRow : Shape → Row
 depthRow s = row (ltb deepest (s .depth)) 2 0

@@ -2,9 +2,14 @@
 use mathlib.Core.Bool.{Bool, _&&_}
 use Prim.Native.Nat.{ℕ, zero, suc, _+_, _*_, _-_, _/_, _^_}
 use lib.Dec.{leb, eqb}
+use Rattle.curve.specs.Span.{stride}
 use Rattle.curve.specs.Ways.{deepest}
 use Rattle.curve.specs.declared.Basis.{Basis}
 use Rattle.curve.specs.declared.Basis.the-variants.{Bezier, BSpline, Cardinal, Hermite}
+
+-- The bases are numbered from 1 to 4.
+abbrev pub lastBasis : ℕ
+lastBasis = 4
 
 -- The basis of a number from 1 to 4. Of any other number, which row 1 refuses, it says Hermite, and nothing comes of that.
 unfoldable pub basisOf : ℕ → Basis
@@ -14,23 +19,24 @@ basisOf (suc (suc zero)) = BSpline
 basisOf (suc (suc (suc zero))) = Cardinal
 basisOf (suc (suc (suc (suc n)))) = Hermite
 
--- The records of m spans: 3m+1, m+3, m+3, 2m+2.
-unfoldable pub recordsOf : Basis → ℕ → ℕ
-recordsOf Bezier m = 3 * m + 1
-recordsOf BSpline m = m + 3
-recordsOf Cardinal m = m + 3
-recordsOf Hermite m = 2 * m + 2
+-- One span takes four records, whatever the basis, and n is at most 64.
+abbrev pub leastRecords : ℕ
+leastRecords = 4
 
--- The spans of n records, where n is one of those numbers.
-unfoldable pub spansOf : Basis → ℕ → ℕ
-spansOf Bezier n = (n - 1) / 3
-spansOf BSpline n = n - 3
-spansOf Cardinal n = n - 3
-spansOf Hermite n = (n - 2) / 2
-
--- n is at most 64.
 abbrev pub mostRecords : ℕ
 mostRecords = 64
+
+-- The records that a span shares with the next one.
+abbrev pub shared : Basis → ℕ
+shared b = leastRecords - stride b
+
+-- The records of m spans: a stride for each, and those that the last one would share. In the paper's numbers (`Table`): 3m+1, m+3, m+3, 2m+2.
+unfoldable pub recordsOf : Basis → ℕ → ℕ
+recordsOf b m = stride b * m + shared b
+
+-- The spans that have all four of their records among the first n.
+unfoldable pub spansOf : Basis → ℕ → ℕ
+spansOf b n = (n - shared b) / stride b
 
 -- n is allowed for a basis: it is the records of some m, at least 1, and at most 64.
 unfoldable pub allowed : Basis → ℕ → Bool

@@ -4,12 +4,14 @@ ghost use mathlib.Core.Path.{_≡_};
 ghost use Prim.Native.Nat.{_*_, _^_, _≤_};
 ghost use lib.ListN.{length};
 ghost use Rattle.curve.specs.Ways.{deepest};
-ghost use Rattle.shape.specs.Shape.{basisOf, spansOf, recordsOf, allowed, pointsOf, mostRecords, mostPoints};
+ghost use Rattle.shape.specs.Shape.{basisOf, shared, spansOf, recordsOf, allowed, pointsOf, mostRecords, mostPoints};
 ghost use Rattle.shape.specs.Refusals.{judgeShape, judgeLists, firstOutside};
 use curve::Basis;
 use curve::DEEPEST;
 use curve::LIMIT;
 use curve::bounds::is_beyond;
+use curve::records::first_record;
+use curve::records::stride_of;
 
 // A shape as a caller passes it: basis, depth and control count, right or wrong.
 pub struct Shape {
@@ -67,7 +69,7 @@ const FIRST_BASIS: usize = 1;
 const LAST_BASIS: usize = 4;
 
 // One span takes four records, whatever the basis; n is at most 64.
-const FEWEST_RECORDS: usize = 4;
+pub const LEAST_RECORDS: usize = 4;
 
 pub const MOST_RECORDS: usize = 64;
 
@@ -83,17 +85,23 @@ fn basis_of(number: usize) -> Basis
     }
 }
 
-// The spans of a number of records.
-fn spans_of(basis: Basis, count: usize) -> usize
-    requires { ⌜ 4 ≤ count ⌝ }
+// The records that a span shares with the next one.
+fn shared_of(basis: Basis) -> usize
+    ensures { λ r. ⌜ r ≡ shared basis ⌝ }
+{
+    LEAST_RECORDS - stride_of(basis)
+}
+
+// The spans that have all four of their records among the first `count`.
+pub fn spans_of(basis: Basis, count: usize) -> usize
+    requires { ⌜ count ≤ mostRecords ⌝ }
     ensures { λ r. ⌜ r ≡ spansOf basis count ⌝ }
 {
-    match basis {
-        Basis::Bezier => (count - 1) / 3,
-        Basis::BSpline => count - 3,
-        Basis::Cardinal => count - 3,
-        Basis::Hermite => (count - 2) / 2,
+    let shared = shared_of(basis);
+    if count < shared {
+        return 0;
     }
+    (count - shared) / stride_of(basis)
 }
 
 // The records of a number of spans.
@@ -101,21 +109,13 @@ fn records_of(basis: Basis, spans: usize) -> usize
     requires { ⌜ spans ≤ mostRecords ⌝ }
     ensures { λ r. ⌜ r ≡ recordsOf basis spans ⌝ }
 {
-    match basis {
-        Basis::Bezier => 3 * spans + 1,
-        Basis::BSpline => spans + 3,
-        Basis::Cardinal => spans + 3,
-        Basis::Hermite => 2 * spans + 2,
-    }
+    first_record(basis, spans) + shared_of(basis)
 }
 
 // The spans of a number of records that is allowed for the basis, or 0.
 fn allowed_spans(basis: Basis, count: usize) -> usize
     ensures { λ r. ⌜ r ≡ cond (allowed basis count) (spansOf basis count) 0 ⌝ }
 {
-    if count < FEWEST_RECORDS {
-        return 0;
-    }
     if MOST_RECORDS < count {
         return 0;
     }

@@ -8,7 +8,7 @@ use lib.Dec.{leb}
 use Rattle.curve.specs.Ways.{deepest}
 use Rattle.shape.specs.declared.Shape.{Shape}
 use Rattle.shape.specs.declared.Judged.the-variants.{Sound}
-use Rattle.shape.specs.Shape.{basisOf, spansOf, allowed}
+use Rattle.shape.specs.Shape.{lastBasis, basisOf, spansOf, allowed}
 use Rattle.shape.specs.Refusals.{planOf}
 use Rattle.shape.proofs.Spans.{spans-or-none, spans-or-some}
 use Rattle.shape.proofs.Refusals.{first-unsound, none-sound}
@@ -17,8 +17,8 @@ use Rattle.shape.proofs.check_shape.Statement.{statement}
 use Rattle.shape.proofs.check_shape.Tie as tie
 
 -- row 1 did not hold
-basis-passed : (s : Shape) → 1 ≤ s .basis → s .basis ≤ 4 → not (leb 1 (s .basis) && leb (s .basis) 4) ≡ false
-basis-passed s h k = simp (le-leb 1 (s .basis) h, le-leb (s .basis) 4 k)
+basis-passed : (s : Shape) → 1 ≤ s .basis → s .basis ≤ lastBasis → not (leb 1 (s .basis) && leb (s .basis) lastBasis) ≡ false
+basis-passed s h k = simp (le-leb 1 (s .basis) h, le-leb (s .basis) lastBasis k)
 
 returns : tie.Need-returns
 returns c = let s = c .before .args .shape in sym (first-unsound s (record { number = 1; place = 0 }) (inl (simp (lt-leb 1 (s .basis) (c .if1 .taken)), refl)))
@@ -26,7 +26,7 @@ returns c = let s = c .before .args .shape in sym (first-unsound s (record { num
 returns-2 : tie.Need-returns-2
 returns-2 c =
     let s = c .before .before .args .shape in
-    sym (first-unsound s (record { number = 1; place = 0 }) (inl (simp (le-leb 1 (s .basis) (c .before .if1 .left), lt-leb (s .basis) 4 (c .if2 .taken)), refl)))
+    sym (first-unsound s (record { number = 1; place = 0 }) (inl (simp (le-leb 1 (s .basis) (c .before .if1 .left), lt-leb (s .basis) lastBasis (c .if2 .taken)), refl)))
 
 returns-3 : tie.Need-returns-3
 returns-3 c =

@@ -1,71 +1,30 @@
--- In each arm the basis is that arm's, and the definition has the arm's number there.
-use mathlib.Core.Path.{sym, ap}
+-- At most three records for each of at most 64 spans, and three more.
+use Prim.Native.Nat.{_+_}
+use native.Mathlib.Nat.{mul-le-mul}
+use native.Mathlib.Omega.{arith}
 use borrow.Author.Needs.{needs}
-use Rattle.shape.specs.Shape.{recordsOf}
+use Rattle.curve.specs.Span.{stride, firstRecord}
+use Rattle.curve.proofs.Stride.{stride-bounds}
+use Rattle.shape.specs.Shape.{recordsOf, mostRecords}
 use Rattle.shape.proofs.records_of.Statement.{statement}
 use Rattle.shape.proofs.records_of.Tie as tie
 
-enum-told : tie.Need-enum-told
-enum-told c = search needs
+first-record-requires : tie.Need-first-record-requires
+first-record-requires c κs = search needs
 
-mul-result : tie.Need-mul-result
-mul-result c = search needs
+shared-of-requires : tie.Need-shared-of-requires
+shared-of-requires c κs = search needs
 
 add-result : tie.Need-add-result
-add-result c = search needs
-
-enum-told-2 : tie.Need-enum-told-2
-enum-told-2 c = search needs
-
-add-result-2 : tie.Need-add-result-2
-add-result-2 c = search needs
-
-enum-told-3 : tie.Need-enum-told-3
-enum-told-3 c = search needs
-
-add-result-3 : tie.Need-add-result-3
-add-result-3 c = search needs
-
-enum-told-4 : tie.Need-enum-told-4
-enum-told-4 c = search needs
-
-mul-result-2 : tie.Need-mul-result-2
-mul-result-2 c = search needs
-
-add-result-4 : tie.Need-add-result-4
-add-result-4 c = search needs
+unfolding firstRecord
+add-result c =
+    let s = c .before .before in
+    let few = mul-le-mul {n₁ = stride (s .args .basis)} {m₁ = s .args .spans} {n₂ = 3} {m₂ = mostRecords} (stride-bounds (s .args .basis) .1) (s .pre) in
+    omega (arith, c .before .first-record .ensures, c .shared-of .ensures, few)
 
 returns : tie.Need-returns
-unfolding recordsOf
-returns c = sym (ap (λ b. recordsOf b (c .before .before .args .spans)) (c .enum-told .given .1))
-
-returns-2 : tie.Need-returns-2
-unfolding recordsOf
-returns-2 c = sym (ap (λ b. recordsOf b (c .before .before .args .spans)) (c .enum-told2 .given .1))
-
-returns-3 : tie.Need-returns-3
-unfolding recordsOf
-returns-3 c = sym (ap (λ b. recordsOf b (c .before .before .args .spans)) (c .enum-told3 .given .1))
-
-returns-4 : tie.Need-returns-4
-unfolding recordsOf
-returns-4 c = sym (ap (λ b. recordsOf b (c .before .before .args .spans)) (c .enum-told4 .given .1))
+unfolding recordsOf firstRecord
+returns c = λ i. c .before .first-record .ensures i + c .shared-of .ensures i
 
 pub records-of-spec : {M : Type 1} → statement M
-records-of-spec =
-    tie.close
-    (tie.spec
-    enum-told
-    mul-result
-    add-result
-    enum-told-2
-    add-result-2
-    enum-told-3
-    add-result-3
-    enum-told-4
-    mul-result-2
-    add-result-4
-    returns
-    returns-2
-    returns-3
-    returns-4)
+records-of-spec = tie.close (tie.spec first-record-requires shared-of-requires add-result returns)

@@ -8,8 +8,8 @@ use Rattle.asked.proofs.counts.first_fresh.Tie as tie
 enum-told : tie.Need-enum-told
 enum-told c = search needs
 
-first-using-requires : tie.Need-first-using-requires
-first-using-requires c κs = search needs
+spans-of-requires : tie.Need-spans-of-requires
+spans-of-requires c κs = search needs
 
 enum-told-2 : tie.Need-enum-told-2
 enum-told-2 c = search needs
@@ -24,7 +24,7 @@ less-requires-2 : tie.Need-less-requires-2
 less-requires-2 c κs = search needs
 
 returns : tie.Need-returns
-returns c = c .first-using .ensures ∙ sym (ap (λ e. firstFresh e (c .before .before .before .args .basis) (c .before .before .before .args .place)) (c .before .enum-told .given .1))
+returns c = c .spans-of .ensures ∙ sym (ap (λ e. firstFresh e (c .before .before .before .args .basis) (c .before .before .before .args .place)) (c .before .enum-told .given .1))
 
 returns-2 : tie.Need-returns-2
 returns-2 c = c .less .ensures ∙ sym (ap (λ e. firstFresh e (c .before .before .before .args .basis) (c .before .before .before .args .place)) (c .before .enum-told2 .given .1))
@@ -37,7 +37,7 @@ first-fresh-spec =
     tie.close
     (tie.spec
     enum-told
-    first-using-requires
+    spans-of-requires
     enum-told-2
     less-requires
     enum-told-3

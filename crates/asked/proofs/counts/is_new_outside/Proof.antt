@@ -2,13 +2,11 @@
 use mathlib.Core.Path.{sym, ap, _∙_}
 use mir.Syntax.{w32}
 use borrow.Author.Needs.{needs}
-use Rattle.whole.proofs.Fit.{kept, kept-is}
+use Rattle.whole.proofs.Fit.{kept-is}
 use Rattle.asked.specs.declared.Edit.the-variants.{Move, Insert}
 use Rattle.asked.specs.Edits.{newOutside}
 use Rattle.asked.proofs.counts.is_new_outside.Statement.{statement}
 use Rattle.asked.proofs.counts.is_new_outside.Tie as tie
-
--- In each arm the edit is that arm's.
 
 enum-known-edit : tie.Need-enum-known-edit
 enum-known-edit c = search needs
@@ -26,10 +24,22 @@ enum-told : tie.Need-enum-told
 enum-told c = search needs
 
 returns : tie.Need-returns
-returns c = c .is-outside .ensures ∙ ap (λ z. newOutside (Move z (kept w32 (c .before .before .edit .given .0 .1 .0)))) (kept-is w32 (c .before .before .edit .given .0 .0) (record { sfits = c .before .known-told .given .0 .1 })) ∙ ap (λ z. newOutside (Move (c .before .before .edit .given .0 .0) z)) (kept-is w32 (c .before .before .edit .given .0 .1 .0) (record { sfits = c .before .known-told .given .1 .0 .1 })) ∙ sym (ap newOutside (c .before .before .edit .given .1))
+returns c =
+    let t = c .before in
+    let x = t .before .edit .given .0 .0 in
+    let y = t .before .edit .given .0 .1 .0 in
+    c .is-outside .ensures
+    ∙ (λ i. newOutside (Move (kept-is w32 x (record { sfits = t .known-told .given .0 .1 }) i) (kept-is w32 y (record { sfits = t .known-told .given .1 .0 .1 }) i)))
+    ∙ sym (ap newOutside (t .before .edit .given .1))
 
 returns-2 : tie.Need-returns-2
-returns-2 c = c .is-outside2 .ensures ∙ ap (λ z. newOutside (Insert z (kept w32 (c .before .before .edit2 .given .0 .1 .0)))) (kept-is w32 (c .before .before .edit2 .given .0 .0) (record { sfits = c .before .known-told2 .given .0 .1 })) ∙ ap (λ z. newOutside (Insert (c .before .before .edit2 .given .0 .0) z)) (kept-is w32 (c .before .before .edit2 .given .0 .1 .0) (record { sfits = c .before .known-told2 .given .1 .0 .1 })) ∙ sym (ap newOutside (c .before .before .edit2 .given .1))
+returns-2 c =
+    let t = c .before in
+    let x = t .before .edit2 .given .0 .0 in
+    let y = t .before .edit2 .given .0 .1 .0 in
+    c .is-outside2 .ensures
+    ∙ (λ i. newOutside (Insert (kept-is w32 x (record { sfits = t .known-told2 .given .0 .1 }) i) (kept-is w32 y (record { sfits = t .known-told2 .given .1 .0 .1 }) i)))
+    ∙ sym (ap newOutside (t .before .edit2 .given .1))
 
 returns-3 : tie.Need-returns-3
 returns-3 c = search needs

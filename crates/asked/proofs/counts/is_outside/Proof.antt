@@ -18,7 +18,11 @@ is-beyond-requires-2 : tie.Need-is-beyond-requires-2
 is-beyond-requires-2 c κs = search needs
 
 returns-2 : tie.Need-returns-2
-returns-2 c = let s = c .before .before .before in c .is-beyond2 .ensures ∙ ap (beyond limit) (kept-is w32 (s .args .y) (s .fits .y)) ∙ ap (λ b. b || beyond limit (s .args .y)) (sym (c .before .if1 .left) ∙ c .before .before .is-beyond .ensures ∙ ap (beyond limit) (kept-is w32 (s .args .x) (s .fits .x)))
+returns-2 c =
+    let t = c .before .before in
+    let s = t .before in
+    let inside = sym (c .before .if1 .left) ∙ t .is-beyond .ensures ∙ ap (beyond limit) (kept-is w32 (s .args .x) (s .fits .x)) in
+    c .is-beyond2 .ensures ∙ ap (beyond limit) (kept-is w32 (s .args .y) (s .fits .y)) ∙ ap (λ b. b || beyond limit (s .args .y)) inside
 
 pub is-outside-spec : {M : Type 1} → statement M
 is-outside-spec = tie.close (tie.spec is-beyond-requires returns is-beyond-requires-2 returns-2)

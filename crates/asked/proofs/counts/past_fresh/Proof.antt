@@ -1,30 +1,26 @@
 -- In each arm the case is that arm's, and the definition has the arm's answer there.
-use mathlib.Core.Path.{sym, ap, _∙_}
-use Prim.Native.Nat.{ℕ, _+_, _≤_, min}
-use native.Mathlib.Nat.{div-le-self, le-refl}
+use mathlib.Core.Path.{_≡_, sym, ap, _∙_}
+use Prim.Native.Nat.{ℕ, _+_, _/_, min}
+use native.Mathlib.Nat.{div-le-self}
 use native.Mathlib.Omega.{arith}
 use borrow.Author.Needs.{needs}
-use Rattle.curve.specs.declared.Basis.{Basis}
-use Rattle.curve.specs.declared.Basis.the-variants.{Bezier, BSpline, Cardinal, Hermite}
-use Rattle.asked.specs.Edits.{lastUsing, pastFresh}
+use Rattle.curve.proofs.Stride.{stride-bounds}
+use Rattle.asked.specs.declared.Edit.{Edit}
+use Rattle.asked.specs.Edits.{pastFresh}
 use Rattle.asked.proofs.counts.past_fresh.Statement.{statement}
 use Rattle.asked.proofs.counts.past_fresh.Tie as tie
 
 enum-told : tie.Need-enum-told
 enum-told c = search needs
 
--- no span past the record's own number uses it
-last-small : (b : Basis) (j : ℕ) → lastUsing b j ≤ j
-last-small Bezier j = div-le-self j 3
-last-small BSpline j = le-refl j
-last-small Cardinal j = le-refl j
-last-small Hermite j = div-le-self j 2
+stride-of-requires : tie.Need-stride-of-requires
+stride-of-requires c κs = search needs
 
-last-using-requires : tie.Need-last-using-requires
-last-using-requires c κs = search needs
+div-least : tie.Need-div-least
+div-least c = omega (arith, c .stride-of .ensures, stride-bounds (c .before .before .before .args .basis) .0)
 
 add-least : tie.Need-add-least
-add-least c = omega (arith, c .last-using .ensures, last-small (c .before .before .before .args .basis) (c .before .before .before .args .place))
+add-least c = let j = c .before .before .before .args .place in omega (arith, div-le-self j (c .stride-of .result))
 
 least-requires : tie.Need-least-requires
 least-requires c κs = search needs
@@ -44,21 +40,29 @@ enum-told-3 c = search needs
 least-requires-3 : tie.Need-least-requires-3
 least-requires-3 c κs = search needs
 
+-- the definition at an arm's edit
+told : (s : tie.Start) (e : Edit) → s .args .edit ≡ e → pastFresh e (s .args .basis) (s .args .place) (s .args .spans) ≡ pastFresh (s .args .edit) (s .args .basis) (s .args .place) (s .args .spans)
+told s e is = ap (λ d. pastFresh d (s .args .basis) (s .args .place) (s .args .spans)) (sym is)
+
 returns : tie.Need-returns
-returns c = c .least .ensures ∙ ap (λ (n : ℕ). min (n + 1) (c .before .before .before .before .args .spans)) (c .before .last-using .ensures) ∙ sym (ap (λ e. pastFresh e (c .before .before .before .before .args .basis) (c .before .before .before .before .args .place) (c .before .before .before .before .args .spans)) (c .before .before .enum-told .given .1))
+returns c =
+    let t = c .before .before in
+    let s = t .before .before in
+    c .least .ensures ∙ ap (λ (d : ℕ). min (s .args .place / d + 1) (s .args .spans)) (c .before .stride-of .ensures) ∙ told s _ (t .enum-told .given .1)
 
 returns-2 : tie.Need-returns-2
-returns-2 c = c .least2 .ensures ∙ sym (ap (λ e. pastFresh e (c .before .before .before .args .basis) (c .before .before .before .args .place) (c .before .before .before .args .spans)) (c .before .enum-told2 .given .1))
+returns-2 c = let t = c .before in c .least2 .ensures ∙ told (t .before .before) _ (t .enum-told2 .given .1)
 
 returns-3 : tie.Need-returns-3
-returns-3 c = c .least3 .ensures ∙ sym (ap (λ e. pastFresh e (c .before .before .before .args .basis) (c .before .before .before .args .place) (c .before .before .before .args .spans)) (c .before .enum-told3 .given .1))
+returns-3 c = let t = c .before in c .least3 .ensures ∙ told (t .before .before) _ (t .enum-told3 .given .1)
 
 pub past-fresh-spec : {M : Type 1} → statement M
 past-fresh-spec =
     tie.close
     (tie.spec
     enum-told
-    last-using-requires
+    stride-of-requires
+    div-least
     add-least
     least-requires
     enum-told-2

@@ -27,24 +27,24 @@ past-fresh-requires c κs = search needs
 steps-requires : tie.Need-steps-requires
 steps-requires c κs = search needs
 
--- a span has at most 128 numbers
-per-span-small : (k : ℕ) → k ≤ deepest → perSpan k ≤ 128
+-- a span has no more numbers than at the deepest depth
+per-span-small : (k : ℕ) → k ≤ deepest → perSpan k ≤ perSpan deepest
 per-span-small k h = mul-le-mul (le-refl 2) (pow-mono {i = k} {j = deepest} h)
 
 -- twice the steps are a span's numbers
-stride : (c : tie.After-steps) → 2 * c .steps .result ≡ perSpan (c .before .before .before .before .args .plan .depth)
-stride c = ap (λ (n : ℕ). 2 * n) (c .steps .ensures)
+width : (c : tie.After-steps) → 2 * c .steps .result ≡ perSpan (c .before .before .before .before .args .plan .depth)
+width c = ap (λ (n : ℕ). 2 * n) (c .steps .ensures)
 
 mul-carry : tie.Need-mul-carry
-mul-carry c = let s = c .before .before .before .before in omega (arith, stride c, per-span-small (s .args .plan .depth) (s .pre .0 .0))
+mul-carry c = let s = c .before .before .before .before in omega (arith, width c, per-span-small (s .args .plan .depth) (s .pre .0 .0))
 
 carry-requires : tie.Need-carry-requires
 carry-requires c κs =
     let s = c .before .before .before .before in
     let a = s .args in
     let p = a .plan in (
-      (s .pre .1 .0 .few, omega (arith, stride c, per-span-small (p .depth) (s .pre .0 .0))),
-      subst (λ (w : ℕ). Carriable (a .edit) (c .before .before .past-fresh .result) (p .spans) w (length (a .points .now))) (sym (stride c))
+      (s .pre .1 .0 .few, omega (arith, width c, per-span-small (p .depth) (s .pre .0 .0))),
+      subst (λ (w : ℕ). Carriable (a .edit) (c .before .before .past-fresh .result) (p .spans) w (length (a .points .now))) (sym (width c))
           (subst (λ (n : ℕ). Carriable (a .edit) n (p .spans) (perSpan (p .depth)) (length (a .points .now))) (sym (c .before .before .past-fresh .ensures)) (s .pre .1 .1 .1)),
     )
 
@@ -75,7 +75,7 @@ returns c =
     let first = t .before .before .before .before .first-fresh .result in
     let past = t .before .before .before .past-fresh .result in
     c .before .rework .ensures
-    ∙ ap (λ l. spans l first past) (t .carry .ensures ∙ ap (λ (v : ℕ). carry v past) (stride (t .before)))
+    ∙ ap (λ l. spans l first past) (t .carry .ensures ∙ ap (λ (v : ℕ). carry v past) (width (t .before)))
     ∙ ap (λ (n : ℕ). spans (carry w past) n past) (t .before .before .before .before .first-fresh .ensures)
     ∙ ap (λ (n : ℕ). spans (carry w n) (firstFresh (a .edit) (p .basis) (a .place)) n) (t .before .before .before .past-fresh .ensures)
     ∙ worked (a .edit) (p .basis) (p .depth) (a .place) (p .spans) (a .controls .now) lent (s .pre .0 .2) (s .pre .1 .1 .0)

@@ -1,0 +1,19 @@
+-- The stride of a basis is from 1 to 3: all that counts and places need to know of a basis.
+use mathlib.Core.Path.{_≡_}
+use Prim.Native.Nat.{ℕ, suc, _+_, _≤_}
+use native.Mathlib.Nat.{mul-suc}
+use native.Mathlib.Omega.{arith}
+use Rattle.curve.specs.declared.Basis.{Basis}
+use Rattle.curve.specs.declared.Basis.the-variants.{Bezier, BSpline, Cardinal, Hermite}
+use Rattle.curve.specs.Span.{stride, firstRecord}
+
+pub stride-bounds : (b : Basis) → (1 ≤ stride b) × (stride b ≤ 3)
+stride-bounds Bezier = (omega arith, omega arith)
+stride-bounds BSpline = (omega arith, omega arith)
+stride-bounds Cardinal = (omega arith, omega arith)
+stride-bounds Hermite = (omega arith, omega arith)
+
+-- the next span's first record is a stride on
+pub next-first : (b : Basis) (s : ℕ) → firstRecord b (suc s) ≡ firstRecord b s + stride b
+unfolding firstRecord
+next-first b s = mul-suc (stride b) s
