@@ -10,7 +10,7 @@ use lib.IntN.{ℤ, pos}
 use lib.ListN.{getD, length, set, length-set}
 use lib.Seq.{getD-set-same, getD-set-other}
 use Rattle.shape.proofs.Tests.{either}
-use Rattle.spans.specs.Numbers.{filled}
+use Rattle.spans.specs.Filled.{filled}
 use Rattle.spans.proofs.Filled.{length-filled, in-filled, before-filled, past-filled, is-filled}
 use Rattle.asked.specs.declared.Edit.the-variants.{Move, Insert, Remove}
 use Rattle.asked.specs.Edits.{choose, controlAt, asked}

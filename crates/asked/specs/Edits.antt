@@ -9,7 +9,8 @@ use Rattle.curve.specs.declared.Basis.{Basis}
 use Rattle.curve.specs.Limits.{beyond, limit}
 use Rattle.curve.specs.Span.{stride}
 use Rattle.shape.specs.Shape.{spansOf, leastRecords, mostRecords}
-use Rattle.spans.specs.Numbers.{number, perSpan, filled}
+use Rattle.spans.specs.Numbers.{number, perSpan}
+use Rattle.spans.specs.Filled.{filled}
 use Rattle.asked.specs.declared.Edit.{Edit}
 use Rattle.asked.specs.declared.Edit.the-variants.{Move, Insert, Remove}
 

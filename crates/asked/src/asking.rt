@@ -3,7 +3,7 @@ ghost use mathlib.Core.Path.{_≡_};
 ghost use Prim.Native.Nat.{_+_, _*_, _-_, _≤_, _<_};
 ghost use lib.ListN.{length, set};
 ghost use Rattle.asked.specs.Edits.{asked, countAfter};
-ghost use Rattle.asked.specs.Ready.{Askable};
+ghost use Rattle.asked.specs.Inner.{Askable};
 use crate::Edit;
 use crate::carrying::carry_back;
 use crate::carrying::carry_on;

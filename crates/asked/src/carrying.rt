@@ -3,7 +3,7 @@ ghost use mathlib.Core.Path.{_≡_};
 ghost use Prim.Native.Nat.{_+_, _-_, _≤_};
 ghost use lib.IntN.{pos};
 ghost use lib.ListN.{getD, length};
-ghost use Rattle.spans.specs.Numbers.{filled};
+ghost use Rattle.spans.specs.Filled.{filled};
 
 // Each number from `from` up to `to` becomes the one `by` places before it; the highest first, so that none is overwritten before it is read.
 pub fn carry_on(list: &mut [i32], from: usize, to: usize, by: usize)

@@ -11,7 +11,7 @@ use lib.Dec.{eqb, leb, ltb}
 use lib.IntN.{ℤ, pos, _+ℤ_, _-ℤ_, _*ℤ_}
 use Rattle.whole.proofs.Ring.{Ex, var, _⊕_, _⊖_, _⊗_, ev, solve}
 use Rattle.curve.specs.declared.Four.{Four}
-use Rattle.curve.specs.Numbers.{dot}
+use Rattle.curve.specs.Four.{dot}
 use Rattle.curve.specs.Published.{cubic, bSplineMatrix}
 use Rattle.curve.specs.BSpline.{order}
 use Rattle.curve.proofs.Reflect.{num, p, i, h, values, cubicᵉ}

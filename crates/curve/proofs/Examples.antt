@@ -3,7 +3,7 @@ use mathlib.Core.Path.{_≡_, refl}
 use lib.IntN.{pos}
 use Rattle.whole.specs.Nearest.{floor, nearest}
 use Rattle.curve.specs.declared.Basis.the-variants.{BSpline}
-use Rattle.curve.specs.Numbers.{four, dot}
+use Rattle.curve.specs.Four.{four, dot}
 use Rattle.curve.specs.Published.{weights}
 use Rattle.curve.specs.Span.{sixfoldControls, weighted, point}
 

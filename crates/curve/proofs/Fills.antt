@@ -12,7 +12,7 @@ use lib.IntN.{ℤ}
 use lib.ListN.{length, set, getD, length-set}
 use lib.Signed.{mag}
 use lib.Seq.{sets, set-comm, getD-set-same, getD-set-other}
-use Rattle.curve.specs.Numbers.{tab}
+use Rattle.curve.specs.Tab.{tab}
 use Rattle.curve.proofs.Tab.{length-tab, tab-append}
 use Rattle.whole.proofs.Writes.{sets-append}
 

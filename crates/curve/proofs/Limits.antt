@@ -16,7 +16,7 @@ use Rattle.whole.proofs.Fit.{Bounded, size, ev-size}
 use Rattle.curve.specs.declared.Four.{Four}
 use Rattle.curve.specs.declared.Basis.{Basis}
 use Rattle.curve.specs.declared.Basis.the-variants.{Bezier, BSpline, Cardinal, Hermite}
-use Rattle.curve.specs.Numbers.{four, dot}
+use Rattle.curve.specs.Four.{four, dot}
 use Rattle.curve.specs.Published.{weights}
 use Rattle.curve.specs.Span.{sixfold, sixfoldControls, weighted, divisor, point}
 use Rattle.curve.specs.Limits.{limit, reach, Inside, AtMost, all, Box}

@@ -4,7 +4,8 @@ use Prim.Native.Nat.{ℕ}
 use lib.IntN.{ℤ, pos, _+ℤ_, _-ℤ_, _*ℤ_}
 use Rattle.whole.proofs.Ring.{Ex, lit, _⊕_, _⊖_, _⊗_, ev, Same, solve}
 use Rattle.curve.specs.declared.Four.{Four}
-use Rattle.curve.specs.Numbers.{neg, four, dot}
+use Rattle.curve.specs.Numbers.{neg}
+use Rattle.curve.specs.Four.{four, dot}
 use Rattle.curve.specs.Published.{Matrix, Ends, cubic, tangent, secondDerivative, bezierMatrix, hermiteMatrix, cardinalMatrix, bSplineMatrix, weights, blending}
 use Rattle.curve.proofs.Reflect.{Fourᵉ, fourᵉ, litᵉ, num, p, i, h, values, dotᵉ, cubicᵉ, tangentᵉ, secondDerivativeᵉ, weightedᵉ}
 

@@ -13,7 +13,7 @@ use Rattle.whole.proofs.Ring.{var, _⊗_, solve}
 use Rattle.curve.specs.declared.Four.{Four}
 use Rattle.curve.specs.declared.Basis.{Basis}
 use Rattle.curve.specs.declared.Basis.the-variants.{Bezier, BSpline, Cardinal, Hermite}
-use Rattle.curve.specs.Numbers.{dot}
+use Rattle.curve.specs.Four.{dot}
 use Rattle.curve.specs.Published.{published, denominator, cubic, weights, bezierMatrix, hermiteMatrix, cardinalMatrix, bSplineMatrix}
 use Rattle.curve.specs.Span.{stride, sixfold, firstRecord, recordsFrom, records, sixfoldControls, weighted, divisor, point}
 use Rattle.curve.proofs.Stride.{next-first}

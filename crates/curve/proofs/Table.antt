@@ -9,7 +9,7 @@ use lib.IntN.{ℤ, pos, natAbs, _+ℤ_, _*ℤ_}
 use Rattle.whole.proofs.Ring.{var, lit, _⊕_, _⊗_, solve}
 use Rattle.whole.proofs.Fit.{ev-size}
 use Rattle.curve.specs.declared.Four.{Four}
-use Rattle.curve.specs.Numbers.{dot}
+use Rattle.curve.specs.Four.{dot}
 use Rattle.curve.specs.Published.{weights}
 use Rattle.curve.specs.Span.{weighted}
 use Rattle.curve.specs.Ways.{deepest, mostBits, row, nth, tableEntry}

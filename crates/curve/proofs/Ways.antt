@@ -12,9 +12,11 @@ use Rattle.whole.proofs.Ring.{Ex, var, lit, _⊕_, _⊖_, _⊗_, solve}
 use Rattle.whole.proofs.Fit.{Bounded, ev-size}
 use Rattle.curve.specs.declared.Four.{Four}
 use Rattle.curve.specs.declared.Differences.{Differences}
-use Rattle.curve.specs.Numbers.{dot, tab}
+use Rattle.curve.specs.Tab.{tab}
+use Rattle.curve.specs.Four.{dot}
 use Rattle.curve.specs.Published.{weights, bezierMatrix}
-use Rattle.curve.specs.Limits.{Inside, widest, Small}
+use Rattle.curve.specs.Limits.{Inside}
+use Rattle.curve.specs.Inner.{widest, Small}
 use Rattle.curve.specs.Span.{weighted}
 use Rattle.curve.specs.Ways.{deepest, byWeights, byHalving, byDifferences, leftHalf, rightHalf, starts, differences, advance, values}
 use Rattle.curve.proofs.Tab.{tab-append, tab-same}

@@ -4,3 +4,6 @@ pub mod BSpline
 pub mod Span
 pub mod Ways
 pub mod Limits
+pub mod Four
+pub mod Tab
+pub mod Inner

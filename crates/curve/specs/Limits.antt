@@ -1,12 +1,11 @@
 -- How far controls and points may lie from zero, in micrometres (document 01).
 use mathlib.Core.Bool.{Bool}
-use Prim.Native.Nat.{ℕ, _*_, _^_, _≤_}
+use Prim.Native.Nat.{ℕ, _≤_}
 use lib.Dec.{ltb}
 use lib.IntN.{ℤ, natAbs}
 use lib.Signed.{_≤ℤ_}
 use Rattle.curve.specs.declared.Four.{Four}
-use Rattle.curve.specs.declared.Differences.{Differences}
-use Rattle.curve.specs.Numbers.{four}
+use Rattle.curve.specs.Four.{four}
 
 -- A control coordinate is from -4,000,000 to 4,000,000.
 abbrev pub limit : ℕ
@@ -41,14 +40,3 @@ all z = four z z z z
 pub record Box (lo hi : ℤ) (p : Four) : Type 0 where
   pub low : AtMost (all lo) p
   pub high : AtMost p (all hi)
-
--- Sixfold controls of records inside the limit are within this: eight times the limit, by the cardinal and Hermite rows.
-abbrev pub widest : ℕ
-widest = 8 * limit
-
--- A sum and its differences that are far from the ends of 64 bits.
-pub record Small (s : Differences) : Type 0 where
-  pub value : natAbs (s .value) ≤ 2 ^ 61
-  pub first : natAbs (s .first) ≤ 2 ^ 61
-  pub second : natAbs (s .second) ≤ 2 ^ 61
-  pub third : natAbs (s .third) ≤ 2 ^ 61

@@ -7,7 +7,8 @@ use lib.IntN.{ℤ, pos, _+ℤ_, _-ℤ_, _*ℤ_}
 use Rattle.curve.specs.declared.Four.{Four}
 use Rattle.curve.specs.declared.Basis.{Basis}
 use Rattle.curve.specs.declared.Basis.the-variants.{Bezier, BSpline, Cardinal, Hermite}
-use Rattle.curve.specs.Numbers.{neg, four, dot}
+use Rattle.curve.specs.Numbers.{neg}
+use Rattle.curve.specs.Four.{four, dot}
 
 -- ---- the matrix form, 000 (8): C(t) = [t^3 t^2 t 1] M G
 

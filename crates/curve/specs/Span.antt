@@ -7,7 +7,7 @@ use Rattle.whole.specs.Nearest.{nearest}
 use Rattle.curve.specs.declared.Four.{Four}
 use Rattle.curve.specs.declared.Basis.{Basis}
 use Rattle.curve.specs.declared.Basis.the-variants.{Bezier, BSpline, Cardinal, Hermite}
-use Rattle.curve.specs.Numbers.{four, dot}
+use Rattle.curve.specs.Four.{four, dot}
 use Rattle.curve.specs.Published.{weights}
 
 -- The one number of a basis that counts and places follow from (document 01, the table of bases): how many records after a span's first the next span's first is.

@@ -4,7 +4,8 @@ use Prim.Native.Nat.{ℕ, zero, suc, _*_, _-_, _/_, _%_, _^_}
 use lib.IntN.{ℤ, pos, _+ℤ_, _*ℤ_}
 use Rattle.curve.specs.declared.Four.{Four}
 use Rattle.curve.specs.declared.Differences.{Differences}
-use Rattle.curve.specs.Numbers.{four, dot, tab}
+use Rattle.curve.specs.Tab.{tab}
+use Rattle.curve.specs.Four.{four, dot}
 use Rattle.curve.specs.Published.{weights, bezierMatrix}
 use Rattle.curve.specs.Span.{weighted}
 

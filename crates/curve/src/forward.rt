@@ -2,7 +2,8 @@
 ghost use mathlib.Core.Path.{_≡_};
 ghost use Prim.Native.Nat.{_≤_, _^_};
 ghost use lib.IntN.{natAbs};
-ghost use Rattle.curve.specs.Limits.{Inside, widest, Small};
+ghost use Rattle.curve.specs.Limits.{Inside};
+ghost use Rattle.curve.specs.Inner.{widest, Small};
 ghost use Rattle.curve.specs.Ways.{deepest, differences, advance};
 use crate::Differences;
 use crate::Four;

@@ -2,7 +2,8 @@
 ghost use mathlib.Core.Path.{_≡_};
 ghost use Prim.Native.Nat.{_≤_, _<_, _^_};
 ghost use lib.IntN.{pos};
-ghost use Rattle.curve.specs.Limits.{Inside, widest};
+ghost use Rattle.curve.specs.Limits.{Inside};
+ghost use Rattle.curve.specs.Inner.{widest};
 ghost use Rattle.curve.specs.Span.{weighted};
 ghost use Rattle.curve.specs.Ways.{deepest, tableEntry, tableSize};
 use crate::Four;

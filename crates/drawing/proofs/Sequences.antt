@@ -32,7 +32,7 @@ use Rattle.shape.specs.declared.Checked.the-variants.{Fine}
 use Rattle.drawing.specs.declared.Stepped.the-variants.{Refused}
 use Rattle.drawing.specs.Drawing.{numbers, at, opens, same, line, added, grown, next, flat}
 use Rattle.drawing.specs.Reading.{reached, stateRows, numberRows, spaceRows, rows, accepts, stepped, stateAfter}
-use Rattle.drawing.specs.Parts.{judgeState}
+use Rattle.drawing.specs.Inner.{judgeState}
 use Rattle.drawing.proofs.Tables.{or-true-right, none-fine, fine-open, fine-empty, fine-begun, reached-facts}
 use Rattle.drawing.proofs.Same.{same-is}
 use Rattle.drawing.proofs.Records.{Kept, opened, all-more, AllInside}

@@ -27,7 +27,7 @@ use Rattle.drawing.specs.declared.Placed.the-variants.{At, Amiss}
 use Rattle.drawing.specs.declared.Stepped.the-variants.{Refused}
 use Rattle.drawing.specs.Drawing.{numbers, at, opens, added, startAfter, closedAfter}
 use Rattle.drawing.specs.Reading.{reached, miscounted, outOfTurn, stateRows, numberRow, numberRows, spaceRows, stepped}
-use Rattle.drawing.specs.Parts.{extended, judgeState, judgeNumber, judgeControl, extends, goesOn}
+use Rattle.drawing.specs.Inner.{extended, judgeState, judgeNumber, judgeControl, extends, goesOn}
 
 -- ---- tests
 

@@ -1,4 +1,4 @@
 pub mod Drawing
 pub mod Reading
-pub mod Parts
 pub mod Sequences
+pub mod Inner

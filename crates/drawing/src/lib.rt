@@ -12,7 +12,7 @@ ghost use Rattle.shape.specs.declared.Checked.the-variants.{Fine};
 ghost use Rattle.drawing.specs.declared.Step.the-variants.{Move, Line, Cubic, Close};
 ghost use Rattle.drawing.specs.Drawing.{empty, opens};
 ghost use Rattle.drawing.specs.Reading.{miscounted, astray, outOfTurn, stepped};
-ghost use Rattle.drawing.specs.Parts.{judgeState, extends, goesOn};
+ghost use Rattle.drawing.specs.Inner.{judgeState, extends, goesOn};
 use controls::is_same;
 use controls::put;
 use controls::put_three;

@@ -1,7 +1,7 @@
 // The numbers of a step: each is micrometres, or refused with its index.
 ghost use mathlib.Core.Path.{_≡_};
 ghost use Prim.Native.Nat.{_≤_};
-ghost use Rattle.drawing.specs.Parts.{judgeNumber, judgeControl};
+ghost use Rattle.drawing.specs.Inner.{judgeNumber, judgeControl};
 use crate::Control;
 use crate::Numbered;
 use crate::Placed;

@@ -12,7 +12,7 @@ use Rattle.shape.proofs.Refusals.{judge-none, none-earlier, none-later, good-pl
 use Rattle.outline.specs.Outline.{points}
 use Rattle.asked.specs.declared.Edit.{Edit}
 use Rattle.edit.specs.Reading.{shapeAfter, planAfter, askRows, judgeAsk, roomRows, judgeRoom, editRows}
-use Rattle.edit.specs.Ready.{Editable}
+use Rattle.edit.specs.Inner.{Editable}
 use Rattle.edit.proofs.Rows.{editable, plan-after}
 use Rattle.edit.proofs.Exactly.{callRows}
 

@@ -20,25 +20,25 @@ use Rattle.shape.specs.declared.Refusal.{Refusal}
 use Rattle.shape.specs.declared.Judged.the-variants.{Sound, Unsound}
 use Rattle.shape.specs.declared.Checked.{Checked}
 use Rattle.shape.specs.declared.Checked.the-variants.{Fine, Bad}
-use Rattle.shape.specs.Good.{Good, Lent}
+use Rattle.shape.specs.Inner.{Good, Lent}
 use Rattle.shape.specs.Shape.{spansOf, recordsOf, leastRecords, mostRecords}
 use Rattle.shape.specs.Refusals.{Row, NoRow, judge, judgeShape, planOf, controlRows, pointRows}
 use Rattle.shape.proofs.Tests.{passes, or-false, either}
 use Rattle.shape.proofs.Refusals.{judge-first, judge-none, sound, unsound, sound-plan, sound-facts, rows-first, rows-none, rows-bad, rows-fine, none-later, row-fails, lent-facts}
 use Rattle.shape.proofs.Spans.{spans-records, spans-below}
-use Rattle.spans.specs.Numbers.{perSpan, filled}
+use Rattle.spans.specs.Numbers.{perSpan}
+use Rattle.spans.specs.Filled.{filled}
 use Rattle.spans.proofs.Filled.{length-filled, in-filled}
 use Rattle.outline.specs.Outline.{points}
 use Rattle.outline.proofs.Draws.{all-numbers, drawable}
 use Rattle.asked.specs.declared.Edit.{Edit}
 use Rattle.asked.specs.declared.Edit.the-variants.{Move, Insert, Remove}
 use Rattle.asked.specs.Edits.{countAfter, spansAfter, offered, inRange, atTheEnd, newOutside, choose, controlAt, asked, pastFresh}
-use Rattle.asked.specs.Ready.{Askable}
+use Rattle.asked.specs.Inner.{Askable}
 use Rattle.edit.specs.declared.Edited.the-variants.{Refused}
 use Rattle.asked.proofs.Splines.{spline-records}
-use Rattle.edit.specs.Carried.{Carriable}
+use Rattle.edit.specs.Inner.{Carriable, Editable, Workable, Vetted}
 use Rattle.edit.specs.Reading.{shapeAfter, planAfter, askRows, judgeAsk, newRows, roomRows, judgeRoom, editRows, accepts, edits}
-use Rattle.edit.specs.Ready.{Editable, Workable, Vetted}
 
 -- ---- the new shape
 

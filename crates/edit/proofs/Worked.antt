@@ -16,13 +16,14 @@ use Rattle.curve.specs.declared.Basis.{Basis}
 use Rattle.curve.specs.Span.{coordinate, records, point}
 use Rattle.curve.proofs.Span.{joint}
 use Rattle.shape.proofs.Tests.{passes, either}
-use Rattle.spans.specs.Numbers.{number, perSpan, filled}
+use Rattle.spans.specs.Numbers.{number, perSpan}
+use Rattle.spans.specs.Filled.{filled}
 use Rattle.spans.proofs.Filled.{length-filled, in-filled, before-filled, past-filled, none-filled, is-filled}
 use Rattle.spans.proofs.Numbers.{per-span, located, end-number}
 use Rattle.asked.specs.declared.Edit.{Edit}
 use Rattle.asked.specs.Edits.{Run, firstFresh, pastFresh, runOf, carriedFrom, isFresh, pointAt}
 use Rattle.asked.proofs.Run.{past-most, first-place, none-first, later-carried, fresh-bounds, bounds-fresh}
-use Rattle.edit.specs.Carried.{runLength}
+use Rattle.edit.specs.Inner.{runLength}
 
 -- ---- runs of spans
 

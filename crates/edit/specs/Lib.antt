@@ -1,4 +1,3 @@
-pub mod Carried
 pub mod Reading
-pub mod Ready
 pub mod Cases
+pub mod Inner

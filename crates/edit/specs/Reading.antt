@@ -13,7 +13,7 @@ use Rattle.shape.specs.declared.Checked.the-variants.{Fine, Bad}
 use Rattle.curve.specs.declared.Basis.{Basis}
 use Rattle.shape.specs.Refusals.{Row, row, judge, shapeRows, controlRows, pointRows, planOf}
 use Rattle.shape.specs.Exactly.{Told, Refuses, Accepts}
-use Rattle.spans.specs.Numbers.{filled}
+use Rattle.spans.specs.Filled.{filled}
 use Rattle.outline.specs.Outline.{points}
 use Rattle.asked.specs.declared.Edit.{Edit}
 use Rattle.edit.specs.declared.Change.{Change}

@@ -3,7 +3,7 @@ ghost use mathlib.Core.Path.{_≡_};
 ghost use Prim.Native.Nat.{_≤_};
 ghost use Rattle.shape.specs.Shape.{mostRecords, mostPoints};
 ghost use Rattle.edit.specs.Reading.{judgeAsk, judgeRoom};
-ghost use Rattle.edit.specs.Ready.{Vetted};
+ghost use Rattle.edit.specs.Inner.{Vetted};
 use asked::Edit;
 use asked::counts::count_after;
 use asked::counts::greatest;

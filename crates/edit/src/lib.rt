@@ -13,7 +13,7 @@ ghost use lib.ListN.{length};
 ghost use Rattle.whole.specs.Outcome.{outcome};
 ghost use Rattle.shape.specs.Shape.{mostRecords};
 ghost use Rattle.edit.specs.Reading.{accepts, change, edits};
-ghost use Rattle.edit.specs.Ready.{Workable};
+ghost use Rattle.edit.specs.Inner.{Workable};
 use asked::asking::ask;
 use asked::counts::count_after;
 use asked::counts::first_fresh;

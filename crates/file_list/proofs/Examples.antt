@@ -3,7 +3,8 @@ use mathlib.Core.Path.{_≡_, refl}
 use mathlib.Core.List.{List, [], _∷_}
 use Prim.Native.Nat.{ℕ}
 use Rattle.whole.specs.Nearest.{floor, nearest}
-use Rattle.curve.specs.Numbers.{dot, tab}
+use Rattle.curve.specs.Tab.{tab}
+use Rattle.curve.specs.Four.{dot}
 use Rattle.curve.specs.Published.{weights}
 use Rattle.curve.specs.Span.{coordinate, firstRecord, recordsFrom, sixfoldControls, weighted, point}
 use Rattle.shape.specs.Shape.{basisOf, spansOf, recordsOf, allowed, pointsOf}

@@ -10,7 +10,7 @@ use lib.Dec.{ltb, eqb}
 use lib.IntN.{ℤ}
 use lib.ListN.{length, take, drop}
 use lib.Seq.{sets, sets-eq, take-at}
-use Rattle.curve.specs.Numbers.{tab}
+use Rattle.curve.specs.Tab.{tab}
 use Rattle.curve.proofs.Tab.{length-tab}
 use Rattle.shape.specs.declared.Refusal.{Refusal}
 use Rattle.shape.specs.Shape.{mostRecords}

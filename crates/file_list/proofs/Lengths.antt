@@ -6,7 +6,7 @@ use Prim.Native.Nat.{ℕ, zero, suc, _+_, _*_, _/_, _^_, _≤_, _<_}
 use native.Mathlib.Omega.{arith}
 use lib.IntN.{ℤ, pos, negsuc, natAbs}
 use lib.ListN.{length, length-append}
-use Rattle.curve.specs.Numbers.{tab}
+use Rattle.curve.specs.Tab.{tab}
 use Rattle.listing.specs.Decimal.{natural, decimal}
 use Rattle.listing.specs.Listing.{space, newline, heading, pointLine, pointLines, outlineText, refusalText}
 use Rattle.listing.proofs.Digits.{at-most}

@@ -13,7 +13,7 @@ use Rattle.curve.specs.Ways.{deepest}
 use Rattle.curve.proofs.Tab.{length-tab}
 use Rattle.shape.specs.declared.Shape.{Shape}
 use Rattle.shape.specs.declared.Plan.{Plan}
-use Rattle.shape.specs.Good.{Good, Lent}
+use Rattle.shape.specs.Inner.{Good, Lent}
 use Rattle.shape.specs.Shape.{pointsOf}
 use Rattle.shape.specs.Refusals.{NoRow, shapeRows, listRows, planOf}
 use Rattle.shape.proofs.Refusals.{none-both, none-earlier, none-later, row-fails, good-plan, none-facts}

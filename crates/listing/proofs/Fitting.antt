@@ -7,7 +7,7 @@ use lib.ListN.{length}
 use lib.Seq.{sets-eq}
 use Rattle.whole.specs.Outcome.{outcome}
 use Rattle.listing.specs.declared.Put.the-variants.{End, Full}
-use Rattle.listing.specs.Inside.{Laid}
+use Rattle.listing.specs.Inner.{Laid}
 use Rattle.listing.specs.Written.{written}
 
 pub stands : {l m : List ℕ} {at end : ℕ} {text : List ℕ} → Laid l at text end m → at + length text ≤ length l → outcome (End end) m ≡ written l at text

@@ -7,7 +7,7 @@ use native.Mathlib.Omega.{arith}
 use lib.ListN.{length, set, length-append}
 use lib.Seq.{sets, set-comm, length-sets, append-snoc}
 use Rattle.whole.proofs.Writes.{sets-append}
-use Rattle.listing.specs.Inside.{Laid}
+use Rattle.listing.specs.Inner.{Laid}
 
 later : (i : ℕ) (x : ℕ) (xs : List ℕ) → i + length (x ∷ xs) ≡ suc i + length xs
 later i x xs = omega arith

@@ -1,4 +1,4 @@
 pub mod Decimal
-pub mod Inside
 pub mod Listing
 pub mod Written
+pub mod Inner

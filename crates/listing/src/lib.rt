@@ -3,7 +3,7 @@
 //
 // No public call has a `requires`. Each writes its text whole from a place on and answers the place
 // just past it; where the text does not fit it answers `Full` and changes nothing.
-ghost use Rattle.listing.specs.Inside.{Room};
+ghost use Rattle.listing.specs.Inner.{Room};
 
 mod number;
 mod outline;

@@ -6,7 +6,7 @@ ghost use lib.IntN.{natAbs};
 ghost use lib.ListN.{length};
 ghost use Rattle.whole.specs.Outcome.{outcome};
 ghost use Rattle.listing.specs.Decimal.{natural, decimal};
-ghost use Rattle.listing.specs.Inside.{Laid, Width};
+ghost use Rattle.listing.specs.Inner.{Laid, Width};
 ghost use Rattle.listing.specs.Written.{written};
 use crate::Put;
 use crate::has_room;

@@ -4,7 +4,7 @@ ghost use mathlib.Core.Path.{_≡_};
 ghost use lib.ListN.{length, take};
 ghost use Rattle.whole.specs.Outcome.{outcome};
 ghost use Rattle.listing.specs.Listing.{heading, pointLine, pointLines, listed};
-ghost use Rattle.listing.specs.Inside.{Laid, Room};
+ghost use Rattle.listing.specs.Inner.{Laid, Room};
 use crate::Put;
 use crate::has_room;
 use crate::number::decimal_width;

@@ -12,12 +12,12 @@ use Rattle.shape.specs.declared.Plan.{Plan}
 use Rattle.shape.specs.declared.Refusal.{Refusal}
 use Rattle.shape.specs.declared.Judged.the-variants.{Sound, Unsound}
 use Rattle.shape.specs.declared.Checked.the-variants.{Fine, Bad}
-use Rattle.shape.specs.Good.{Good, Lent}
+use Rattle.shape.specs.Inner.{Good, Lent}
 use Rattle.shape.specs.Refusals.{judgeShape, judgeLists, planOf}
 use Rattle.shape.proofs.Refusals.{judge-first, judge-none, sound, unsound, sound-plan, bad-first, fine-none, good-records, lent-inside}
 use Rattle.shape.specs.Shape.{pointsOf}
 use Rattle.spans.specs.Numbers.{perSpan}
-use Rattle.spans.specs.Ready.{Drawable}
+use Rattle.spans.specs.Inner.{Drawable}
 use Rattle.outline.specs.declared.Drawn.the-variants.{Refused}
 use Rattle.outline.specs.Outline.{points, planRows, accepts, drawsPlan, draws}
 

@@ -15,7 +15,7 @@ use lib.Pow.{pow-pos}
 use lib.Seq.{ext-getD, getD-take, getD-drop}
 use Rattle.whole.specs.Outcome.{outcome}
 use Rattle.curve.specs.declared.Basis.{Basis}
-use Rattle.curve.specs.Numbers.{tab}
+use Rattle.curve.specs.Tab.{tab}
 use Rattle.curve.specs.Span.{coordinate, records, point}
 use Rattle.curve.proofs.Span.{joint}
 use Rattle.curve.proofs.Tab.{length-tab, getD-tab}

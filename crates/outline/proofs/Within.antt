@@ -14,7 +14,7 @@ use Rattle.curve.specs.Span.{firstRecord, coordinate, records}
 use Rattle.curve.proofs.Limits.{point-size}
 use Rattle.shape.specs.declared.Shape.{Shape}
 use Rattle.shape.specs.declared.Plan.{Plan}
-use Rattle.shape.specs.Good.{Good, Lent}
+use Rattle.shape.specs.Inner.{Good, Lent}
 use Rattle.shape.specs.Refusals.{shapeRows, planOf}
 use Rattle.shape.specs.Shape.{pointsOf}
 use Rattle.shape.proofs.Refusals.{none-earlier, none-later, good-plan, good-records, none-facts, lent-inside}

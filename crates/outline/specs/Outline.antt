@@ -9,7 +9,8 @@ use Rattle.shape.specs.declared.Plan.{Plan}
 use Rattle.shape.specs.Refusals.{Row, judge, shapeRows, listRows, planOf}
 use Rattle.shape.specs.Shape.{pointsOf}
 use Rattle.shape.specs.Exactly.{Told, Refuses, Accepts}
-use Rattle.spans.specs.Numbers.{number, filled}
+use Rattle.spans.specs.Numbers.{number}
+use Rattle.spans.specs.Filled.{filled}
 use Rattle.outline.specs.declared.Drawn.{Drawn}
 use Rattle.outline.specs.declared.Drawn.the-variants.{Points, Refused}
 

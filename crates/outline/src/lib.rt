@@ -2,7 +2,7 @@
 ghost use mathlib.Core.Path.{_≡_};
 ghost use Prim.Native.Nat.{_+_, _*_};
 ghost use Rattle.whole.specs.Outcome.{outcome};
-ghost use Rattle.shape.specs.Good.{Good};
+ghost use Rattle.shape.specs.Inner.{Good};
 ghost use Rattle.outline.specs.Outline.{draws, drawsPlan};
 ghost use Rattle.outline.specs.View.{partOf, viewed};
 use shape::Checked;

@@ -22,7 +22,8 @@ use Rattle.whole.specs.Outcome.{Outcome, outcome}
 use Rattle.curve.specs.declared.Four.{Four}
 use Rattle.curve.specs.declared.Basis.the-variants.{Bezier}
 use Rattle.curve.specs.Limits.{Inside, limit}
-use Rattle.curve.specs.Numbers.{tab, dot}
+use Rattle.curve.specs.Tab.{tab}
+use Rattle.curve.specs.Four.{dot}
 use Rattle.curve.specs.Published.{weights}
 use Rattle.curve.specs.Span.{sixfold, divisor, weighted, sixfoldControls, point}
 use Rattle.curve.specs.Ways.{deepest}

@@ -6,7 +6,8 @@ use lib.IntN.{ℤ, pos, negsuc}
 use lib.Ieee.{Float, nan, fin, round}
 use lib.ListN.{replicate}
 use Rattle.whole.specs.Outcome.{outcome, refuses}
-use Rattle.curve.specs.Numbers.{dot, tab}
+use Rattle.curve.specs.Tab.{tab}
+use Rattle.curve.specs.Four.{dot}
 use Rattle.curve.specs.Published.{weights}
 use Rattle.curve.specs.Span.{coordinate, firstRecord, recordsFrom, weighted}
 use Rattle.shape.specs.Shape.{basisOf, spansOf, recordsOf, allowed, pointsOf}

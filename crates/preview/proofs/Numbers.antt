@@ -13,7 +13,7 @@ use Rattle.whole.proofs.Ring.{var, _⊗_, solve}
 use Rattle.curve.specs.declared.Four.{Four}
 use Rattle.curve.specs.declared.Basis.the-variants.{Bezier}
 use Rattle.curve.specs.Limits.{Inside, limit}
-use Rattle.curve.specs.Numbers.{tab}
+use Rattle.curve.specs.Tab.{tab}
 use Rattle.curve.specs.Span.{coordinate, firstRecord, recordsFrom, records, weighted}
 use Rattle.curve.specs.Ways.{deepest}
 use Rattle.curve.proofs.Powers.{cube, thrice}

@@ -20,7 +20,7 @@ use Rattle.shape.specs.declared.Refusal.{Refusal}
 use Rattle.shape.specs.declared.Checked.the-variants.{Fine, Bad}
 use Rattle.shape.specs.Shape.{basisOf, recordsOf, pointsOf}
 use Rattle.shape.specs.Refusals.{judge, judgeLists, listRows}
-use Rattle.shape.specs.Good.{Good, Lent}
+use Rattle.shape.specs.Inner.{Good, Lent}
 use Rattle.shape.proofs.Refusals.{judge-first, judge-none, judge-append, bad-first, fine-none, lent-inside}
 use Rattle.preview.specs.declared.Previewed.the-variants.{Drawn, Refused}
 use Rattle.preview.specs.Halving.{halved}

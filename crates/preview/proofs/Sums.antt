@@ -11,7 +11,7 @@ use lib.IntN.{ℤ, pos}
 use lib.Ieee.{Float}
 use Rattle.whole.proofs.Ring.{var, lit, _⊗_, solve}
 use Rattle.curve.specs.declared.Four.{Four}
-use Rattle.curve.specs.Numbers.{tab}
+use Rattle.curve.specs.Tab.{tab}
 use Rattle.curve.specs.Limits.{Inside}
 use Rattle.curve.specs.Span.{weighted}
 use Rattle.curve.specs.Ways.{leftHalf, rightHalf}

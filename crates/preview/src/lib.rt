@@ -8,7 +8,7 @@ ghost use Rattle.curve.specs.Span.{firstRecord};
 ghost use Rattle.curve.specs.Ways.{deepest};
 ghost use Rattle.shape.specs.Refusals.{judge};
 ghost use Rattle.shape.specs.Shape.{mostRecords, pointsOf};
-ghost use Rattle.shape.specs.Good.{Good};
+ghost use Rattle.shape.specs.Inner.{Good};
 ghost use Rattle.preview.specs.Halving.{control, pieces, spanPieces, halved};
 ghost use Rattle.preview.specs.Preview.{laterRows, accepts, previewing};
 use curve::Basis;

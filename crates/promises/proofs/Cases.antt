@@ -2,7 +2,8 @@
 use mathlib.Core.Path.{_≡_, refl}
 use mathlib.Core.List.{map}
 use Rattle.whole.specs.Nearest.{floor, nearest}
-use Rattle.curve.specs.Numbers.{dot, tab}
+use Rattle.curve.specs.Tab.{tab}
+use Rattle.curve.specs.Four.{dot}
 use Rattle.curve.specs.Published.{weights}
 use Rattle.curve.specs.Span.{firstRecord, coordinate, recordsFrom, sixfoldControls, weighted, point}
 use Rattle.shape.specs.Shape.{basisOf, recordsOf, spansOf, allowed, pointsOf}

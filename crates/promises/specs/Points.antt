@@ -5,7 +5,7 @@ use Prim.Native.Nat.{ℕ, _+_, _*_, _-_, _/_, _%_, _^_, min}
 use lib.IntN.{ℤ, pos}
 use Rattle.whole.specs.Nearest.{nearest}
 use Rattle.curve.specs.declared.Basis.{Basis}
-use Rattle.curve.specs.Numbers.{tab}
+use Rattle.curve.specs.Tab.{tab}
 use Rattle.curve.specs.Published.{published, denominator}
 use Rattle.curve.specs.Span.{coordinate, records}
 

@@ -5,7 +5,7 @@ use Prim.Native.Nat.{ℕ}
 use lib.IntN.{ℤ, pos, negsuc}
 use lib.ListN.{replicate}
 use Rattle.whole.specs.Outcome.{outcome, refuses}
-use Rattle.curve.specs.Numbers.{tab}
+use Rattle.curve.specs.Tab.{tab}
 use Rattle.curve.specs.Span.{coordinate}
 use Rattle.shape.specs.Shape.{basisOf, spansOf, recordsOf, allowed}
 use Rattle.shape.specs.Refusals.{judge, outside, seek}

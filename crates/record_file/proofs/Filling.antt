@@ -5,7 +5,7 @@ use Prim.Native.Nat.{ℕ, suc, _+_, _-_, _≤_, _<_}
 use native.Mathlib.Omega.{arith}
 use lib.ListN.{set}
 use lib.Seq.{sets}
-use Rattle.curve.specs.Numbers.{tab}
+use Rattle.curve.specs.Tab.{tab}
 
 module _ {A : Type 0} (f : ℕ → A) (l : List A) (j n : ℕ) where
   pub fill-step : j < n → sets l j (tab f j (n - j)) ≡ sets (set l j (f j)) (j + 1) (tab f (j + 1) (n - (j + 1)))

@@ -15,7 +15,7 @@ use Rattle.curve.specs.Span.{coordinate}
 use Rattle.curve.proofs.Tab.{length-tab, getD-tab}
 use Rattle.shape.specs.declared.Shape.{Shape}
 use Rattle.shape.specs.Refusals.{NoRow, shapeRows, controlsRow, limitsRow}
-use Rattle.shape.specs.Good.{Lent}
+use Rattle.shape.specs.Inner.{Lent}
 use Rattle.shape.proofs.Refusals.{none-both, none-earlier, row-fails, good-plan, lent-facts}
 use Rattle.shape.specs.Shape.{mostRecords}
 use Rattle.record_file.specs.declared.Reading.the-variants.{Read}

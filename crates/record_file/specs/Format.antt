@@ -6,7 +6,7 @@ use Prim.Native.Nat.{ℕ, suc, _+_, _*_, _-_, _/_, _%_, _^_}
 use lib.Dec.{ltb}
 use lib.IntN.{ℤ, pos, negsuc, _-ℤ_}
 use lib.ListN.{getD}
-use Rattle.curve.specs.Numbers.{tab}
+use Rattle.curve.specs.Tab.{tab}
 
 -- ---- a file's fields
 

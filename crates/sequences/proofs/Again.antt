@@ -18,7 +18,7 @@ use Rattle.curve.proofs.Tab.{tab-same}
 use Rattle.shape.specs.declared.Shape.{Shape}
 use Rattle.shape.specs.declared.Plan.{Plan}
 use Rattle.shape.specs.declared.Refusal.{Refusal}
-use Rattle.shape.specs.Good.{Good, Lent}
+use Rattle.shape.specs.Inner.{Good, Lent}
 use Rattle.shape.specs.Shape.{lastBasis, basisOf, recordsOf, spansOf}
 use Rattle.shape.specs.Refusals.{First, NoRow, outside, firstOutside, shapeRows, listRows, planOf}
 use Rattle.shape.proofs.Refusals.{none-both, verdict}

@@ -26,13 +26,13 @@ use Rattle.outline.proofs.Draws.{all-numbers}
 use Rattle.asked.specs.declared.Edit.{Edit}
 use Rattle.asked.specs.declared.Edit.the-variants.{Move, Insert, Remove}
 use Rattle.asked.specs.Edits.{countAfter, controlAt, asked, firstFresh, pastFresh, runOf, isFresh, pointAt}
-use Rattle.asked.specs.Ready.{Askable}
+use Rattle.asked.specs.Inner.{Askable}
 use Rattle.asked.proofs.Run.{run-spans}
 use Rattle.edit.specs.declared.Change.{Change}
 use Rattle.edit.specs.declared.Edited.{Edited}
 use Rattle.edit.specs.declared.Edited.the-variants.{Done}
 use Rattle.edit.specs.Reading.{shapeAfter, planAfter, change, controlsAfter, pointsAfter, edits}
-use Rattle.edit.specs.Ready.{Editable, Workable}
+use Rattle.edit.specs.Inner.{Editable, Workable}
 use Rattle.edit.proofs.Exactly.{callRows, done-none, none-done}
 use Rattle.edit.proofs.Passed.{may-edit, same-plan, room-fine}
 use Rattle.edit.proofs.Rows.{new-room, workable}

@@ -13,7 +13,7 @@ use lib.IntN.{ℤ, pos}
 use lib.ListN.{getD, length}
 use lib.Pow.{pow-pos}
 use Rattle.curve.specs.declared.Basis.{Basis}
-use Rattle.curve.specs.Numbers.{four}
+use Rattle.curve.specs.Four.{four}
 use Rattle.curve.specs.Span.{firstRecord, coordinate, recordsFrom, records, point}
 use Rattle.shape.specs.Shape.{recordsOf}
 use Rattle.shape.proofs.Tests.{passes, either}

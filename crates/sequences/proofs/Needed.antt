@@ -10,7 +10,7 @@ use lib.IntN.{ℤ, pos, negsuc, natAbs}
 use lib.ListN.{length}
 use Rattle.curve.specs.declared.Basis.{Basis}
 use Rattle.curve.specs.declared.Four.{Four}
-use Rattle.curve.specs.Numbers.{tab}
+use Rattle.curve.specs.Tab.{tab}
 use Rattle.curve.specs.Span.{firstRecord, coordinate, recordsFrom, records}
 use Rattle.curve.proofs.Tab.{length-tab, getD-tab}
 use Rattle.asked.specs.declared.Edit.{Edit}

@@ -10,7 +10,7 @@ use lib.Seq.{sets}
 use Rattle.curve.proofs.Tab.{tab-same}
 use Rattle.shape.specs.declared.Shape.{Shape}
 use Rattle.shape.specs.declared.Plan.{Plan}
-use Rattle.shape.specs.Good.{Good, Lent}
+use Rattle.shape.specs.Inner.{Good, Lent}
 use Rattle.shape.specs.Shape.{recordsOf}
 use Rattle.shape.specs.Refusals.{NoRow, planOf}
 use Rattle.spans.specs.Numbers.{perSpan}
@@ -19,7 +19,7 @@ use Rattle.outline.proofs.Draws.{all-numbers}
 use Rattle.asked.specs.declared.Edit.{Edit}
 use Rattle.asked.specs.Edits.{countAfter, inRange, asked, pointAt}
 use Rattle.edit.specs.Reading.{shapeAfter, planAfter, pointsAfter}
-use Rattle.edit.specs.Ready.{Editable, Workable}
+use Rattle.edit.specs.Inner.{Editable, Workable}
 use Rattle.edit.proofs.Rows.{good-after, new-room, new-lent, workable}
 use Rattle.edit.proofs.Passed.{may-edit, same-plan, room-fine}
 use Rattle.edit.proofs.Exactly.{callRows}

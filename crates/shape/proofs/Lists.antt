@@ -5,7 +5,7 @@ use Prim.Native.Nat.{ℕ, _+_}
 use native.Mathlib.Omega.{arith}
 use lib.ListN.{length}
 use lib.Seq.{sets, length-sets}
-use Rattle.curve.specs.Numbers.{tab}
+use Rattle.curve.specs.Tab.{tab}
 use Rattle.curve.proofs.Fills.{before-sets, past-sets}
 use Rattle.curve.proofs.Tab.{length-tab}
 use Rattle.shape.specs.Lists.{Keeps}

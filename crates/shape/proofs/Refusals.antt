@@ -21,7 +21,7 @@ use Rattle.shape.specs.declared.Judged.the-variants.{Sound, Unsound}
 use Rattle.shape.specs.declared.Checked.the-variants.{Fine, Bad}
 use Rattle.shape.specs.Shape.{lastBasis, basisOf, spansOf, allowed}
 use Rattle.shape.specs.Refusals.{Row, judge, First, NoRow, shapeRows, planOf, judgeShape, outside, firstOutside, limitsRow, listRows, judgeLists}
-use Rattle.shape.specs.Good.{Good, Lent}
+use Rattle.shape.specs.Inner.{Good, Lent}
 use Rattle.shape.proofs.Tests.{passes, and-true, or-false}
 use Rattle.shape.proofs.Spans.{allowed-facts, spans-below, last-record}
 use Rattle.shape.proofs.Seek.{seek-fails}

@@ -1,6 +1,6 @@
 pub mod Shape
 pub mod Table
 pub mod Refusals
-pub mod Good
 pub mod Exactly
 pub mod Lists
+pub mod Inner

@@ -10,12 +10,13 @@ use Rattle.whole.proofs.Fit.{Bounded, size, ev-size}
 use Rattle.curve.specs.declared.Four.{Four}
 use Rattle.curve.specs.declared.Basis.{Basis}
 use Rattle.curve.specs.declared.Basis.the-variants.{Bezier, BSpline, Cardinal, Hermite}
-use Rattle.curve.specs.Numbers.{four}
-use Rattle.curve.specs.Limits.{Inside, limit, widest}
+use Rattle.curve.specs.Four.{four}
+use Rattle.curve.specs.Limits.{Inside, limit}
+use Rattle.curve.specs.Inner.{widest}
 use Rattle.curve.specs.Span.{coordinate, records, sixfoldControls, divisor}
 use Rattle.curve.proofs.Limits.{sum-size}
 use Rattle.curve.proofs.Reflect.{Fourᵉ, p, sixfoldᵉ}
-use Rattle.spans.specs.Ready.{Ready, Drawable}
+use Rattle.spans.specs.Inner.{Ready, Drawable}
 use Rattle.spans.proofs.Numbers.{spanControls}
 
 -- fewer spans

@@ -7,11 +7,11 @@ use native.Mathlib.Omega.{arith}
 use lib.IntN.{ℤ, pos}
 use lib.ListN.{getD, length}
 use lib.Seq.{sets, set-getD, ext-getD, length-sets}
-use Rattle.curve.specs.Numbers.{tab}
+use Rattle.curve.specs.Tab.{tab}
 use Rattle.curve.proofs.Fills.{before-sets, past-sets, in-sets}
 use Rattle.curve.proofs.Tab.{length-tab, getD-tab}
 use Rattle.shape.proofs.Tests.{either}
-use Rattle.spans.specs.Numbers.{filled}
+use Rattle.spans.specs.Filled.{filled}
 
 pub length-filled : (f : ℕ → ℤ) (q n : ℕ) (l : List ℤ) → length (filled f q n l) ≡ length l
 length-filled f q n l = length-sets l q (tab f q n)

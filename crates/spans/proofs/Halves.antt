@@ -18,16 +18,17 @@ use Rattle.whole.proofs.Writes.{sets-append}
 use Rattle.whole.proofs.Ring.{var, lit, _⊗_, solve}
 use Rattle.whole.proofs.Fit.{sfits}
 use Rattle.curve.specs.declared.Four.{Four}
-use Rattle.curve.specs.Numbers.{tab}
-use Rattle.curve.specs.Limits.{Inside, widest, reach}
+use Rattle.curve.specs.Tab.{tab}
+use Rattle.curve.specs.Limits.{Inside, reach}
+use Rattle.curve.specs.Inner.{widest}
 use Rattle.curve.specs.Span.{weighted}
 use Rattle.curve.specs.Ways.{deepest, leftHalf, rightHalf}
 use Rattle.curve.proofs.Tab.{tab-append, tab-same, length-tab}
 use Rattle.curve.proofs.Span.{weighted-start}
 use Rattle.curve.proofs.Powers.{doubled, half-width}
 use Rattle.curve.proofs.Ways.{eightfold, left-half, right-half}
-use Rattle.spans.specs.Numbers.{onAxis, paired, perSpan}
-use Rattle.spans.specs.Ready.{Ready, Cuttable}
+use Rattle.spans.specs.Numbers.{perSpan}
+use Rattle.spans.specs.Inner.{onAxis, paired, Ready, Cuttable}
 use Rattle.spans.proofs.Pairs.{paired-x, paired-y}
 
 -- half the numbers of a piece are those of its halves

@@ -13,10 +13,11 @@ use lib.Pow.{pow-pos}
 use Rattle.whole.specs.Nearest.{nearest}
 use Rattle.curve.specs.declared.Four.{Four}
 use Rattle.curve.specs.declared.Basis.{Basis}
-use Rattle.curve.specs.Numbers.{tab}
+use Rattle.curve.specs.Tab.{tab}
 use Rattle.curve.specs.Span.{coordinate, records, sixfoldControls, weighted, divisor, point}
 use Rattle.curve.proofs.Tab.{tab-append, tab-same}
-use Rattle.spans.specs.Numbers.{number, paired, onAxis, ending, perSpan}
+use Rattle.spans.specs.Numbers.{number, perSpan}
+use Rattle.spans.specs.Inner.{paired, onAxis, ending}
 
 -- the sixfold controls of span s on an axis
 abbrev pub spanControls : Basis → List ℤ → ℕ → ℕ → Four

@@ -9,9 +9,9 @@ use lib.ListN.{set}
 use lib.Seq.{sets}
 use Rattle.whole.specs.Nearest.{nearest}
 use Rattle.curve.specs.declared.Four.{Four}
-use Rattle.curve.specs.Numbers.{tab}
+use Rattle.curve.specs.Tab.{tab}
 use Rattle.curve.specs.Span.{weighted}
-use Rattle.spans.specs.Numbers.{paired}
+use Rattle.spans.specs.Inner.{paired}
 
 -- the next pair
 tab-pair : {A : Type 0} (f : ℕ → A) (i n : ℕ) → tab f i (suc (suc n)) ≡ f i ∷ f (suc i) ∷ tab f (suc (suc i)) n

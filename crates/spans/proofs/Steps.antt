@@ -13,12 +13,12 @@ use Rattle.whole.specs.Nearest.{nearest}
 use Rattle.whole.proofs.Fit.{sfits}
 use Rattle.curve.specs.declared.Four.{Four}
 use Rattle.curve.specs.declared.Differences.{Differences}
-use Rattle.curve.specs.Limits.{Small, reach}
+use Rattle.curve.specs.Limits.{reach}
+use Rattle.curve.specs.Inner.{Small}
 use Rattle.curve.specs.Span.{weighted}
 use Rattle.curve.specs.Ways.{deepest, differences, advance}
 use Rattle.curve.proofs.Ways.{state, begins, advances, state-small}
-use Rattle.spans.specs.Numbers.{paired, after, stepped}
-use Rattle.spans.specs.Ready.{Ready, Steady}
+use Rattle.spans.specs.Inner.{paired, after, stepped, Ready, Steady}
 
 after-state : (q : Four) (m n : ℕ) → after n (differences q (pos m)) ≡ state q (pos n) (pos m)
 unfolding after

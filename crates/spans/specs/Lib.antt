@@ -1,2 +1,3 @@
 pub mod Numbers
-pub mod Ready
+pub mod Filled
+pub mod Inner

@@ -3,11 +3,11 @@ ghost use mathlib.Core.Path.{_≡_};
 ghost use Prim.Native.Nat.{_+_, _≤_};
 ghost use lib.ListN.{length};
 ghost use lib.Seq.{sets};
-ghost use Rattle.curve.specs.Numbers.{tab};
+ghost use Rattle.curve.specs.Tab.{tab};
 ghost use Rattle.curve.specs.Span.{divisorOf};
 ghost use Rattle.curve.specs.Ways.{deepest, mostBits};
-ghost use Rattle.spans.specs.Numbers.{paired, perSpan};
-ghost use Rattle.spans.specs.Ready.{Ready, Cuttable};
+ghost use Rattle.spans.specs.Numbers.{perSpan};
+ghost use Rattle.spans.specs.Inner.{paired, Ready, Cuttable};
 use crate::point::put_point;
 use curve::Four;
 

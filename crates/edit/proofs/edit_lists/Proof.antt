@@ -5,8 +5,9 @@ use Prim.Native.Nat.{ℕ, _+_, _*_}
 use borrow.Author.Needs.{needs}
 use lib.IntN.{ℤ}
 use Rattle.whole.specs.Outcome.{outcome}
-use Rattle.spans.specs.Numbers.{filled, perSpan}
-use Rattle.spans.specs.Ready.{Drawable}
+use Rattle.spans.specs.Numbers.{perSpan}
+use Rattle.spans.specs.Filled.{filled}
+use Rattle.spans.specs.Inner.{Drawable}
 use Rattle.outline.proofs.Draws.{all-numbers}
 use Rattle.asked.specs.Edits.{pointAt}
 use Rattle.edit.specs.declared.Edited.the-variants.{Done}

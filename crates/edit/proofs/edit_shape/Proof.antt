@@ -2,7 +2,7 @@
 use mathlib.Core.Path.{_≡_, sym, _∙_, subst}
 use borrow.Author.Needs.{needs}
 use Rattle.shape.specs.declared.Judged.{Judged}
-use Rattle.edit.specs.Ready.{Vetted}
+use Rattle.edit.specs.Inner.{Vetted}
 use Rattle.edit.proofs.edit_shape.Statement.{statement}
 use Rattle.edit.proofs.edit_shape.Tie as tie
 

@@ -12,11 +12,12 @@ use Rattle.shape.specs.declared.Plan.{Plan}
 use Rattle.shape.specs.declared.Checked.the-variants.{Fine}
 use Rattle.shape.specs.Shape.{mostPoints}
 use Rattle.shape.specs.Refusals.{judgeLists}
-use Rattle.shape.specs.Good.{Lent}
+use Rattle.shape.specs.Inner.{Lent}
 use Rattle.shape.proofs.Refusals.{fine-facts}
 use Rattle.shape.proofs.Spans.{points-at-most}
-use Rattle.spans.specs.Numbers.{filled, perSpan}
-use Rattle.spans.specs.Ready.{Drawable}
+use Rattle.spans.specs.Numbers.{perSpan}
+use Rattle.spans.specs.Filled.{filled}
+use Rattle.spans.specs.Inner.{Drawable}
 use Rattle.outline.specs.declared.Drawn.the-variants.{Points}
 use Rattle.outline.specs.Outline.{numbers, points, drawn}
 use Rattle.outline.proofs.Draws.{all-numbers, plan-bad, plan-drawn, drawable}

@@ -9,7 +9,7 @@ use lib.IntN.{ℤ}
 use lib.ListN.{length, take, drop}
 use Rattle.shape.specs.declared.Plan.{Plan}
 use Rattle.shape.specs.declared.Judged.the-variants.{Sound, Unsound}
-use Rattle.shape.specs.Good.{Good}
+use Rattle.shape.specs.Inner.{Good}
 use Rattle.shape.specs.Refusals.{judgeShape}
 use Rattle.shape.specs.Shape.{pointsOf, mostPoints}
 use Rattle.shape.proofs.Refusals.{sound-facts}

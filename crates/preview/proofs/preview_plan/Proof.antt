@@ -4,7 +4,7 @@ use Prim.Native.Nat.{ℕ, _≤_}
 use native.Mathlib.Omega.{arith}
 use lib.ListN.{length}
 use Rattle.shape.specs.Shape.{mostPoints}
-use Rattle.shape.specs.Good.{Lent}
+use Rattle.shape.specs.Inner.{Lent}
 use Rattle.shape.proofs.Refusals.{fine-facts}
 use Rattle.shape.proofs.Spans.{points-at-most}
 use Rattle.preview.proofs.Rows.{not-offered, lists-fail, lists-pass, bezier-count, drawn-is}

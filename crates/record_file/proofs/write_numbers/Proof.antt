@@ -6,7 +6,7 @@ use lib.ListN.{length, set, length-set}
 use lib.Seq.{sets}
 use mir.Syntax.{w32}
 use Rattle.whole.proofs.Fit.{kept, kept-is}
-use Rattle.curve.specs.Numbers.{tab}
+use Rattle.curve.specs.Tab.{tab}
 use Rattle.record_file.specs.Format.{number, numbers}
 use Rattle.record_file.proofs.Filling.{fill-step, fill-done}
 use Rattle.record_file.proofs.write_numbers.Statement.{statement}

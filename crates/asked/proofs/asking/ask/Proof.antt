@@ -9,7 +9,7 @@ use Rattle.whole.proofs.Fit.{kept-is}
 use Rattle.asked.specs.declared.Edit.{Edit}
 use Rattle.asked.specs.declared.Edit.the-variants.{Insert}
 use Rattle.asked.specs.Edits.{asked, countAfter}
-use Rattle.asked.specs.Ready.{Askable}
+use Rattle.asked.specs.Inner.{Askable}
 use Rattle.asked.proofs.InPlace.{put, moved-is}
 use Rattle.asked.proofs.asking.ask.Statement.{statement}
 use Rattle.asked.proofs.asking.ask.Tie as tie

@@ -6,8 +6,8 @@ use borrow.Author.Needs.{needs}
 use lib.IntN.{ℤ, pos}
 use lib.ListN.{getD, length, set, length-set}
 use lib.Seq.{sets, getD-set-other}
-use Rattle.curve.specs.Numbers.{tab}
-use Rattle.spans.specs.Numbers.{filled}
+use Rattle.curve.specs.Tab.{tab}
+use Rattle.spans.specs.Filled.{filled}
 use Rattle.curve.proofs.Fills.{as-read, fill-next, fill-done}
 use Rattle.asked.proofs.carrying.carry_back.Statement.{statement}
 use Rattle.asked.proofs.carrying.carry_back.Tie as tie

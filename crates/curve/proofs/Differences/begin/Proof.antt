@@ -5,9 +5,9 @@ use lib.Dec.{T}
 use mir.Syntax.{w64}
 use Rattle.whole.proofs.Ring.{Ex, _⊕_, _⊖_, _⊗_, ev, Same, solve}
 use Rattle.whole.proofs.Fit.{Need, raw, safe}
-use Rattle.curve.specs.Numbers.{dot}
+use Rattle.curve.specs.Four.{dot}
 use Rattle.curve.specs.Published.{bezierMatrix}
-use Rattle.curve.specs.Limits.{widest}
+use Rattle.curve.specs.Inner.{widest}
 use Rattle.curve.specs.Ways.{deepest, differences}
 use Rattle.curve.proofs.Reflect.{num, p, i, litᵉ, dotᵉ}
 use Rattle.curve.proofs.Machine.{numbers, bounds, asked, worked}

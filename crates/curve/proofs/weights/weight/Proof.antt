@@ -5,7 +5,7 @@ use mathlib.Core.Path.{_∙_, ap}
 use native.Mathlib.Nat.{zero-add}
 use mir.Syntax.{w64}
 use Rattle.whole.proofs.Fit.{kept-is}
-use Rattle.curve.specs.Numbers.{tab}
+use Rattle.curve.specs.Tab.{tab}
 use Rattle.curve.specs.Published.{weights}
 use Rattle.curve.specs.Ways.{tableEntry, tableSize, nth}
 use Rattle.curve.proofs.Tab.{getD-tab}

@@ -9,9 +9,9 @@ use lib.IntN.{ℤ, pos, natAbs, _+ℤ_, _*ℤ_}
 use mir.Syntax.{w64}
 use Rattle.whole.proofs.Ring.{Ex, var, _⊕_, _⊗_}
 use Rattle.whole.proofs.Fit.{Bounded, Need, safe, need, exact}
-use Rattle.curve.specs.Numbers.{dot}
+use Rattle.curve.specs.Four.{dot}
 use Rattle.curve.specs.Published.{weights}
-use Rattle.curve.specs.Limits.{widest}
+use Rattle.curve.specs.Inner.{widest}
 use Rattle.curve.specs.Span.{weighted}
 use Rattle.curve.specs.Ways.{deepest, tableEntry, nth}
 use Rattle.curve.proofs.Table.{row-entry, heaviest, weight-size}

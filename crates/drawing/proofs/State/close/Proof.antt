@@ -14,7 +14,7 @@ use Rattle.drawing.specs.declared.Step.the-variants.{Close}
 use Rattle.shape.specs.declared.Checked.the-variants.{Fine}
 use Rattle.drawing.specs.declared.Stepped.the-variants.{Next, Refused}
 use Rattle.drawing.specs.Drawing.{same, line, added}
-use Rattle.drawing.specs.Parts.{judgeState, extends, goesOn}
+use Rattle.drawing.specs.Inner.{judgeState, extends, goesOn}
 use Rattle.drawing.proofs.Tables.{reached-most, fine-reached, numbers-good, too-short, roomy}
 use borrow.Author.Needs.{needs}
 use Rattle.drawing.proofs.State.close.Statement.{statement}

@@ -21,7 +21,7 @@ use borrow.Author.Needs.{needs}
 use Rattle.drawing.proofs.State.cubic_to.Statement.{statement}
 use Rattle.drawing.proofs.State.cubic_to.Tie as tie
 use Rattle.drawing.specs.Reading.{numberRows, spaceRows, accepts}
-use Rattle.drawing.specs.Parts.{judgeControl, extends, goesOn}
+use Rattle.drawing.specs.Inner.{judgeControl, extends, goesOn}
 
 module _ (s : State) (x0 y0 x1 y1 x2 y2 : Float) (l : List ℤ) where
   -- the rows after those of the first control, and after those of the second

@@ -19,7 +19,7 @@ use Rattle.drawing.proofs.Tables.{reached-most, fine-reached, placed-no
 use borrow.Author.Needs.{needs}
 use Rattle.drawing.proofs.State.line_to.Statement.{statement}
 use Rattle.drawing.proofs.State.line_to.Tie as tie
-use Rattle.drawing.specs.Parts.{judgeControl, extends, goesOn}
+use Rattle.drawing.specs.Inner.{judgeControl, extends, goesOn}
 
 wrong : (s : State) (x y : Float) (l : List ℤ) (r : Refusal) → judgeControl 0 x y ≡ Amiss r → goesOn s (Line x y) l ≡ refuses Refused l r
 unfolding goesOn

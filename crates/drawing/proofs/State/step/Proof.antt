@@ -12,7 +12,7 @@ use Rattle.drawing.proofs.Tables.{fit, unfit}
 use borrow.Author.Needs.{needs}
 use Rattle.drawing.proofs.State.step.Statement.{statement}
 use Rattle.drawing.proofs.State.step.Tie as tie
-use Rattle.drawing.specs.Parts.{judgeState, goesOn}
+use Rattle.drawing.specs.Inner.{judgeState, goesOn}
 
 -- where the check found the state fit, it is fit for the kind that the step is
 fit-for :

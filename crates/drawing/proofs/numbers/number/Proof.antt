@@ -10,7 +10,7 @@ use Rattle.shape.specs.Refusals.{judge}
 use Rattle.doubles.specs.Number.{measure}
 use Rattle.doubles.specs.declared.Measure.the-variants.{NotFinite, Outside, Micrometres}
 use Rattle.drawing.specs.declared.Numbered.the-variants.{Good, Wrong}
-use Rattle.drawing.specs.Parts.{judgeNumber}
+use Rattle.drawing.specs.Inner.{judgeNumber}
 use Rattle.drawing.proofs.numbers.number.Statement.{statement}
 use Rattle.drawing.proofs.numbers.number.Tie as tie
 

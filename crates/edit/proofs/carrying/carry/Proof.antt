@@ -9,11 +9,12 @@ use lib.IntN.{ℤ, pos}
 use lib.ListN.{getD, length}
 use Rattle.curve.specs.Ways.{deepest}
 use Rattle.shape.specs.Shape.{mostRecords}
-use Rattle.spans.specs.Numbers.{filled, perSpan}
+use Rattle.spans.specs.Numbers.{perSpan}
+use Rattle.spans.specs.Filled.{filled}
 use Rattle.asked.specs.declared.Edit.{Edit}
 use Rattle.asked.specs.declared.Edit.the-variants.{Insert, Remove}
 use Rattle.asked.specs.Edits.{carriedFrom}
-use Rattle.edit.specs.Carried.{Carriable, runLength}
+use Rattle.edit.specs.Inner.{Carriable, runLength}
 use Rattle.spans.proofs.Filled.{none-filled, same-filled}
 use Rattle.edit.proofs.Worked.{run-none, run-end}
 use Rattle.edit.proofs.carrying.carry.Statement.{statement}

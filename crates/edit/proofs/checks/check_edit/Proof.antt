@@ -8,7 +8,7 @@ use lib.ListN.{length}
 use Rattle.shape.specs.declared.Plan.{Plan}
 use Rattle.shape.specs.declared.Judged.the-variants.{Sound}
 use Rattle.shape.specs.declared.Checked.the-variants.{Fine}
-use Rattle.shape.specs.Good.{Good}
+use Rattle.shape.specs.Inner.{Good}
 use Rattle.shape.specs.Refusals.{judgeShape}
 use Rattle.shape.specs.Shape.{mostPoints, mostRecords, pointsOf}
 use Rattle.shape.proofs.Refusals.{sound-facts}
@@ -16,7 +16,7 @@ use Rattle.shape.proofs.Spans.{points-at-most}
 use Rattle.outline.specs.Outline.{points}
 use Rattle.asked.specs.Edits.{spansAfter}
 use Rattle.edit.specs.Reading.{judgeAsk, judgeRoom, planAfter}
-use Rattle.edit.specs.Ready.{Vetted}
+use Rattle.edit.specs.Inner.{Vetted}
 use Rattle.edit.proofs.Rows.{good-after, shape-bad, ask-bad, may-edit, room-bad, room-fine}
 use Rattle.edit.proofs.checks.check_edit.Statement.{statement}
 use Rattle.edit.proofs.checks.check_edit.Tie as tie

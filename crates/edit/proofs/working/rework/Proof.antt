@@ -3,8 +3,9 @@ use mathlib.Core.Path.{sym, ap, _∙_}
 use Prim.Native.Nat.{ℕ, _*_}
 use native.Mathlib.Omega.{arith}
 use borrow.Author.Needs.{needs}
-use Rattle.spans.specs.Numbers.{filled, number, perSpan}
-use Rattle.edit.specs.Carried.{runLength}
+use Rattle.spans.specs.Numbers.{number, perSpan}
+use Rattle.spans.specs.Filled.{filled}
+use Rattle.edit.specs.Inner.{runLength}
 use Rattle.spans.proofs.Filled.{none-filled}
 use Rattle.edit.proofs.Worked.{run-none, run-some}
 use Rattle.edit.proofs.working.rework.Statement.{statement}

@@ -9,11 +9,12 @@ use lib.IntN.{ℤ, pos}
 use lib.ListN.{getD, length}
 use lib.Pow.{pow-mono}
 use Rattle.curve.specs.Ways.{deepest}
-use Rattle.spans.specs.Numbers.{filled, number, perSpan}
+use Rattle.spans.specs.Numbers.{number, perSpan}
+use Rattle.spans.specs.Filled.{filled}
 use Rattle.spans.proofs.Drawables.{fewer}
 use Rattle.asked.specs.Edits.{firstFresh, carriedFrom}
 use Rattle.asked.proofs.Run.{past-most}
-use Rattle.edit.specs.Carried.{Carriable, runLength}
+use Rattle.edit.specs.Inner.{Carriable, runLength}
 use Rattle.edit.proofs.Worked.{worked}
 use Rattle.edit.proofs.working.work.Statement.{statement}
 use Rattle.edit.proofs.working.work.Tie as tie

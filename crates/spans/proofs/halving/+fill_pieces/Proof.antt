@@ -13,14 +13,14 @@ use mir.Syntax.{w64}
 use Rattle.whole.specs.Nearest.{nearest}
 use Rattle.whole.proofs.Fit.{kept, kept-is}
 use Rattle.curve.specs.declared.Four.{Four}
-use Rattle.curve.specs.Numbers.{tab}
+use Rattle.curve.specs.Tab.{tab}
 use Rattle.curve.specs.Limits.{reach}
 use Rattle.curve.specs.Span.{divisorOf}
 use Rattle.curve.specs.Ways.{leftHalf, rightHalf}
 use Rattle.curve.proofs.Four.left_half.Reads as left-half-reads
 use Rattle.curve.proofs.Four.right_half.Reads as right-half-reads
-use Rattle.spans.specs.Numbers.{paired, perSpan}
-use Rattle.spans.specs.Ready.{Cuttable}
+use Rattle.spans.specs.Numbers.{perSpan}
+use Rattle.spans.specs.Inner.{paired, Cuttable}
 use Rattle.curve.proofs.Powers.{shift-one}
 use Rattle.spans.proofs.Halves.{cut-on, cuttable-small, leaf-fits, leaf-near, leaf-numbers, halves-written, halved}
 use Rattle.spans.proofs.halving.fill_pieces.Reads as reads

@@ -11,13 +11,14 @@ use lib.ListN.{length}
 use lib.Pow.{pow-mono}
 use lib.Seq.{sets}
 use Rattle.curve.specs.declared.Four.{Four}
-use Rattle.curve.specs.Numbers.{tab}
+use Rattle.curve.specs.Tab.{tab}
 use Rattle.curve.specs.Span.{divisor}
 use Rattle.curve.specs.Ways.{deepest, mostBits}
 use Rattle.curve.proofs.Tab.{length-tab}
 use Rattle.shape.specs.Shape.{mostRecords}
-use Rattle.spans.specs.Numbers.{number, paired, ending, perSpan, filled}
-use Rattle.spans.specs.Ready.{Ready}
+use Rattle.spans.specs.Numbers.{number, perSpan}
+use Rattle.spans.specs.Filled.{filled}
+use Rattle.spans.specs.Inner.{paired, ending, Ready}
 use Rattle.whole.proofs.Writes.{sets-append}
 use Rattle.spans.proofs.Numbers.{spanControls, span-numbers, next-span, last-two}
 use Rattle.spans.proofs.Drawables.{fewer, span-ready}

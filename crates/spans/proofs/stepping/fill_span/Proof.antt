@@ -12,12 +12,12 @@ use mir.Syntax.{w64}
 use mir.Val.{toZ}
 use mir.ValLaws.{toZ-pos}
 use Rattle.curve.specs.declared.Differences.{Differences}
-use Rattle.curve.specs.Numbers.{tab}
+use Rattle.curve.specs.Tab.{tab}
 use Rattle.curve.specs.Span.{divisorOf}
 use Rattle.curve.specs.Ways.{deepest, differences}
 use Rattle.curve.proofs.Tab.{tab-same}
-use Rattle.spans.specs.Numbers.{paired, stepped, perSpan}
-use Rattle.spans.specs.Ready.{Steady}
+use Rattle.spans.specs.Numbers.{perSpan}
+use Rattle.spans.specs.Inner.{paired, stepped, Steady}
 use Rattle.curve.proofs.Powers.{shift-one}
 use Rattle.spans.proofs.Steps.{ready-steady, stepped-paired}
 use Rattle.spans.proofs.stepping.fill_span.Statement.{statement}

@@ -9,12 +9,13 @@ use mir.Syntax.{w64}
 use Rattle.whole.specs.Nearest.{nearest}
 use Rattle.whole.proofs.Fit.{kept, kept-is}
 use Rattle.curve.specs.declared.Differences.{Differences}
-use Rattle.curve.specs.Numbers.{tab}
-use Rattle.curve.specs.Limits.{Small, reach}
+use Rattle.curve.specs.Tab.{tab}
+use Rattle.curve.specs.Limits.{reach}
+use Rattle.curve.specs.Inner.{Small}
 use Rattle.curve.specs.Span.{divisorOf}
 use Rattle.curve.specs.Ways.{advance}
-use Rattle.spans.specs.Numbers.{after, stepped, perSpan}
-use Rattle.spans.specs.Ready.{Steady}
+use Rattle.spans.specs.Numbers.{perSpan}
+use Rattle.spans.specs.Inner.{after, stepped, Steady}
 use Rattle.spans.proofs.Pairs.{pair-step, pair-done}
 use Rattle.curve.proofs.Powers.{shift-one}
 use Rattle.spans.proofs.Steps.{stepped-x, stepped-y, value-fits, after-suc}

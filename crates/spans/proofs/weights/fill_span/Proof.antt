@@ -10,9 +10,10 @@ use mir.Syntax.{w64}
 use Rattle.whole.specs.Nearest.{nearest}
 use Rattle.whole.proofs.Fit.{kept, kept-is}
 use Rattle.curve.specs.Limits.{reach}
-use Rattle.curve.specs.Numbers.{tab}
+use Rattle.curve.specs.Tab.{tab}
 use Rattle.curve.specs.Span.{weighted, divisorOf}
-use Rattle.spans.specs.Numbers.{paired, perSpan}
+use Rattle.spans.specs.Numbers.{perSpan}
+use Rattle.spans.specs.Inner.{paired}
 use Rattle.spans.proofs.Pairs.{pair-step, pair-done, paired-x, paired-y}
 use Rattle.curve.proofs.Powers.{shift-one}
 use Rattle.spans.proofs.weights.fill_span.Statement.{statement}

@@ -1,25 +1,37 @@
--- What a caller knows once the checks of an edit have passed.
-use mathlib.Core.Bool.{true, false}
+-- For contracts inside the project alone: no public contract uses what is here.
+-- Runs of spans and carrying them by one span, and what is known once the checks of an edit have passed.
+use mathlib.Core.Bool.{cond, true, false}
 use mathlib.Core.List.{List}
 use mathlib.Core.Path.{_≡_}
-use Prim.Native.Nat.{ℕ, _+_, _*_, _≤_}
+use Prim.Native.Nat.{ℕ, _+_, _*_, _-_, _≤_}
+use lib.Dec.{ltb}
 use lib.IntN.{ℤ}
 use lib.ListN.{length}
+use Rattle.asked.specs.declared.Edit.{Edit}
+use Rattle.asked.specs.declared.Edit.the-variants.{Move, Insert, Remove}
 use Rattle.whole.specs.Outcome.{refuses}
 use Rattle.shape.specs.declared.Shape.{Shape}
 use Rattle.shape.specs.declared.Plan.{Plan}
 use Rattle.shape.specs.declared.Judged.{Judged}
 use Rattle.shape.specs.declared.Judged.the-variants.{Sound, Unsound}
-use Rattle.shape.specs.Good.{Good}
+use Rattle.shape.specs.Inner.{Good}
 use Rattle.shape.specs.Shape.{mostRecords}
 use Rattle.spans.specs.Numbers.{perSpan}
-use Rattle.spans.specs.Ready.{Drawable}
-use Rattle.asked.specs.declared.Edit.{Edit}
+use Rattle.spans.specs.Inner.{Drawable}
 use Rattle.asked.specs.Edits.{countAfter, offered, inRange, atTheEnd, pastFresh, asked}
-use Rattle.asked.specs.Ready.{Askable}
-use Rattle.edit.specs.Carried.{Carriable}
+use Rattle.asked.specs.Inner.{Askable}
 use Rattle.edit.specs.declared.Edited.the-variants.{Refused}
 use Rattle.edit.specs.Reading.{shapeAfter, accepts, edits}
+
+-- The spans from one up to, and not with, another, w numbers each and the two of the last end; none where there is no span.
+unfoldable pub runLength : ℕ → ℕ → ℕ → ℕ
+runLength first past w = cond (ltb first past) ((past - first) * w + 2) 0
+
+-- Each span from `past` up to `spans` has one before it (insert) or after it (remove) in a list of `len` numbers.
+abbrev pub Carriable : Edit → ℕ → ℕ → ℕ → ℕ → Type 0
+Carriable (Move x y) past spans w len = Unit {0}
+Carriable (Insert x y) past spans w len = (1 ≤ past) × (spans * w + 2 ≤ len)
+Carriable Remove past spans w len = spans * w + 2 + w ≤ len
 
 -- Rows 1 to 6 passed.
 pub record Editable (e : Edit) (s : Shape) (p : Plan) (j : ℕ) : Type 0 where

@@ -1,3 +1,4 @@
+-- For contracts inside the project alone: no public contract uses what is here.
 -- The parts of a step's table, each as the private function that works it answers. What a step does is said by `Reading` alone. Definitions only.
 use mathlib.Core.Bool.{Bool}
 use mathlib.Core.List.{List, [], _∷_, _++_}

@@ -1,4 +1,5 @@
--- Words of the contracts that the crate's own functions have among themselves. No public contract uses them. Definitions only.
+-- For contracts inside the project alone: no public contract uses what is here.
+-- Words of the contracts that the crate's own functions have among themselves. Definitions only.
 use Prim.Native.Nat.{ℕ, _+_, _≤_, _<_}
 use mathlib.Core.Bool.{Bool, true, false}
 use mathlib.Core.List.{List}

@@ -1,3 +1,4 @@
+-- For contracts inside the project alone: no public contract uses what is here.
 -- What a caller knows once the shared checks have passed.
 use mathlib.Core.List.{List}
 use mathlib.Core.Path.{_≡_}

@@ -1,0 +1,61 @@
+-- For contracts inside the project alone: no public contract uses what is here.
+-- One span by each of the three ways, and the controls that it can be drawn from.
+use mathlib.Core.Bool.{cond}
+use mathlib.Core.List.{List, [], _∷_}
+use Prim.Native.Nat.{ℕ, zero, suc, _*_, _-_, _/_, _%_, _^_, _+_, _≤_, _<_}
+use lib.Dec.{eqb}
+use lib.IntN.{ℤ, pos, natAbs}
+use lib.ListN.{length}
+use Rattle.whole.specs.Nearest.{nearest}
+use Rattle.curve.specs.declared.Four.{Four}
+use Rattle.curve.specs.declared.Basis.{Basis}
+use Rattle.curve.specs.declared.Differences.{Differences}
+use Rattle.curve.specs.Span.{coordinate, records, weighted, firstRecord}
+use Rattle.curve.specs.Ways.{advance, deepest}
+use Rattle.curve.specs.Limits.{Inside, limit, reach}
+use Rattle.curve.specs.Inner.{Small, widest}
+use Rattle.shape.specs.Shape.{mostRecords}
+
+-- ---- one span, from its two axes' controls: number j is step j / 2 on axis j % 2, at `left` more halvings and over the divisor d
+
+abbrev pub onAxis : Four → Four → ℕ → Four
+onAxis x y j = cond (eqb (j % 2) 0) x y
+
+unfoldable pub paired : ℕ → ℕ → Four → Four → ℕ → ℤ
+paired left d x y j = nearest (weighted (onAxis x y j) (pos (j / 2)) (pos (2 ^ left))) d
+
+-- the two numbers of its end, at t = 1
+abbrev pub ending : ℕ → ℕ → Four → Four → List ℤ
+ending k d x y = nearest (weighted x (pos (2 ^ k)) (pos (2 ^ k))) d ∷ nearest (weighted y (pos (2 ^ k)) (pos (2 ^ k))) d ∷ []
+
+-- ---- the same by differences: the state after n steps, and the numbers of a span from the states of its two axes
+
+unfoldable pub after : ℕ → Differences → Differences
+after zero s = s
+after (suc n) s = advance (after n s)
+
+unfoldable pub stepped : ℕ → Differences → Differences → ℕ → ℤ
+stepped d x y j = nearest (after (j / 2) (cond (eqb (j % 2) 0) x y) .value) d
+
+-- ---- what it can be drawn from
+
+-- Controls of one axis that a span can be drawn from: sixfold controls of records inside the limits, so that each sum, of 2^k steps, is within its divisor d times 5,000,000.
+pub record Ready (k d : ℕ) (q : Four) : Type 0 where
+  pub inside : Inside widest q
+  pub near : (i : ℕ) → i ≤ 2 ^ k → natAbs (weighted q (pos i) (pos (2 ^ k))) ≤ d * reach
+
+-- The same for halving, with `left` more cuts to make: eight times as large with each cut made.
+pub record Cuttable (left d : ℕ) (q : Four) : Type 0 where
+  pub inside : Inside (widest * 8 ^ (deepest - left)) q
+  pub near : (i : ℕ) → i < 2 ^ left → natAbs (weighted q (pos i) (pos (2 ^ left))) ≤ d * reach
+
+-- The same for differences: each of the 2^k steps' states is small, and its sum within the reach.
+pub record Steady (k d : ℕ) (s : Differences) : Type 0 where
+  pub small : (i : ℕ) → i < 2 ^ k → Small (after i s)
+  pub near : (i : ℕ) → i < 2 ^ k → natAbs (after i s .value) ≤ d * reach
+
+-- A list of controls that m spans of a basis can be drawn from: each span's four records are in the list and inside the limits.
+pub record Drawable (b : Basis) (m : ℕ) (controls : List ℤ) : Type 0 where
+  pub few : m ≤ mostRecords
+  pub held : (s : ℕ) → s < m → 2 * firstRecord b s + 8 ≤ length controls
+  pub inside : (s axis : ℕ) → s < m → axis < 2 → Inside limit (records b s (coordinate controls axis))
