@@ -11,13 +11,13 @@ use borrow.Author.Tests.{ne-eqb}
 use lib.Dec.{T, lit<}
 use lib.Pow.{pow-add, pow-pos, pow-mono, pow-lt, shl-lt}
 use lib.IntN.{ℤ, pos, negsuc, natAbs, _+ℤ_, _*ℤ_}
-use lib.Ieee.{Float, nan, inf, fin, Format, binary32, binary64, prec, emax, low, up, fits, round, add, div, ofInt}
+use lib.Ieee.{Float, nan, inf, fin, Format, binary32, binary64, prec, emax, low, up, round, add, div, ofInt}
 use lib.Ieee.Exact.{HasValue, round-exact}
-use lib.Ieee.Fits.{round-fits, down-pos}
+use lib.Ieee.Fits.{down-pos}
 use Rattle.whole.proofs.Ring.{var, _⊕_, _⊗_, solve}
 use Rattle.doubles.specs.Exact.{dyadic, Value, minusZero}
 use Rattle.doubles.specs.Midpoint.{two, mid}
-use Rattle.doubles.proofs.Values.{value-of, value-unique}
+use Rattle.doubles.proofs.Values.{value-of}
 use Rattle.doubles.proofs.Over.{over, over-same, add-values, half-value}
 
 -- ---- nothing is lost
@@ -61,12 +61,6 @@ unfolding dyadic
 dyadic-exact (pos n) k hz hk = value-of (round binary64 false n (2 ^ k)) false n (2 ^ k) (round-value binary64 false n k hz hk)
 dyadic-exact (negsuc n) k hz hk = value-of (round binary64 true (suc n) (2 ^ k)) true (suc n) (2 ^ k) (round-value binary64 true (suc n) k hz hk)
 
--- every such double is one that the format holds
-pub dyadic-fits : (z : ℤ) (k : ℕ) → T (fits binary64 (dyadic z k))
-unfolding dyadic
-dyadic-fits (pos n) k = round-fits binary64 false n (2 ^ k)
-dyadic-fits (negsuc n) k = round-fits binary64 true (suc n) (2 ^ k)
-
 -- ---- none is -0
 
 clash : false ≡ true → ⊥
@@ -103,20 +97,10 @@ over-dyadic (negsuc n) k = refl
 pub dyadic-same : (y : ℤ) (j : ℕ) (z : ℤ) (k : ℕ) → y *ℤ pos (2 ^ k) ≡ z *ℤ pos (2 ^ j) → dyadic y j ≡ dyadic z k
 dyadic-same y j z k e = sym (over-dyadic y j) ∙ over-same y (2 ^ j) z (2 ^ k) (pow-pos j) (pow-pos k) e ∙ over-dyadic z k
 
--- and one double has one fraction
-pub dyadic-injective : (y : ℤ) (j : ℕ) (z : ℤ) (k : ℕ) → natAbs y ≤ 2 ^ 53 → j ≤ 1074 → natAbs z ≤ 2 ^ 53 → k ≤ 1074 → dyadic y j ≡ dyadic z k → y *ℤ pos (2 ^ k) ≡ z *ℤ pos (2 ^ j)
-dyadic-injective y j z k hy hj hz hk e =
-    value-unique (dyadic z k) y (2 ^ j) z (2 ^ k) (subst (λ x. Value x y (2 ^ j)) e (dyadic-exact y j hy hj)) (dyadic-exact z k hz hk)
-
 pub dyadic-scale : (z : ℤ) (j k : ℕ) → dyadic (z *ℤ pos (2 ^ j)) (k + j) ≡ dyadic z k
 dyadic-scale z j k =
     dyadic-same (z *ℤ pos (2 ^ j)) (k + j) z k
     (solve (z ∷ pos (2 ^ j) ∷ pos (2 ^ k) ∷ []) (var 0 ⊗ var 1 ⊗ var 2) (var 0 ⊗ (var 2 ⊗ var 1)) tt ∙ ap (λ x. z *ℤ pos x) (sym (pow-add 2 k j)))
-
--- zero is +0
-pub dyadic-zero : (k : ℕ) → dyadic (pos 0) k ≡ fin false 0 (pos 0)
-unfolding dyadic
-dyadic-zero k = dyadic-same (pos 0) k (pos 0) 0 (ap pos (sym (zero-mul (2 ^ k))))
 
 -- ---- sums
 

@@ -4,12 +4,10 @@ use mathlib.Core.Bool.{Bool, true, false}
 use mathlib.Core.List.{[], _∷_}
 use Prim.Native.Nat.{ℕ, zero, suc, _*_, _<_}
 use native.Mathlib.Nat.{mul-pos, lt-irrefl, lt-of-lt-of-le, le-of-eq, zero-lt-suc}
-use lib.Dec.{T}
 use lib.IntN.{ℤ, pos, negsuc, natAbs, _-ℤ_, _*ℤ_}
 use lib.Ieee.{Float, nan, inf, fin, up, down}
 use lib.Ieee.Exact.{HasValue}
 use lib.Ieee.Fits.{down-pos}
-use lib.Ieee.Scale.{finite}
 use Rattle.whole.proofs.Ring.{var, lit, _⊖_, _⊗_, solve, equal-of-sub}
 use Rattle.whole.proofs.Fit.{natAbs-mul}
 use Rattle.doubles.specs.Exact.{signed, Value}
@@ -29,19 +27,6 @@ value-of nan s a c v = v
 value-of (inf t) s a c v = v
 value-of (fin t m e) s a c v =
     ap (λ u. signed u (m * up e) *ℤ pos c) (v .0) ∙ sym (signed-times s (m * up e) c) ∙ ap (signed s) (v .1) ∙ signed-times s a (down e)
-
--- each finite double has a value
-pub finite-value : (x : Float) → T (finite x) → (z : ℤ) × (d : ℕ) × (0 < d) × Value x z d
-unfolding Value
-finite-value nan t = absurd t
-finite-value (inf s) t = absurd t
-finite-value (fin s m e) t = (signed s (m * up e), down e, down-pos e, refl)
-
-pub value-finite : (x : Float) (z : ℤ) (d : ℕ) → Value x z d → T (finite x)
-unfolding Value
-value-finite nan z d v = v
-value-finite (inf s) z d v = v
-value-finite (fin s m e) z d v = tt
 
 -- a factor above 0 may go
 nothing : (z : ℤ) (d : ℕ) → 0 < d → natAbs z * d ≡ 0 → z ≡ pos 0

@@ -135,13 +135,6 @@ nearest-scale m z d hm hd =
     ∙ ap (λ x. floor (pos m *ℤ (pos 2 *ℤ z +ℤ pos d)) x) (mul-left-comm 2 m d)
     ∙ floor-scale m (pos 2 *ℤ z +ℤ pos d) (2 * d) hm (omega arith)
 
--- a whole number more
-pub nearest-add : (z : ℤ) (d : ℕ) (n : ℤ) → 0 < d → nearest (z +ℤ pos d *ℤ n) d ≡ nearest z d +ℤ n
-unfolding nearest
-nearest-add z d n h =
-    ap (λ x. floor x (2 * d)) (solve (z ∷ pos d ∷ n ∷ []) (lit (pos 2) ⊗ (var 0 ⊕ var 1 ⊗ var 2) ⊕ var 1) (lit (pos 2) ⊗ var 0 ⊕ var 1 ⊕ lit (pos 2) ⊗ var 1 ⊗ var 2) tt)
-    ∙ floor-add (pos 2 *ℤ z +ℤ pos d) (2 * d) n (omega arith)
-
 -- a whole value is kept
 pub nearest-whole : (n : ℤ) (d : ℕ) → 0 < d → nearest (pos d *ℤ n) d ≡ n
 unfolding nearest

@@ -4,7 +4,7 @@ use Prim.Native.Nat.{ℕ, _*_}
 use native.Mathlib.Nat.{mul-le-mul-right}
 use native.Mathlib.Omega.{arith}
 use borrow.Author.Needs.{needs}
-use Rattle.curve.specs.Span.{stride, firstRecord}
+use Rattle.curve.specs.Span.{firstRecord}
 use Rattle.curve.proofs.Stride.{stride-bounds}
 use Rattle.curve.proofs.records.first_record.Statement.{statement}
 use Rattle.curve.proofs.records.first_record.Tie as tie
