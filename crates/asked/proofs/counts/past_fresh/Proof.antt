@@ -17,7 +17,7 @@ stride-of-requires : tie.Need-stride-of-requires
 stride-of-requires c κs = search needs
 
 div-least : tie.Need-div-least
-div-least c = omega (arith, c .stride-of .ensures, stride-bounds (c .before .before .before .args .basis) .0)
+div-least c = omega (arith, c .stride-of .ensures, stride-bounds (c .before .before .before .args .plan .basis) .0)
 
 add-least : tie.Need-add-least
 add-least c = let j = c .before .before .before .args .place in omega (arith, div-le-self j (c .stride-of .result))
@@ -41,14 +41,14 @@ least-requires-3 : tie.Need-least-requires-3
 least-requires-3 c κs = search needs
 
 -- the definition at an arm's edit
-told : (s : tie.Start) (e : Edit) → s .args .edit ≡ e → pastFresh e (s .args .basis) (s .args .place) (s .args .spans) ≡ pastFresh (s .args .edit) (s .args .basis) (s .args .place) (s .args .spans)
-told s e is = ap (λ d. pastFresh d (s .args .basis) (s .args .place) (s .args .spans)) (sym is)
+told : (s : tie.Start) (e : Edit) → s .args .edit ≡ e → pastFresh e (s .args .plan) (s .args .place) ≡ pastFresh (s .args .edit) (s .args .plan) (s .args .place)
+told s e is = ap (λ d. pastFresh d (s .args .plan) (s .args .place)) (sym is)
 
 returns : tie.Need-returns
 returns c =
     let t = c .before .before in
     let s = t .before .before in
-    c .least .ensures ∙ ap (λ (d : ℕ). min (s .args .place / d + 1) (s .args .spans)) (c .before .stride-of .ensures) ∙ told s _ (t .enum-told .given .1)
+    c .least .ensures ∙ ap (λ (d : ℕ). min (s .args .place / d + 1) (s .args .plan .spans)) (c .before .stride-of .ensures) ∙ told s _ (t .enum-told .given .1)
 
 returns-2 : tie.Need-returns-2
 returns-2 c = let t = c .before in c .least2 .ensures ∙ told (t .before .before) _ (t .enum-told2 .given .1)
