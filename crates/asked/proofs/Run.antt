@@ -4,20 +4,17 @@ use mathlib.Core.Path.{_≡_, refl, ap}
 use mathlib.Core.Bool.{Bool, true, false, cond, _&&_}
 use mathlib.Core.Logic.{⊎-elim, _↔_}
 use Prim.Native.Nat.{ℕ, _+_, _*_, _-_, _≤_, _<_}
-use native.Mathlib.Nat.{div-le-self, div-mul-le-self, le-div-iff-mul-le, min-le-right}
+use native.Mathlib.Nat.{min-le-right}
 use native.Mathlib.Omega.{arith}
 use borrow.Author.Tests.{ltb-true, leb-true, lt-ltb, le-ltb, le-leb}
 use lib.Dec.{leb, ltb}
-use Rattle.curve.specs.declared.Basis.{Basis}
-use Rattle.curve.specs.Span.{stride}
 use Rattle.shape.specs.declared.Plan.{Plan}
-use Rattle.shape.specs.Shape.{shared, spansOf}
-use Rattle.curve.proofs.Stride.{stride-bounds}
+use Rattle.shape.proofs.Spans.{first-below}
 use Rattle.shape.proofs.Tests.{either, and-true}
 use Rattle.spans.specs.Numbers.{perSpan}
 use Rattle.asked.specs.declared.Edit.{Edit}
 use Rattle.asked.specs.declared.Edit.the-variants.{Move, Insert, Remove}
-use Rattle.asked.specs.Edits.{Run, firstUsing, lastUsing, firstFresh, pastFresh, runOf, carriedFrom, isFresh}
+use Rattle.asked.specs.Edits.{Run, lastUsing, firstFresh, pastFresh, runOf, carriedFrom, isFresh}
 
 cond-same : {A : Type 0} (t : Bool) (z : A) → cond t z z ≡ z
 cond-same true z = refl
@@ -52,14 +49,6 @@ pub past-most : (e : Edit) (p : Plan) (j : ℕ) → pastFresh e p j ≤ p .spans
 past-most (Move x y) p j = min-le-right (lastUsing (p .basis) j + 1) (p .spans)
 past-most (Insert x y) p j = min-le-right (j + 1) (p .spans)
 past-most Remove p j = min-le-right j (p .spans)
-
--- the first span that uses a record is not past the last, nor past the record
-first-below : (b : Basis) (j : ℕ) → (firstUsing b j ≤ lastUsing b j) × (lastUsing b j ≤ j)
-unfolding spansOf
-first-below b j = (
-  le-div-iff-mul-le {k = stride b} {x = spansOf b j} {y = j} (stride-bounds b .0) .1 (omega (arith, div-mul-le-self (j - shared b) (stride b))),
-  div-le-self j (stride b),
-)
 
 -- its first span is not past the place
 pub first-place : (e : Edit) (p : Plan) (j : ℕ) → firstFresh e p j ≤ j

@@ -4,15 +4,14 @@ use mathlib.Core.Path.{_≡_, ap, _∙_}
 use mathlib.Core.Bool.{true}
 use mathlib.Core.Logic.{⊎-elim, _↔_}
 use Prim.Native.Nat.{ℕ, _+_, _*_, _-_, _/_, _^_, _≤_, _<_}
-use native.Mathlib.Nat.{div-lt-iff-lt-mul, mul-comm, suc-mul, mul-le-mul-right, le-div-iff-mul-le, div-mul-le-self, lt-div-mul-add}
+use native.Mathlib.Nat.{suc-mul, mul-le-mul-right, le-div-iff-mul-le, div-mul-le-self, lt-div-mul-add}
 use native.Mathlib.Numerals.{add-one}
 use native.Mathlib.Omega.{arith}
 use lib.Pow.{pow-pos}
 use Rattle.curve.specs.declared.Basis.{Basis}
-use Rattle.curve.specs.Span.{stride, firstRecord}
-use Rattle.curve.proofs.Stride.{stride-bounds}
+use Rattle.curve.specs.Span.{firstRecord}
 use Rattle.shape.specs.declared.Plan.{Plan}
-use Rattle.shape.proofs.Spans.{among-first}
+use Rattle.shape.proofs.Spans.{among-first, begins-past}
 use Rattle.shape.proofs.Tests.{either}
 use Rattle.spans.proofs.Numbers.{per-span}
 use Rattle.asked.specs.declared.Edit.{Edit}
@@ -40,12 +39,9 @@ first-bound Remove p j t o = (omega (arith, spline-first (p .basis) o t), omega 
 
 -- and it is past the run exactly when its first record is past the place
 pub past-bound : (e : Edit) (p : Plan) (j t : ℕ) → offered e (p .basis) ≡ true → t < p .spans → (pastFresh e p j ≤ t) ↔ Beyond e j (firstRecord (p .basis) t)
-unfolding firstRecord
 past-bound (Move x y) p j t o h =
-    let b = p .basis in
-    let (to, from) = div-lt-iff-lt-mul {k = stride b} {x = j} {y = t} (stride-bounds b .0) in
-    let first = mul-comm (stride b) t in
-    ((λ past. omega (arith, first, to (omega arith))), (λ past. let last = from (omega (arith, first)) in omega (arith, last)))
+    let (to, from) = begins-past (p .basis) j t in
+    ((λ past. to (omega arith)), (λ past. let last = from past in omega (arith, last)))
 past-bound (Insert x y) p j t o h = (omega (arith, spline-first (p .basis) o t), omega (arith, spline-first (p .basis) o t))
 past-bound Remove p j t o h = (omega (arith, spline-first (p .basis) o t), omega (arith, spline-first (p .basis) o t))
 
