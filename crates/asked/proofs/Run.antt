@@ -9,12 +9,13 @@ use native.Mathlib.Omega.{arith}
 use borrow.Author.Tests.{ltb-true, leb-true, lt-ltb, le-ltb, le-leb}
 use lib.Dec.{leb, ltb}
 use Rattle.shape.specs.declared.Plan.{Plan}
+use Rattle.shape.specs.Shape.{lastUsing}
 use Rattle.shape.proofs.Spans.{first-below}
 use Rattle.shape.proofs.Tests.{either, and-true}
 use Rattle.spans.specs.Numbers.{perSpan}
 use Rattle.asked.specs.declared.Edit.{Edit}
 use Rattle.asked.specs.declared.Edit.the-variants.{Move, Insert, Remove}
-use Rattle.asked.specs.Edits.{Run, lastUsing, firstFresh, pastFresh, runOf, carriedFrom, isFresh}
+use Rattle.asked.specs.Edits.{Run, firstFresh, pastFresh, runOf, carriedFrom, isFresh}
 
 cond-same : {A : Type 0} (t : Bool) (z : A) → cond t z z ≡ z
 cond-same true z = refl

@@ -9,7 +9,7 @@ use Rattle.curve.specs.declared.Basis.{Basis}
 use Rattle.curve.specs.Limits.{beyond, limit}
 use Rattle.curve.specs.Span.{stride}
 use Rattle.shape.specs.declared.Plan.{Plan}
-use Rattle.shape.specs.Shape.{spansOf, leastRecords, mostRecords}
+use Rattle.shape.specs.Shape.{leastRecords, mostRecords, firstUsing, lastUsing}
 use Rattle.spans.specs.Numbers.{number, perSpan}
 use Rattle.spans.specs.Filled.{filled}
 use Rattle.asked.specs.declared.Edit.{Edit}
@@ -77,13 +77,6 @@ asked e j old n = filled (controlAt e j old) 0 (2 * n) old
 pub record Run : Type 0 where
   pub first : ℕ
   pub count : ℕ
-
--- The first and the last span that uses record j: the spans before have all their records among the first j, and those after begin past it.
-abbrev pub firstUsing : Basis → ℕ → ℕ
-firstUsing b j = spansOf b j
-
-abbrev pub lastUsing : Basis → ℕ → ℕ
-lastUsing b j = j / stride b
 
 -- Move: every span that uses record j. Insert: spans j-3 to j. Remove: spans j-3 to j-1. The first of them, and the one past the last, clipped to the spans of the new
 -- shape, whose plan is p.

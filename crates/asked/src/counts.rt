@@ -11,6 +11,7 @@ use curve::records::stride_of;
 use shape::LEAST_RECORDS;
 use shape::MOST_RECORDS;
 use shape::Plan;
+use shape::last_using;
 use shape::spans_of;
 
 // The control count after an edit.
@@ -138,7 +139,7 @@ pub fn past_fresh(edit: Edit, plan: Plan, place: usize) -> usize
 {
     let basis = plan.basis;
     match edit {
-        Edit::Move(_, _) => least(place / stride_of(basis) + 1, plan.spans),
+        Edit::Move(_, _) => least(last_using(basis, place) + 1, plan.spans),
         Edit::Insert(_, _) => least(place + 1, plan.spans),
         Edit::Remove => least(place, plan.spans),
     }

@@ -12,7 +12,7 @@ use Rattle.curve.specs.Span.{stride, firstRecord}
 use Rattle.curve.specs.Ways.{deepest}
 use Rattle.curve.specs.declared.Basis.{Basis}
 use Rattle.curve.proofs.Stride.{stride-bounds}
-use Rattle.shape.specs.Shape.{shared, recordsOf, spansOf, allowed, pointsOf, leastRecords, mostRecords, mostPoints}
+use Rattle.shape.specs.Shape.{shared, recordsOf, spansOf, firstUsing, lastUsing, allowed, pointsOf, leastRecords, mostRecords, mostPoints}
 use Rattle.shape.proofs.Tests.{passes, either, true-is-not-false, and-true}
 
 -- ---- records of a span
@@ -27,16 +27,16 @@ among-first b n t =
     ((λ h. let room = to h in omega (arith, next, room)), (λ h. from (omega (arith, next))))
 
 -- it begins past record j exactly when it is past the last span that uses it
-pub begins-past : (b : Basis) (j t : ℕ) → (j / stride b < t) ↔ (j < firstRecord b t)
-unfolding firstRecord
+pub begins-past : (b : Basis) (j t : ℕ) → (lastUsing b j < t) ↔ (j < firstRecord b t)
+unfolding firstRecord lastUsing
 begins-past b j t =
     let (to, from) = div-lt-iff-lt-mul {k = stride b} {x = j} {y = t} (stride-bounds b .0) in
     let first = mul-comm (stride b) t in
     ((λ h. let past = to h in omega (arith, first, past)), (λ h. from (omega (arith, first))))
 
 -- the first span that uses a record is not past the last, nor past the record
-pub first-below : (b : Basis) (j : ℕ) → (spansOf b j ≤ j / stride b) × (j / stride b ≤ j)
-unfolding spansOf
+pub first-below : (b : Basis) (j : ℕ) → (firstUsing b j ≤ lastUsing b j) × (lastUsing b j ≤ j)
+unfolding spansOf lastUsing
 first-below b j = (
   le-div-iff-mul-le {k = stride b} {x = spansOf b j} {y = j} (stride-bounds b .0) .1 (omega (arith, div-mul-le-self (j - shared b) (stride b))),
   div-le-self j (stride b),
