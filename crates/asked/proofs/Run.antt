@@ -4,19 +4,18 @@ use mathlib.Core.Path.{_≡_, refl, ap}
 use mathlib.Core.Bool.{Bool, true, false, cond, _&&_}
 use mathlib.Core.Logic.{⊎-elim, _↔_}
 use Prim.Native.Nat.{ℕ, _+_, _*_, _-_, _≤_, _<_}
-use native.Mathlib.Nat.{div-le-self, div-mul-le-self, le-div-iff-mul-le, min-le-right}
+use native.Mathlib.Nat.{min-le-right}
 use native.Mathlib.Omega.{arith}
 use borrow.Author.Tests.{ltb-true, leb-true, lt-ltb, le-ltb, le-leb}
 use lib.Dec.{leb, ltb}
-use Rattle.curve.specs.declared.Basis.{Basis}
-use Rattle.curve.specs.Span.{stride}
-use Rattle.shape.specs.Shape.{shared, spansOf}
-use Rattle.curve.proofs.Stride.{stride-bounds}
+use Rattle.shape.specs.declared.Plan.{Plan}
+use Rattle.shape.specs.Shape.{lastUsing}
+use Rattle.shape.proofs.Spans.{first-below}
 use Rattle.shape.proofs.Tests.{either, and-true}
 use Rattle.spans.specs.Numbers.{perSpan}
 use Rattle.asked.specs.declared.Edit.{Edit}
 use Rattle.asked.specs.declared.Edit.the-variants.{Move, Insert, Remove}
-use Rattle.asked.specs.Edits.{Run, firstUsing, lastUsing, firstFresh, pastFresh, runOf, carriedFrom, isFresh}
+use Rattle.asked.specs.Edits.{Run, firstFresh, pastFresh, runOf, carriedFrom, isFresh}
 
 cond-same : {A : Type 0} (t : Bool) (z : A) → cond t z z ≡ z
 cond-same true z = refl
@@ -24,60 +23,52 @@ cond-same false z = refl
 
 -- ---- its two numbers
 
-module _ (e : Edit) (b : Basis) (j m : ℕ) where
-  pub run-count : runOf e b j m .count ≡ pastFresh e b j m - firstFresh e b j
+module _ (e : Edit) (p : Plan) (j : ℕ) where
+  pub run-count : runOf e p j .count ≡ pastFresh e p j - firstFresh e p j
   unfolding runOf
   run-count = refl
 
-  run-first : firstFresh e b j < pastFresh e b j m → runOf e b j m .first ≡ firstFresh e b j
+  run-first : firstFresh e p j < pastFresh e p j → runOf e p j .first ≡ firstFresh e p j
   unfolding runOf
-  run-first h = ap (λ t. cond t (firstFresh e b j) 0) (lt-ltb (firstFresh e b j) (pastFresh e b j m) h)
+  run-first h = ap (λ t. cond t (firstFresh e p j) 0) (lt-ltb (firstFresh e p j) (pastFresh e p j) h)
 
-  pub run-nought : pastFresh e b j m ≤ firstFresh e b j → runOf e b j m .first ≡ 0
+  pub run-nought : pastFresh e p j ≤ firstFresh e p j → runOf e p j .first ≡ 0
   unfolding runOf
-  run-nought h = ap (λ t. cond t (firstFresh e b j) 0) (le-ltb (firstFresh e b j) (pastFresh e b j m) h)
+  run-nought h = ap (λ t. cond t (firstFresh e p j) 0) (le-ltb (firstFresh e p j) (pastFresh e p j) h)
 
   -- so its spans are those from the one bound up to the other
-  pub run-spans : (t : ℕ) → ((runOf e b j m .first ≤ t) × (t < runOf e b j m .first + runOf e b j m .count)) ↔ ((firstFresh e b j ≤ t) × (t < pastFresh e b j m))
+  pub run-spans : (t : ℕ) → ((runOf e p j .first ≤ t) × (t < runOf e p j .first + runOf e p j .count)) ↔ ((firstFresh e p j ≤ t) × (t < pastFresh e p j))
   run-spans t =
       ⊎-elim (λ h. ((λ (low, high). (omega (arith, run-first h), omega (arith, run-first h, run-count))), (λ (low, high). (omega (arith, run-first h), omega (arith, run-first h, run-count)))))
       (λ h. ((λ (low, high). absurd (omega (arith, run-count))), (λ (low, high). absurd (omega arith))))
-      (either (firstFresh e b j) (pastFresh e b j m))
+      (either (firstFresh e p j) (pastFresh e p j))
 
 -- ---- where it lies
 
 -- it ends with the spans of the new shape
-pub past-most : (e : Edit) (b : Basis) (j m : ℕ) → pastFresh e b j m ≤ m
-past-most (Move x y) b j m = min-le-right (lastUsing b j + 1) m
-past-most (Insert x y) b j m = min-le-right (j + 1) m
-past-most Remove b j m = min-le-right j m
-
--- the first span that uses a record is not past the last, nor past the record
-first-below : (b : Basis) (j : ℕ) → (firstUsing b j ≤ lastUsing b j) × (lastUsing b j ≤ j)
-unfolding spansOf
-first-below b j = (
-  le-div-iff-mul-le {k = stride b} {x = spansOf b j} {y = j} (stride-bounds b .0) .1 (omega (arith, div-mul-le-self (j - shared b) (stride b))),
-  div-le-self j (stride b),
-)
+pub past-most : (e : Edit) (p : Plan) (j : ℕ) → pastFresh e p j ≤ p .spans
+past-most (Move x y) p j = min-le-right (lastUsing (p .basis) j + 1) (p .spans)
+past-most (Insert x y) p j = min-le-right (j + 1) (p .spans)
+past-most Remove p j = min-le-right j (p .spans)
 
 -- its first span is not past the place
-pub first-place : (e : Edit) (b : Basis) (j : ℕ) → firstFresh e b j ≤ j
-first-place (Move x y) b j = omega (arith, first-below b j .0, first-below b j .1)
-first-place (Insert x y) b j = omega arith
-first-place Remove b j = omega arith
+pub first-place : (e : Edit) (p : Plan) (j : ℕ) → firstFresh e p j ≤ j
+first-place (Move x y) p j = omega (arith, first-below (p .basis) j .0, first-below (p .basis) j .1)
+first-place (Insert x y) p j = omega arith
+first-place Remove p j = omega arith
 
 -- where it is empty and some spans are past it, none is before it
-pub none-first : (e : Edit) (b : Basis) (j m : ℕ) → pastFresh e b j m ≤ firstFresh e b j → pastFresh e b j m < m → firstFresh e b j ≡ 0
-none-first (Move x y) b j m h k = absurd (omega (arith, first-below b j .0))
-none-first (Insert x y) b j m h k = absurd (omega arith)
-none-first Remove b j m h k = omega arith
+pub none-first : (e : Edit) (p : Plan) (j : ℕ) → pastFresh e p j ≤ firstFresh e p j → pastFresh e p j < p .spans → firstFresh e p j ≡ 0
+none-first (Move x y) p j h k = absurd (omega (arith, first-below (p .basis) j .0))
+none-first (Insert x y) p j h k = absurd (omega arith)
+none-first Remove p j h k = omega arith
 
 -- a span past it is not before the place, or the edit is a move, which carries nothing
-pub later-carried : {A : Type 0} (e : Edit) (b : Basis) (j m t w q : ℕ) (f : ℕ → A) → t < m → pastFresh e b j m ≤ t
+pub later-carried : {A : Type 0} (e : Edit) (p : Plan) (j t w q : ℕ) (f : ℕ → A) → t < p .spans → pastFresh e p j ≤ t
     → cond (ltb t j) (f q) (f (carriedFrom e w q)) ≡ f (carriedFrom e w q)
-later-carried (Move x y) b j m t w q f h past = cond-same (ltb t j) (f q)
-later-carried (Insert x y) b j m t w q f h past = ap (λ v. cond v (f q) (f (q - w))) (le-ltb t j (omega arith))
-later-carried Remove b j m t w q f h past = ap (λ v. cond v (f q) (f (q + w))) (le-ltb t j (omega arith))
+later-carried (Move x y) p j t w q f h past = cond-same (ltb t j) (f q)
+later-carried (Insert x y) p j t w q f h past = ap (λ v. cond v (f q) (f (q - w))) (le-ltb t j (omega arith))
+later-carried Remove p j t w q f h past = ap (λ v. cond v (f q) (f (q + w))) (le-ltb t j (omega arith))
 
 -- ---- fresh numbers
 
@@ -96,33 +87,33 @@ facts-fresh run k q some low high =
     simp (lt-ltb 0 (run .count) some, le-leb (run .first * perSpan k) q low, lt-ltb q ((run .first + run .count) * perSpan k + 2) high)
 
 -- so of an edit's run
-module _ (e : Edit) (b : Basis) (j m k q : ℕ) where
+module _ (e : Edit) (p : Plan) (j k q : ℕ) where
   abbrev a : ℕ
-  a = firstFresh e b j
+  a = firstFresh e p j
 
   abbrev z : ℕ
-  z = pastFresh e b j m
+  z = pastFresh e p j
 
   abbrev w : ℕ
   w = perSpan k
 
   abbrev run : Run
-  run = runOf e b j m
+  run = runOf e p j
 
   run-bounds : a < z → (run .first * w ≡ a * w) × ((run .first + run .count) * w ≡ z * w)
   run-bounds h =
-      let first = run-first e b j m h in
-      let past : run .first + run .count ≡ z = omega (arith, first, run-count e b j m) in
+      let first = run-first e p j h in
+      let past : run .first + run .count ≡ z = omega (arith, first, run-count e p j) in
       (ap (λ (n : ℕ). n * w) first, ap (λ (n : ℕ). n * w) past)
 
   pub fresh-bounds : isFresh run k q ≡ true → (a < z) × (a * w ≤ q) × (q < z * w + 2)
   fresh-bounds t =
       let (some, low, high) = fresh-facts run k q t in
-      let first : a < z = omega (arith, run-count e b j m) in
+      let first : a < z = omega (arith, run-count e p j) in
       let (start, end) = run-bounds first in
       (first, omega (arith, start), omega (arith, end))
 
   pub bounds-fresh : a < z → a * w ≤ q → q < z * w + 2 → isFresh run k q ≡ true
   bounds-fresh first low high =
       let (start, end) = run-bounds first in
-      facts-fresh run k q (omega (arith, run-count e b j m)) (omega (arith, start)) (omega (arith, end))
+      facts-fresh run k q (omega (arith, run-count e p j)) (omega (arith, start)) (omega (arith, end))

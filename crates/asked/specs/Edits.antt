@@ -8,7 +8,8 @@ use lib.ListN.{getD}
 use Rattle.curve.specs.declared.Basis.{Basis}
 use Rattle.curve.specs.Limits.{beyond, limit}
 use Rattle.curve.specs.Span.{stride}
-use Rattle.shape.specs.Shape.{spansOf, leastRecords, mostRecords}
+use Rattle.shape.specs.declared.Plan.{Plan}
+use Rattle.shape.specs.Shape.{leastRecords, mostRecords, firstUsing, lastUsing}
 use Rattle.spans.specs.Numbers.{number, perSpan}
 use Rattle.spans.specs.Filled.{filled}
 use Rattle.asked.specs.declared.Edit.{Edit}
@@ -77,30 +78,23 @@ pub record Run : Type 0 where
   pub first : ℕ
   pub count : ℕ
 
--- The first and the last span that uses record j: the spans before have all their records among the first j, and those after begin past it.
-abbrev pub firstUsing : Basis → ℕ → ℕ
-firstUsing b j = spansOf b j
+-- Move: every span that uses record j. Insert: spans j-3 to j. Remove: spans j-3 to j-1. The first of them, and the one past the last, clipped to the spans of the new
+-- shape, whose plan is p.
+abbrev pub firstFresh : Edit → Plan → ℕ → ℕ
+firstFresh (Move x y) p j = firstUsing (p .basis) j
+firstFresh (Insert x y) p j = j - 3
+firstFresh Remove p j = j - 3
 
-abbrev pub lastUsing : Basis → ℕ → ℕ
-lastUsing b j = j / stride b
-
--- Move: every span that uses record j. Insert: spans j-3 to j. Remove: spans j-3 to j-1. The first of them, and the one past the last, clipped to the m spans of the new
--- shape.
-abbrev pub firstFresh : Edit → Basis → ℕ → ℕ
-firstFresh (Move x y) b j = firstUsing b j
-firstFresh (Insert x y) b j = j - 3
-firstFresh Remove b j = j - 3
-
-abbrev pub pastFresh : Edit → Basis → ℕ → ℕ → ℕ
-pastFresh (Move x y) b j m = min (lastUsing b j + 1) m
-pastFresh (Insert x y) b j m = min (j + 1) m
-pastFresh Remove b j m = min j m
+abbrev pub pastFresh : Edit → Plan → ℕ → ℕ
+pastFresh (Move x y) p j = min (lastUsing (p .basis) j + 1) (p .spans)
+pastFresh (Insert x y) p j = min (j + 1) (p .spans)
+pastFresh Remove p j = min j (p .spans)
 
 -- The run of an edit: from the one up to, and not with, the other; where there are none, both numbers are 0.
-unfoldable pub runOf : Edit → Basis → ℕ → ℕ → Run
-runOf e b j m =
-    let a = firstFresh e b j in
-    let z = pastFresh e b j m in
+unfoldable pub runOf : Edit → Plan → ℕ → Run
+runOf e p j =
+    let a = firstFresh e p j in
+    let z = pastFresh e p j in
     record { first = cond (ltb a z) a 0; count = z - a }
 
 -- ---- the points
@@ -117,8 +111,9 @@ isFresh run k q = ltb 0 (run .count) && (leb (run .first * perSpan k) q && ltb q
 
 -- Number q of the new points, for any contents of the lent ones: fresh; or of a span before the place, which stays; or of a later one, which is carried. The last point
 -- is its last span's.
-unfoldable pub pointAt : Edit → Basis → ℕ → ℕ → ℕ → List ℤ → List ℤ → ℕ → ℤ
-pointAt e b k j m controls lent q =
-    cond (isFresh (runOf e b j m) k q)
-    (number b k m controls q)
-    (cond (ltb (min (q / perSpan k) (m - 1)) j) (getD lent q (pos 0)) (getD lent (carriedFrom e (perSpan k) q) (pos 0)))
+unfoldable pub pointAt : Edit → Plan → ℕ → List ℤ → List ℤ → ℕ → ℤ
+pointAt e p j controls lent q =
+    let w = perSpan (p .depth) in
+    cond (isFresh (runOf e p j) (p .depth) q)
+    (number p controls q)
+    (cond (ltb (min (q / w) (p .spans - 1)) j) (getD lent q (pos 0)) (getD lent (carriedFrom e w q) (pos 0)))

@@ -10,6 +10,8 @@ use curve::bounds::is_beyond;
 use curve::records::stride_of;
 use shape::LEAST_RECORDS;
 use shape::MOST_RECORDS;
+use shape::Plan;
+use shape::last_using;
 use shape::spans_of;
 
 // The control count after an edit.
@@ -117,11 +119,12 @@ fn least(a: usize, b: usize) -> usize
     b
 }
 
-// The first span worked afresh.
-pub fn first_fresh(edit: Edit, basis: Basis, place: usize) -> usize
+// The first span worked afresh, of the plan of the new shape.
+pub fn first_fresh(edit: Edit, plan: Plan, place: usize) -> usize
     requires { ⌜ place ≤ mostRecords ⌝ }
-    ensures { λ r. ⌜ r ≡ firstFresh edit basis place ⌝ }
+    ensures { λ r. ⌜ r ≡ firstFresh edit plan place ⌝ }
 {
+    let basis = plan.basis;
     match edit {
         Edit::Move(_, _) => spans_of(basis, place),
         Edit::Insert(_, _) => less(place, 3),
@@ -129,14 +132,15 @@ pub fn first_fresh(edit: Edit, basis: Basis, place: usize) -> usize
     }
 }
 
-// One past the last span worked afresh, of `spans` in the new shape.
-pub fn past_fresh(edit: Edit, basis: Basis, place: usize, spans: usize) -> usize
+// One past the last span worked afresh.
+pub fn past_fresh(edit: Edit, plan: Plan, place: usize) -> usize
     requires { ⌜ place ≤ mostRecords ⌝ }
-    ensures { λ r. ⌜ r ≡ pastFresh edit basis place spans ⌝ }
+    ensures { λ r. ⌜ r ≡ pastFresh edit plan place ⌝ }
 {
+    let basis = plan.basis;
     match edit {
-        Edit::Move(_, _) => least(place / stride_of(basis) + 1, spans),
-        Edit::Insert(_, _) => least(place + 1, spans),
-        Edit::Remove => least(place, spans),
+        Edit::Move(_, _) => least(last_using(basis, place) + 1, plan.spans),
+        Edit::Insert(_, _) => least(place + 1, plan.spans),
+        Edit::Remove => least(place, plan.spans),
     }
 }

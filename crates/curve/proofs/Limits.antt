@@ -7,6 +7,7 @@ use Prim.Native.Nat.{ℕ, _+_, _*_, _-_, _^_, _≤_}
 use native.Mathlib.Nat.{le-refl, le-of-eq, le-trans, add-comm, mul-comm}
 use native.Mathlib.Decide.{decLe}
 use native.Mathlib.Omega.{arith}
+use lib.Dec.{T, leb, lit≤}
 use lib.IntN.{ℤ, pos, natAbs, _+ℤ_, _*ℤ_}
 use lib.Signed.{_≤ℤ_}
 use Rattle.whole.proofs.Ring.{Ex, var, lit, _⊕_, _⊖_, _⊗_, ev, solve}
@@ -20,6 +21,7 @@ use Rattle.curve.specs.Four.{four, dot}
 use Rattle.curve.specs.Published.{weights}
 use Rattle.curve.specs.Span.{sixfold, sixfoldControls, weighted, divisor, point}
 use Rattle.curve.specs.Limits.{limit, reach, Inside, AtMost, all, Box}
+use Rattle.curve.specs.Inner.{widest}
 use Rattle.curve.proofs.Powers.{cube, thrice}
 use Rattle.curve.proofs.Span.{divisor-pos}
 use Rattle.curve.proofs.Reflect.{Fourᵉ, fourᵉ, num, p, weightedᵉ, sixfoldᵉ}
@@ -216,3 +218,34 @@ sum-size b k i q within inside =
 pub point-size : (b : Basis) (k i : ℕ) (q : Four) → i ≤ 2 ^ k → Inside limit q → natAbs (point b k q i) ≤ reach
 unfolding point
 point-size b k i q within inside = nearest-size (weighted (sixfoldControls b q) (pos i) (pos (2 ^ k))) (divisor b k) reach (divisor-pos b k) (sum-size b k i q within inside)
+
+-- ---- the sixfold controls of records inside the limit
+
+-- four expressions in records inside the limit, whose sizes compute to at most eight times the limit
+abbrev limits : List ℕ
+limits = limit ∷ limit ∷ limit ∷ limit ∷ []
+
+abbrev small : Ex → Type 0
+small e = T (leb (size limits e) widest)
+
+abbrev worth : Four → Fourᵉ → Four
+worth q e = let r = q .a ∷ q .b ∷ q .c ∷ q .d ∷ [] in four (ev r (e .a)) (ev r (e .b)) (ev r (e .c)) (ev r (e .d))
+
+sized : (q : Four) → Inside limit q → (e : Fourᵉ) → small (e .a) → small (e .b) → small (e .c) → small (e .d) → Inside widest (worth q e)
+sized q inside e t u v w =
+    let r = q .a ∷ q .b ∷ q .c ∷ q .d ∷ [] in
+    let ok : Bounded r limits = (inside .a, (inside .b, (inside .c, (inside .d, tt)))) in
+    record {
+      a = le-trans (ev-size r limits ok (e .a)) (lit≤ t);
+      b = le-trans (ev-size r limits ok (e .b)) (lit≤ u);
+      c = le-trans (ev-size r limits ok (e .c)) (lit≤ v);
+      d = le-trans (ev-size r limits ok (e .d)) (lit≤ w);
+    }
+
+-- so the sixfold controls of each basis are: at most eight times the limit
+pub sixfold-inside : (b : Basis) (q : Four) → Inside limit q → Inside widest (sixfoldControls b q)
+unfolding sixfoldControls
+sixfold-inside Bezier q inside = sized q inside (sixfoldᵉ Bezier p) tt tt tt tt
+sixfold-inside BSpline q inside = sized q inside (sixfoldᵉ BSpline p) tt tt tt tt
+sixfold-inside Cardinal q inside = sized q inside (sixfoldᵉ Cardinal p) tt tt tt tt
+sixfold-inside Hermite q inside = sized q inside (sixfoldᵉ Hermite p) tt tt tt tt

@@ -1,7 +1,7 @@
 -- The stride of a basis is from 1 to 3: all that counts and places need to know of a basis.
-use mathlib.Core.Path.{_≡_}
-use Prim.Native.Nat.{ℕ, suc, _+_, _≤_}
-use native.Mathlib.Nat.{mul-suc}
+use mathlib.Core.Path.{_≡_, ap, _∙_}
+use Prim.Native.Nat.{ℕ, suc, _+_, _*_, _≤_, _<_}
+use native.Mathlib.Nat.{mul-le-mul-left, mul-suc, one-mul}
 use native.Mathlib.Omega.{arith}
 use Rattle.curve.specs.declared.Basis.{Basis}
 use Rattle.curve.specs.declared.Basis.the-variants.{Bezier, BSpline, Cardinal, Hermite}
@@ -17,3 +17,13 @@ stride-bounds Hermite = (omega arith, omega arith)
 pub next-first : (b : Basis) (s : ℕ) → firstRecord b (suc s) ≡ firstRecord b s + stride b
 unfolding firstRecord
 next-first b s = mul-suc (stride b) s
+
+-- and every later one's at least that
+pub later-first : (b : Basis) (s t : ℕ) → s < t → firstRecord b s + stride b ≤ firstRecord b t
+unfolding firstRecord
+later-first b s t h = let on : stride b * suc s ≤ stride b * t = mul-le-mul-left (stride b) h in omega (arith, mul-suc (stride b) s, on)
+
+-- where the stride is 1, span s begins with record s
+pub unit-first : (b : Basis) → stride b ≡ 1 → (s : ℕ) → firstRecord b s ≡ s
+unfolding firstRecord
+unit-first b one s = ap (λ (d : ℕ). d * s) one ∙ one-mul s

@@ -160,12 +160,13 @@ askable-by (Insert x y) j n len range room = (leb-true j n range, omega (arith, 
 askable-by Remove j n len range room = (ltb-true j n range, omega (arith, room, le-max-left n (n - 1)))
 
 -- each carried span has its neighbour in the list
-carriable-by : (e : Edit) (b : Basis) (j m w len : ℕ) → 1 ≤ m → 1 ≤ spansAfter e m → m * w + 2 ≤ len → spansAfter e m * w + 2 ≤ len → Carriable e (pastFresh e b j (spansAfter e m)) (spansAfter e m) w len
-carriable-by (Move x y) b j m w len some left old new = tt
-carriable-by (Insert x y) b j m w len some left old new = (omega arith, new)
-carriable-by Remove b j m w len some left old new =
-    let back : suc (m - 1) ≡ m = omega arith in
-    omega (arith, suc-mul (m - 1) w, ap (λ (n : ℕ). n * w) back)
+carriable-by : (e : Edit) (p : Plan) (j w len : ℕ) → 1 ≤ p .spans → 1 ≤ spansAfter e (p .spans) → p .spans * w + 2 ≤ len → spansAfter e (p .spans) * w + 2 ≤ len
+    → Carriable e (pastFresh e (planAfter e p) j) (spansAfter e (p .spans)) w len
+carriable-by (Move x y) p j w len some left old new = tt
+carriable-by (Insert x y) p j w len some left old new = (omega arith, new)
+carriable-by Remove p j w len some left old new =
+    let back : suc (p .spans - 1) ≡ p .spans = omega arith in
+    omega (arith, suc-mul (p .spans - 1) w, ap (λ (n : ℕ). n * w) back)
 
 -- ---- rows 7, 8, 9
 
@@ -233,7 +234,7 @@ module _ (e : Edit) (s : Shape) (p : Plan) (j : ℕ) (ok : Editable e s p j) (co
         askable = askable-by e j n (length controls) (ok .inRange) room;
         drawable = drawable (shapeAfter e s) q (good-after e s p j ok) (asked e j controls (countAfter e n)) 0 len new-lent;
         points-room = new-fits;
-        carriable = carriable-by e (p .basis) j (p .spans) (perSpan (p .depth)) len (ok .good .spans-least) (good-after e s p j ok .spans-least) old-fits new-fits;
+        carriable = carriable-by e p j (perSpan (p .depth)) len (ok .good .spans-least) (good-after e s p j ok .spans-least) old-fits new-fits;
       }
 
 -- ---- the rows of a call, check by check

@@ -3,23 +3,19 @@ use mathlib.Core.Path.{_≡_, sym, ap, _∙_}
 use mathlib.Core.Bool.{true, false, cond}
 use mathlib.Core.Logic.{⊎-elim}
 use mathlib.Core.List.{List}
-use Prim.Native.Nat.{ℕ, suc, _+_, _*_, _-_, _/_, _%_, _^_, min, _≤_, _<_}
-use native.Mathlib.Nat.{add-mul, mul-le-mul-right, div-lt-iff-lt-mul, le-div-iff-mul-le, min-eq-left, min-le-left, min-le-right, zero-mul}
+use Prim.Native.Nat.{ℕ, _+_, _*_, _-_, _/_, min, _≤_, _<_}
+use native.Mathlib.Nat.{add-mul, mul-le-mul-right, div-lt-iff-lt-mul, le-div-iff-mul-le, min-le-left, min-le-right, zero-mul}
 use native.Mathlib.Omega.{arith}
 use borrow.Author.Tests.{lt-ltb, le-ltb}
-use lib.Arith.{digits-div}
 use lib.Dec.{ltb}
 use lib.IntN.{ℤ, pos}
 use lib.ListN.{getD, length}
 use lib.Pow.{pow-pos}
-use Rattle.curve.specs.declared.Basis.{Basis}
-use Rattle.curve.specs.Span.{coordinate, records, point}
-use Rattle.curve.proofs.Span.{joint}
+use Rattle.shape.specs.declared.Plan.{Plan}
 use Rattle.shape.proofs.Tests.{passes, either}
 use Rattle.spans.specs.Numbers.{number, perSpan}
 use Rattle.spans.specs.Filled.{filled}
 use Rattle.spans.proofs.Filled.{length-filled, in-filled, before-filled, past-filled, none-filled, is-filled}
-use Rattle.spans.proofs.Numbers.{per-span, located, end-number}
 use Rattle.asked.specs.declared.Edit.{Edit}
 use Rattle.asked.specs.Edits.{Run, firstFresh, pastFresh, runOf, carriedFrom, isFresh, pointAt}
 use Rattle.asked.proofs.Run.{past-most, first-place, none-first, later-carried, fresh-bounds, bounds-fresh}
@@ -41,54 +37,26 @@ run-end first past w h =
     let whole : first + (past - first) ≡ past = omega arith in
     omega (arith, run-some first past w h, add-mul first (past - first) w, ap (λ (n : ℕ). n * w) whole)
 
--- ---- the numbers of fewer spans are those of all, up to their end: a joint
-
-pub fewer-numbers : (b : Basis) (k e m : ℕ) (c : List ℤ) (i : ℕ) → 0 < e → e ≤ m → i < e * perSpan k + 2 → number b k e c i ≡ number b k m c i
-unfolding number
-fewer-numbers b k e m c i some most within =
-    ⊎-elim inner (λ past. ⊎-elim (λ h. at-joint h past) (λ h. let same : e ≡ m = omega arith in ap (λ (n : ℕ). number b k n c i) same) (either e m)) (either i (e * perSpan k))
-  where
-    inner : i < e * perSpan k → number b k e c i ≡ number b k m c i
-    inner h =
-        let g = i / 2 in
-        let low : g < e * 2 ^ k = omega (arith, per-span e k) in
-        let span : g / 2 ^ k < e = div-lt-iff-lt-mul {k = 2 ^ k} {x = g} {y = e} (pow-pos k) .1 low in
-        let here : min (g / 2 ^ k) (e - 1) ≡ g / 2 ^ k = min-eq-left (omega arith) in
-        let there : min (g / 2 ^ k) (m - 1) ≡ g / 2 ^ k = min-eq-left (omega arith) in
-        ap (λ (t : ℕ). point b k (records b t (coordinate c (i % 2))) (g - t * 2 ^ k)) (here ∙ sym there)
-
-    at-joint : e < m → e * perSpan k ≤ i → number b k e c i ≡ number b k m c i
-    at-joint h past =
-        let r = i - e * perSpan k in
-        let q = e * perSpan k + r in
-        let at : q ≡ i = omega arith in
-        let few : r < 2 = omega arith in
-        let half : q / 2 ≡ e * 2 ^ k + 0 = omega (arith, per-span e k) in
-        let axis : q % 2 ≡ r = omega (arith, per-span e k) in
-        let next : suc (e - 1) ≡ e = omega arith in
-        let span : min (q / 2 / 2 ^ k) (m - 1) ≡ e = ap (λ (n : ℕ). min (n / 2 ^ k) (m - 1)) half ∙ ap (λ (n : ℕ). min n (m - 1)) (digits-div e (pow-pos k)) ∙ min-eq-left (omega arith) in
-        ap (number b k e c) (sym at)
-        ∙ end-number b k e c r some few
-        ∙ joint b k (e - 1) (coordinate c r)
-        ∙ ap (λ (n : ℕ). point b k (records b n (coordinate c r)) 0) next
-        ∙ ap (λ (a : ℕ). point b k (records b e (coordinate c a)) 0) (sym axis)
-        ∙ sym (located b k m c q e 0 span half)
-        ∙ ap (number b k m c) at
-
 -- ---- the points of an edit
 
-module _ (ed : Edit) (b : Basis) (k j m : ℕ) (c lent : List ℤ) (some : 1 ≤ m) (room : m * perSpan k + 2 ≤ length lent) where
+module _ (ed : Edit) (p : Plan) (j : ℕ) (c lent : List ℤ) (some : 1 ≤ p .spans) (room : p .spans * perSpan (p .depth) + 2 ≤ length lent) where
+  abbrev k : ℕ
+  k = p .depth
+
+  abbrev m : ℕ
+  m = p .spans
+
   abbrev w : ℕ
   w = perSpan k
 
   abbrev a : ℕ
-  a = firstFresh ed b j
+  a = firstFresh ed p j
 
   abbrev e : ℕ
-  e = pastFresh ed b j m
+  e = pastFresh ed p j
 
   abbrev run : Run
-  run = runOf ed b j m
+  run = runOf ed p j
 
   wide : 0 < w
   wide = omega (arith, pow-pos k)
@@ -97,46 +65,46 @@ module _ (ed : Edit) (b : Basis) (k j m : ℕ) (c lent : List ℤ) (some : 1 ≤
   carried q = getD lent (carriedFrom ed w q) (pos 0)
 
   abbrev wanted : ℕ → ℤ
-  wanted = pointAt ed b k j m c lent
+  wanted = pointAt ed p j c lent
 
   not-fresh : (i : ℕ) → (a < e → a * w ≤ i → i < e * w + 2 → ⊥) → isFresh run k i ≡ false
-  not-fresh i none = ⊎-elim (λ t. let (first, low, high) = fresh-bounds ed b j m k i t in absurd (none first low high)) (λ t. t) (passes (isFresh run k i))
+  not-fresh i none = ⊎-elim (λ t. let (first, low, high) = fresh-bounds ed p j k i t in absurd (none first low high)) (λ t. t) (passes (isFresh run k i))
 
   abbrev span : ℕ → ℕ
   span i = min (i / w) (m - 1)
 
-  pub fresh-at : (i : ℕ) → isFresh run k i ≡ true → wanted i ≡ number b k m c i
+  pub fresh-at : (i : ℕ) → isFresh run k i ≡ true → wanted i ≡ number p c i
   unfolding pointAt
-  fresh-at i fresh = ap (λ t. cond t (number b k m c i) (cond (ltb (span i) j) (getD lent i (pos 0)) (carried i))) fresh
+  fresh-at i fresh = ap (λ t. cond t (number p c i) (cond (ltb (span i) j) (getD lent i (pos 0)) (carried i))) fresh
 
   -- the number of a span before the place
   early-at : (i : ℕ) → isFresh run k i ≡ false → span i < j → wanted i ≡ getD lent i (pos 0)
   unfolding pointAt
   early-at i stale h =
-      ap (λ t. cond t (number b k m c i) (cond (ltb (span i) j) (getD lent i (pos 0)) (carried i))) stale
+      ap (λ t. cond t (number p c i) (cond (ltb (span i) j) (getD lent i (pos 0)) (carried i))) stale
       ∙ ap (λ t. cond t (getD lent i (pos 0)) (carried i)) (lt-ltb (span i) j h)
 
   -- of one before the run
   pub stays-at : (i : ℕ) → isFresh run k i ≡ false → span i < a → wanted i ≡ getD lent i (pos 0)
-  stays-at i stale h = early-at i stale (omega (arith, first-place ed b j))
+  stays-at i stale h = early-at i stale (omega (arith, first-place ed p j))
 
   -- and of one past it
   pub carried-at : (i : ℕ) → isFresh run k i ≡ false → e ≤ span i → wanted i ≡ carried i
   unfolding pointAt
   carried-at i stale h =
-      ap (λ t. cond t (number b k m c i) (cond (ltb (span i) j) (getD lent i (pos 0)) (carried i))) stale
-      ∙ later-carried ed b j m (span i) w i (λ (q : ℕ). getD lent q (pos 0)) (omega (arith, min-le-right (i / w) (m - 1))) h
+      ap (λ t. cond t (number p c i) (cond (ltb (span i) j) (getD lent i (pos 0)) (carried i))) stale
+      ∙ later-carried ed p j (span i) w i (λ (q : ℕ). getD lent q (pos 0)) (omega (arith, min-le-right (i / w) (m - 1))) h
 
   abbrev moved : List ℤ
   moved = filled carried (e * w) (runLength e m w) lent
 
   abbrev done : List ℤ
-  done = filled (number b k e c) (a * w) (runLength a e w) moved
+  done = filled (number p c) (a * w) (runLength a e w) moved
 
   -- a place in or past the last carried number
   moved-room : e * w + runLength e m w ≤ m * w + 2
   moved-room =
-      ⊎-elim (λ h. omega (arith, run-end e m w h)) (λ h. omega (arith, run-none e m w h, mul-le-mul-right {m = e} {n = m} w (past-most ed b j m))) (either e m)
+      ⊎-elim (λ h. omega (arith, run-end e m w h)) (λ h. omega (arith, run-none e m w h, mul-le-mul-right {m = e} {n = m} w (past-most ed p j))) (either e m)
 
   some-fresh : (i : ℕ) → i < m * w + 2 → a < e → getD done i (pos 0) ≡ wanted i
   some-fresh i within first =
@@ -144,7 +112,7 @@ module _ (ed : Edit) (b : Basis) (k j m : ℕ) (c lent : List ℤ) (some : 1 ≤
       (λ h.
       let below : i < e * w = omega (arith, mul-le-mul-right {m = a} {n = e} w (omega arith)) in
       let span : i / w < a = div-lt-iff-lt-mul {k = w} {x = i} {y = a} wide .1 h in
-      before-filled (number b k e c) (a * w) (runLength a e w) moved i h
+      before-filled (number p c) (a * w) (runLength a e w) moved i h
       ∙ before-filled carried (e * w) (runLength e m w) lent i below
       ∙ sym (stays-at i (not-fresh i (λ _ low _. omega arith)) (omega (arith, min-le-left (i / w) (m - 1)))))
       (λ low. ⊎-elim (λ high. inside low high) beyond (either i (e * w + 2)))
@@ -152,26 +120,25 @@ module _ (ed : Edit) (b : Basis) (k j m : ℕ) (c lent : List ℤ) (some : 1 ≤
     where
       inside : a * w ≤ i → i < e * w + 2 → getD done i (pos 0) ≡ wanted i
       inside low high =
-          in-filled (number b k e c) (a * w) (runLength a e w) moved i low (omega (arith, run-end a e w first)) (omega (arith, run-end a e w first, length-filled carried (e * w) (runLength e m w) lent, mul-le-mul-right {m = e} {n = m} w (past-most ed b j m)))
-          ∙ fewer-numbers b k e m c i (omega arith) (past-most ed b j m) high
-          ∙ sym (fresh-at i (bounds-fresh ed b j m k i first low high))
+          in-filled (number p c) (a * w) (runLength a e w) moved i low (omega (arith, run-end a e w first)) (omega (arith, run-end a e w first, length-filled carried (e * w) (runLength e m w) lent, mul-le-mul-right {m = e} {n = m} w (past-most ed p j)))
+          ∙ sym (fresh-at i (bounds-fresh ed p j k i first low high))
 
       beyond : e * w + 2 ≤ i → getD done i (pos 0) ≡ wanted i
       beyond h =
           let left : e < m = ⊎-elim (λ (l : e < m). l) (λ (g : m ≤ e). absurd (omega (arith, mul-le-mul-right {m = m} {n = e} w g))) (either e m) in
           let span : e ≤ i / w = le-div-iff-mul-le {k = w} {x = e} {y = i} wide .1 (omega arith) in
-          past-filled (number b k e c) (a * w) (runLength a e w) moved i (omega (arith, run-end a e w first))
+          past-filled (number p c) (a * w) (runLength a e w) moved i (omega (arith, run-end a e w first))
           ∙ in-filled carried (e * w) (runLength e m w) lent i (omega arith) (omega (arith, run-end e m w left)) (omega (arith, run-end e m w left))
           ∙ sym (carried-at i (not-fresh i (λ _ _ high. omega arith)) (omega arith))
 
   none-fresh : (i : ℕ) → i < m * w + 2 → e ≤ a → getD done i (pos 0) ≡ wanted i
   none-fresh i within none =
-      ap (λ l. getD l i (pos 0)) (none-filled (number b k e c) (a * w) (runLength a e w) moved (run-none a e w none))
+      ap (λ l. getD l i (pos 0)) (none-filled (number p c) (a * w) (runLength a e w) moved (run-none a e w none))
       ∙ ⊎-elim left kept (either e m)
     where
       left : e < m → getD moved i (pos 0) ≡ wanted i
       left h =
-          let zero-a : a ≡ 0 = none-first ed b j m none h in
+          let zero-a : a ≡ 0 = none-first ed p j none h in
           let zero-e : e ≡ 0 = omega arith in
           let start : e * w ≡ 0 = ap (λ (n : ℕ). n * w) zero-e ∙ zero-mul w in
           in-filled carried (e * w) (runLength e m w) lent i (omega arith) (omega (arith, run-end e m w h)) (omega (arith, run-end e m w h))
@@ -184,15 +151,15 @@ module _ (ed : Edit) (b : Basis) (k j m : ℕ) (c lent : List ℤ) (some : 1 ≤
 
   past-all : (i : ℕ) → m * w + 2 ≤ i → getD done i (pos 0) ≡ getD lent i (pos 0)
   past-all i h =
-      let top = mul-le-mul-right {m = e} {n = m} w (past-most ed b j m) in
-      ⊎-elim (λ first. past-filled (number b k e c) (a * w) (runLength a e w) moved i (omega (arith, run-end a e w first)))
-      (λ none. ap (λ l. getD l i (pos 0)) (none-filled (number b k e c) (a * w) (runLength a e w) moved (run-none a e w none)))
+      let top = mul-le-mul-right {m = e} {n = m} w (past-most ed p j) in
+      ⊎-elim (λ first. past-filled (number p c) (a * w) (runLength a e w) moved i (omega (arith, run-end a e w first)))
+      (λ none. ap (λ l. getD l i (pos 0)) (none-filled (number p c) (a * w) (runLength a e w) moved (run-none a e w none)))
       (either a e)
       ∙ past-filled carried (e * w) (runLength e m w) lent i (omega (arith, moved-room))
 
   pub worked : done ≡ filled wanted 0 (m * w + 2) lent
   worked =
       is-filled wanted (m * w + 2) lent done room
-      (length-filled (number b k e c) (a * w) (runLength a e w) moved ∙ length-filled carried (e * w) (runLength e m w) lent)
+      (length-filled (number p c) (a * w) (runLength a e w) moved ∙ length-filled carried (e * w) (runLength e m w) lent)
       (λ i within. ⊎-elim (some-fresh i within) (none-fresh i within) (either a e))
       past-all

@@ -47,9 +47,9 @@ pub record Workable (e : Edit) (s : Shape) (q : Plan) (j : ℕ) (controls : List
   pub most : s .count ≤ mostRecords
   pub place : j ≤ mostRecords
   pub askable : Askable e j (s .count) (length controls)
-  pub drawable : Drawable (q .basis) (q .spans) (asked e j controls (countAfter e (s .count)))
+  pub drawable : Drawable q (asked e j controls (countAfter e (s .count)))
   pub points-room : q .spans * perSpan (q .depth) + 2 ≤ len
-  pub carriable : Carriable e (pastFresh e (q .basis) j (q .spans)) (q .spans) (perSpan (q .depth)) len
+  pub carriable : Carriable e (pastFresh e q j) (q .spans) (perSpan (q .depth)) len
 
 -- What the checks find together: the refusal that the edit comes to, or the plan of the new shape, with which it can be worked and is accepted.
 abbrev pub Vetted : Edit → Shape → ℕ → List ℤ → List ℤ → Judged → Type 0

@@ -52,20 +52,20 @@ abbrev pub editRows : Edit → Shape → Plan → Plan → ℕ → List ℤ → 
 editRows e s p q j controls lent =
     askRows e (p .basis) j (s .count) ++ roomRows e (s .count) controls (max (points p) (points q)) (length lent)
 
--- The answer of an accepted edit: the new shape, and its run of the m spans there.
-abbrev pub change : Edit → Shape → Basis → ℕ → ℕ → Change
-change e s b j m = record { shape = shapeAfter e s; first = runOf e b j m .first; fresh = runOf e b j m .count }
+-- The answer of an accepted edit: the new shape, whose plan is q, and its run.
+abbrev pub change : Edit → Shape → Plan → ℕ → Change
+change e s q j = record { shape = shapeAfter e s; first = runOf e q j .first; fresh = runOf e q j .count }
 
 abbrev pub controlsAfter : Edit → Shape → ℕ → List ℤ → List ℤ
 controlsAfter e s j controls = asked e j controls (countAfter e (s .count))
 
 -- The points, of the controls as they then stand.
 abbrev pub pointsAfter : Edit → Shape → Plan → ℕ → List ℤ → List ℤ → List ℤ
-pointsAfter e s q j controls lent = filled (pointAt e (q .basis) (q .depth) j (q .spans) (controlsAfter e s j controls) lent) 0 (2 * points q) lent
+pointsAfter e s q j controls lent = filled (pointAt e q j (controlsAfter e s j controls) lent) 0 (2 * points q) lent
 
 -- Both lent lists are left: the controls, and the points.
 abbrev pub accepts : Edit → Shape → Plan → ℕ → List ℤ → List ℤ → Outcome Edited (List ℤ × List ℤ)
-accepts e s q j controls lent = outcome (Done (change e s (q .basis) j (q .spans))) (controlsAfter e s j controls, pointsAfter e s q j controls lent)
+accepts e s q j controls lent = outcome (Done (change e s q j)) (controlsAfter e s j controls, pointsAfter e s q j controls lent)
 
 unfoldable pub edits : Edit → Shape → ℕ → List ℤ → List ℤ → Outcome Edited (List ℤ × List ℤ)
 edits e s j controls lent =

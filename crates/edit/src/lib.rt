@@ -20,7 +20,6 @@ use asked::counts::first_fresh;
 use asked::counts::less;
 use asked::counts::past_fresh;
 use checks::check_edit;
-use curve::Basis;
 use shape::Judged;
 use shape::Plan;
 use shape::Refusal;
@@ -103,19 +102,18 @@ fn edit_lists(
     requires { ⌜ Workable edit shape plan place (now controls) (length (now points)) ⌝ }
     ensures { λ r. ⌜ outcome r (now (controls .exit), now (points .exit)) ≡ accepts edit shape plan place (now (controls .entry)) (now (points .entry)) ⌝ }
 {
-    let basis = plan.basis;
     ask(edit, place, shape.count, controls);
     work(edit, plan, place, controls, points);
-    Edited::Done(change_of(edit, shape, basis, place, plan.spans))
+    Edited::Done(change_of(edit, shape, plan, place))
 }
 
-// The answer of an accepted edit: `spans` is the number of the new shape.
-fn change_of(edit: Edit, shape: Shape, basis: Basis, place: usize, spans: usize) -> Change
+// The answer of an accepted edit: `plan` is that of the new shape.
+fn change_of(edit: Edit, shape: Shape, plan: Plan, place: usize) -> Change
     requires { ⌜ (1 ≤ shape .count) × (shape .count ≤ mostRecords) × (place ≤ mostRecords) ⌝ }
-    ensures { λ r. ⌜ r ≡ change edit shape basis place spans ⌝ }
+    ensures { λ r. ⌜ r ≡ change edit shape plan place ⌝ }
 {
-    let first = first_fresh(edit, basis, place);
-    let past = past_fresh(edit, basis, place, spans);
+    let first = first_fresh(edit, plan, place);
+    let past = past_fresh(edit, plan, place);
     Change {
         shape: Shape {
             basis: shape.basis,

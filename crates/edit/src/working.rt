@@ -13,42 +13,32 @@ use crate::carrying::carry;
 use asked::Edit;
 use asked::counts::first_fresh;
 use asked::counts::past_fresh;
-use curve::Basis;
 use shape::Plan;
 use spans::run::Way;
 use spans::run::fill_spans;
 
 // The spans from `first` up to, and not with, `past`, where there are any.
-fn rework(
-    points: &mut [i32],
-    controls: &[i32],
-    basis: Basis,
-    depth: usize,
-    first: usize,
-    past: usize,
-)
-    requires { ⌜ (depth ≤ deepest) × Drawable basis past (now controls) ⌝ }
-    requires { ⌜ past * perSpan depth + 2 ≤ length (now points) ⌝ }
-    ensures { λ _. ⌜ now (points .exit) ≡ filled (number basis depth past (now (controls .entry))) (first * perSpan depth) (runLength first past (perSpan depth)) (now (points .entry)) ⌝ }
+fn rework(points: &mut [i32], controls: &[i32], plan: Plan, first: usize, past: usize)
+    requires { ⌜ (plan .depth ≤ deepest) × (past ≤ plan .spans) × Drawable plan (now controls) ⌝ }
+    requires { ⌜ past * perSpan (plan .depth) + 2 ≤ length (now points) ⌝ }
+    ensures { λ _. ⌜ now (points .exit) ≡ filled (number plan (now (controls .entry))) (first * perSpan (plan .depth)) (runLength first past (perSpan (plan .depth))) (now (points .entry)) ⌝ }
 {
     if past <= first {
         return;
     }
-    fill_spans(Way::Weights, points, controls, basis, depth, first, past);
+    fill_spans(Way::Weights, points, controls, plan, first, past);
 }
 
 // All points of the outline that an edit asks for, from the points it was given: `plan` and `controls` are the new ones.
 pub(crate) fn work(edit: Edit, plan: Plan, place: usize, controls: &[i32], points: &mut [i32])
     requires { ⌜ (plan .depth ≤ deepest) × (place ≤ mostRecords) × (1 ≤ plan .spans) ⌝ }
-    requires { ⌜ Drawable (plan .basis) (plan .spans) (now controls) ⌝ }
+    requires { ⌜ Drawable plan (now controls) ⌝ }
     requires { ⌜ plan .spans * perSpan (plan .depth) + 2 ≤ length (now points) ⌝ }
-    requires { ⌜ Carriable edit (pastFresh edit (plan .basis) place (plan .spans)) (plan .spans) (perSpan (plan .depth)) (length (now points)) ⌝ }
-    ensures { λ _. ⌜ now (points .exit) ≡ filled (pointAt edit (plan .basis) (plan .depth) place (plan .spans) (now (controls .entry)) (now (points .entry))) 0 (plan .spans * perSpan (plan .depth) + 2) (now (points .entry)) ⌝ }
+    requires { ⌜ Carriable edit (pastFresh edit plan place) (plan .spans) (perSpan (plan .depth)) (length (now points)) ⌝ }
+    ensures { λ _. ⌜ now (points .exit) ≡ filled (pointAt edit plan place (now (controls .entry)) (now (points .entry))) 0 (plan .spans * perSpan (plan .depth) + 2) (now (points .entry)) ⌝ }
 {
-    let basis = plan.basis;
-    let depth = plan.depth;
-    let first = first_fresh(edit, basis, place);
-    let past = past_fresh(edit, basis, place, plan.spans);
+    let first = first_fresh(edit, plan, place);
+    let past = past_fresh(edit, plan, place);
     carry(edit, points, past, plan.spans, 2 * plan.steps());
-    rework(points, controls, basis, depth, first, past);
+    rework(points, controls, plan, first, past);
 }

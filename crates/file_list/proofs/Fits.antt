@@ -18,6 +18,7 @@ use Rattle.shape.specs.Refusals.{First, NoRow, outside}
 use Rattle.shape.proofs.Refusals.{row-fails, first-either, Each, each-both, each-first, verdict}
 use Rattle.shape.proofs.Seek.{seek-to}
 use Rattle.shape.proofs.Tests.{or-false}
+use Rattle.spans.specs.Numbers as spans
 use Rattle.outline.specs.Outline as outline
 use Rattle.outline.proofs.Within.{number-within}
 use Rattle.record_file.specs.Format.{numbers}
@@ -77,7 +78,7 @@ drawn-fits file none =
     let q = p file none in
     let c = held file none in
     let m = outline.points q in
-    let f = outline.numbers q c in
+    let f = spans.number q c in
     let ok = good file none in
     let few = few-points file none in
     let text : fileText file ≡ outlineText (sh .basis) (sh .depth) (q .spans) (tab f 0 (2 * m)) =

@@ -20,6 +20,7 @@ use Rattle.shape.proofs.Tests.{passes}
 use Rattle.shape.proofs.Refusals.{row-fails}
 use Rattle.outline.specs.declared.Drawn.{Drawn}
 use Rattle.outline.specs.declared.Drawn.the-variants as drawn
+use Rattle.spans.specs.Numbers as spans
 use Rattle.outline.specs.Outline as outline
 use Rattle.outline.specs.Outline.{drawRows, draws}
 use Rattle.outline.proofs.Draws.{draws-unsound}
@@ -59,7 +60,7 @@ module _ (s : Shape) (c : List ℤ) where
       let room : 2 * outline.points p ≤ length points = ltb-false (length points) (2 * outline.points p) (row-fails 9 (drawRows s c points) none) in
       let count : outline.points p ≡ n = ap (λ (o : Outcome Drawn (List ℤ)). pointsIn (o .answer)) is in
       let long : length (outline.drawn p c points) ≡ length held = ap (λ (o : Outcome Drawn (List ℤ)). length (o .held)) is in
-      omega (arith, room, count, long, length-sets points 0 (tab (outline.numbers p c) 0 (2 * outline.points p)))
+      omega (arith, room, count, long, length-sets points 0 (tab (spans.number p c) 0 (2 * outline.points p)))
 
   pub listed-text : (n : ℕ) (held : List ℤ) (text : List ℕ) → draws s c points ≡ outcome (drawn.Points n) held
       → listed text (s .basis) (s .depth) (planOf s .spans) held n ≡ written text 0 (shapeText s c)

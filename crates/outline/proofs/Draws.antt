@@ -51,7 +51,7 @@ module _ (n : ℕ) (p : Plan) (controls lent : List ℤ) where
 
 -- ---- what passed checks give: the spans can be drawn
 
-pub drawable : (s : Shape) (p : Plan) → Good s p → (controls : List ℤ) (k len : ℕ) → Lent (s .count) controls k len → Drawable (p .basis) (p .spans) controls
+pub drawable : (s : Shape) (p : Plan) → Good s p → (controls : List ℤ) (k len : ℕ) → Lent (s .count) controls k len → Drawable p controls
 drawable s p good controls k len lent =
     record {
       few = omega (arith, good .spans-most, good .records-most);

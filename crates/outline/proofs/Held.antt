@@ -13,7 +13,8 @@ use Rattle.shape.specs.Refusals.{shapeRows, judgeShape, planOf}
 use Rattle.shape.proofs.Refusals.{none-earlier, none-sound, row-fails}
 use Rattle.spans.proofs.Filled.{length-filled, in-filled}
 use Rattle.outline.specs.declared.Drawn.the-variants.{Points}
-use Rattle.outline.specs.Outline.{numbers, points, drawn, planRows, drawRows, draws}
+use Rattle.spans.specs.Numbers.{number}
+use Rattle.outline.specs.Outline.{points, drawn, planRows, drawRows, draws}
 use Rattle.outline.proofs.Exactly.{points-none, none-drawn}
 
 module _ (s : Shape) (controls lent : List ℤ) (n : ℕ) (held : List ℤ) (answered : draws s controls lent ≡ outcome (Points n) held) where
@@ -27,9 +28,9 @@ module _ (s : Shape) (controls lent : List ℤ) (n : ℕ) (held : List ℤ) (ans
   room = ltb-false (length lent) (2 * points (planOf s)) (row-fails 9 (drawRows s controls lent) (points-none s controls lent n held answered))
 
   pub held-room : 2 * points (planOf s) ≤ length held
-  held-room = subst (λ l. 2 * points (planOf s) ≤ length l) held-drawn (omega (arith, room, length-filled (numbers (planOf s) controls) 0 (2 * points (planOf s)) lent))
+  held-room = subst (λ l. 2 * points (planOf s) ≤ length l) held-drawn (omega (arith, room, length-filled (number (planOf s) controls) 0 (2 * points (planOf s)) lent))
 
-  pub held-number : (q : ℕ) → q < 2 * points (planOf s) → getD held q (pos 0) ≡ numbers (planOf s) controls q
+  pub held-number : (q : ℕ) → q < 2 * points (planOf s) → getD held q (pos 0) ≡ number (planOf s) controls q
   held-number q h =
       ap (λ l. getD l q (pos 0)) (sym held-drawn)
-      ∙ in-filled (numbers (planOf s) controls) 0 (2 * points (planOf s)) lent q (omega arith) (omega arith) (omega (arith, room))
+      ∙ in-filled (number (planOf s) controls) 0 (2 * points (planOf s)) lent q (omega arith) (omega arith) (omega (arith, room))

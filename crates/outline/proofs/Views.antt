@@ -4,20 +4,16 @@ use mathlib.Core.Bool.{cond, _||_}
 use mathlib.Core.List.{List, []}
 use mathlib.Core.Logic.{inl, inr, ⊎-elim}
 use Prim.Native.Nat.{ℕ, suc, _+_, _*_, _-_, _/_, _%_, _^_, min, _≤_, _<_}
-use native.Mathlib.Nat.{zero-add, mul-left-comm, mul-le-mul-right, suc-mul, min-eq-left, min-eq-right}
+use native.Mathlib.Nat.{zero-add, mul-left-comm, mul-le-mul-right, suc-mul, min-eq-left}
 use native.Mathlib.Omega.{arith}
 use borrow.Author.Tests.{le-leb, lt-leb, lt-ltb, le-ltb}
-use lib.Arith.{digits-div}
 use lib.Dec.{ltb}
 use lib.IntN.{ℤ, pos}
 use lib.ListN.{length, take, drop, length-take, length-drop}
-use lib.Pow.{pow-pos}
 use lib.Seq.{ext-getD, getD-take, getD-drop}
 use Rattle.whole.specs.Outcome.{outcome}
-use Rattle.curve.specs.declared.Basis.{Basis}
 use Rattle.curve.specs.Tab.{tab}
 use Rattle.curve.specs.Span.{coordinate, records, point}
-use Rattle.curve.proofs.Span.{joint}
 use Rattle.curve.proofs.Tab.{length-tab, getD-tab}
 use Rattle.shape.specs.declared.Shape.{Shape}
 use Rattle.shape.specs.declared.Plan.{Plan}
@@ -27,8 +23,8 @@ use Rattle.shape.specs.Refusals.{First, judge, shapeRows, judgeShape, planOf}
 use Rattle.shape.specs.Shape.{pointsOf}
 use Rattle.shape.proofs.Refusals.{verdict, sound, unsound, sound-plan, first-unsound, none-sound}
 use Rattle.shape.proofs.Tests.{either}
-use Rattle.spans.specs.Numbers.{number, perSpan}
-use Rattle.spans.proofs.Numbers.{per-span, located}
+use Rattle.spans.specs.Numbers.{perSpan}
+use Rattle.spans.proofs.Numbers.{span-point}
 use Rattle.outline.specs.declared.Drawn.the-variants.{Points}
 use Rattle.outline.specs.Outline.{draws}
 use Rattle.outline.specs.View.{Part, emptyPart, outOfSight, partOf, viewed, Unseen}
@@ -119,43 +115,6 @@ empty-unseen s t l empty =
 
 -- ---- after a drawing
 
--- number j of the 2^k + 1 points of span t, its end among them: the next span's start where there is one
-module _ (b : Basis) (k m : ℕ) (controls : List ℤ) (t j : ℕ) (there : t < m) where
-  abbrev q : ℕ
-  q = t * perSpan k + j
-
-  abbrev at : ℕ → ℤ
-  at = coordinate controls (j % 2)
-
-  half : q / 2 ≡ t * 2 ^ k + j / 2
-  half = omega (arith, per-span t k)
-
-  -- as the outline has it: step i of span s
-  stands : (s i : ℕ) → min (q / 2 / 2 ^ k) (m - 1) ≡ s → q / 2 ≡ s * 2 ^ k + i → number b k m controls q ≡ point b k (records b s at) i
-  stands s i span step =
-      let axis : q % 2 ≡ j % 2 = omega (arith, per-span t k) in
-      located b k m controls q s i span step ∙ ap (λ (a : ℕ). point b k (records b s (coordinate controls a)) i) axis
-
-  -- the span of a point that is i steps from the start of span s
-  span-of : (s i : ℕ) → q / 2 ≡ s * 2 ^ k + i → i < 2 ^ k → min (q / 2 / 2 ^ k) (m - 1) ≡ min s (m - 1)
-  span-of s i e h = ap (λ (n : ℕ). min (n / 2 ^ k) (m - 1)) e ∙ ap (λ (n : ℕ). min n (m - 1)) (digits-div s h)
-
-  next : 2 ^ k ≡ j / 2 → q / 2 ≡ suc t * 2 ^ k + 0
-  next e = omega (arith, half, suc-mul t (2 ^ k))
-
-  span-point : j < perSpan k + 2 → number b k m controls q ≡ point b k (records b t at) (j / 2)
-  span-point within =
-      ⊎-elim (λ (before : j / 2 < 2 ^ k). stands t (j / 2) (span-of t (j / 2) half before ∙ min-eq-left (omega arith)) half)
-      (λ (past : 2 ^ k ≤ j / 2).
-      let end : 2 ^ k ≡ j / 2 = omega arith in
-      let on = span-of (suc t) 0 (next end) (pow-pos k) in
-      ⊎-elim (λ (more : suc t < m). stands (suc t) 0 (on ∙ min-eq-left (omega arith)) (next end) ∙ sym (joint b k t at) ∙ ap (point b k (records b t at)) end)
-      (λ (last : m ≤ suc t).
-      let final : m - 1 ≡ t = omega arith in
-      stands t (j / 2) (on ∙ min-eq-right (omega arith) ∙ final) half)
-      (either (suc t) m))
-      (either (j / 2) (2 ^ k))
-
 -- the view of a span is the span's own 2^k + 1 points, x then y
 pub drawn-view : (s : Shape) (controls lent : List ℤ) (n : ℕ) (held : List ℤ) → draws s controls lent ≡ outcome (Points n) held → (t : ℕ) → t < planOf s .spans
     → viewed (partOf s t held) held ≡ tab (λ (j : ℕ). point (planOf s .basis) (planOf s .depth) (records (planOf s .basis) t (coordinate controls (j % 2))) (j / 2)) 0 (2 * (2 ^ planOf s .depth + 1))
@@ -178,6 +137,6 @@ drawn-view s controls lent n held answered t there =
     getD-take size (drop (t * perSpan k) held) j (pos 0) below
     ∙ getD-drop (t * perSpan k) held j (pos 0)
     ∙ held-number s controls lent n held answered (t * perSpan k + j) (omega (arith, span-within k (p .spans) t there))
-    ∙ span-point (p .basis) k (p .spans) controls t j there (omega arith)
+    ∙ span-point p controls t j there (omega arith)
     ∙ ap f (sym (zero-add j))
     ∙ sym (getD-tab f 0 size j below (pos 0)))

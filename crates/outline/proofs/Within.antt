@@ -21,7 +21,7 @@ use Rattle.shape.proofs.Refusals.{none-earlier, none-later, good-plan, good-rec
 use Rattle.shape.proofs.Tests.{either}
 use Rattle.spans.specs.Numbers.{number}
 use Rattle.outline.specs.declared.Drawn.the-variants.{Points}
-use Rattle.outline.specs.Outline.{numbers, points, planRows, draws}
+use Rattle.outline.specs.Outline.{points, planRows, draws}
 use Rattle.outline.proofs.Exactly.{points-none, none-drawn}
 use Rattle.outline.proofs.Held.{held-number}
 
@@ -41,7 +41,7 @@ step-within g m d some-steps some h =
 
 module _ (s : Shape) (p : Plan) (good : Good s p) (controls : List ℤ) (k len : ℕ) (lent : Lent (s .count) controls k len) where
   -- each number of the outline
-  pub number-within : (q : ℕ) → q < 2 * points p → natAbs (numbers p controls q) ≤ reach
+  pub number-within : (q : ℕ) → q < 2 * points p → natAbs (number p controls q) ≤ reach
   unfolding number pointsOf
   number-within q h =
       let d = 2 ^ p .depth in

@@ -14,10 +14,6 @@ use Rattle.spans.specs.Filled.{filled}
 use Rattle.outline.specs.declared.Drawn.{Drawn}
 use Rattle.outline.specs.declared.Drawn.the-variants.{Points, Refused}
 
--- The numbers of a plan's outline.
-abbrev pub numbers : Plan → List ℤ → ℕ → ℤ
-numbers p controls = number (p .basis) (p .depth) (p .spans) controls
-
 abbrev pub points : Plan → ℕ
 points p = pointsOf (p .depth) (p .spans)
 
@@ -35,7 +31,7 @@ told (Refused r) = Refuses r
 
 -- All points from the list's start, everything past them as it was.
 abbrev pub drawn : Plan → List ℤ → List ℤ → List ℤ
-drawn p controls lent = filled (numbers p controls) 0 (2 * points p) lent
+drawn p controls lent = filled (number p controls) 0 (2 * points p) lent
 
 abbrev pub accepts : Plan → List ℤ → List ℤ → Outcome Drawn (List ℤ)
 accepts p controls lent = outcome (Points (points p)) (drawn p controls lent)

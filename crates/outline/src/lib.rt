@@ -62,8 +62,7 @@ fn draw_plan(way: Way, shape: Shape, plan: Plan, controls: &[i32], points: &mut 
     if let Checked::Bad(refusal) = check_lists(shape.count, controls, count, points.len()) {
         return Drawn::Refused(refusal);
     }
-    let basis = plan.basis;
-    fill_spans(way, points, controls, basis, plan.depth, 0, plan.spans);
+    fill_spans(way, points, controls, plan, 0, plan.spans);
     Drawn::Points(count)
 }
 

@@ -22,6 +22,7 @@ use Rattle.shape.specs.Shape.{basisOf, recordsOf, pointsOf}
 use Rattle.shape.specs.Refusals.{judge, judgeLists, listRows}
 use Rattle.shape.specs.Inner.{Good, Lent}
 use Rattle.shape.proofs.Refusals.{judge-first, judge-none, judge-append, bad-first, fine-none, lent-inside}
+use Rattle.shape.proofs.Spans.{records-first}
 use Rattle.preview.specs.declared.Previewed.the-variants.{Drawn, Refused}
 use Rattle.preview.specs.Halving.{halved}
 use Rattle.preview.specs.Preview.{bezierRow, laterRows, accepts}
@@ -61,8 +62,8 @@ module _ (s : Shape) (p : Plan) (controls : List ℤ) (points : List Float) wher
 
   module _ (good : Good s p) (e : s .basis ≡ 1) where
     pub bezier-count : firstRecord Bezier (p .spans) + 1 ≡ s .count
-    unfolding firstRecord recordsOf basisOf
-    bezier-count = ap (λ (n : ℕ). recordsOf (basisOf n) (p .spans)) (sym e) ∙ ap (λ b. recordsOf b (p .spans)) (sym (good .basis)) ∙ good .records
+    unfolding basisOf
+    bezier-count = sym (records-first Bezier (p .spans)) ∙ ap (λ (n : ℕ). recordsOf (basisOf n) (p .spans)) (sym e) ∙ ap (λ b. recordsOf b (p .spans)) (sym (good .basis)) ∙ good .records
 
     pub bezier-inside : (n len : ℕ) → Lent (s .count) controls n len → (t axis : ℕ) → t < p .spans → axis < 2 → Inside limit (plain (p .depth) (p .spans) controls t axis)
     bezier-inside n len lent t axis h a = lent-inside (s .count) controls n len lent axis (firstRecord Bezier t) a (omega (arith, bezier-count, records-before t (p .spans) h))

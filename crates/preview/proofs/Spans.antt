@@ -15,6 +15,7 @@ use Rattle.shape.specs.Shape.{pointsOf}
 use Rattle.preview.specs.Halving.{control, spanPieces, halved}
 use Rattle.whole.proofs.Writes.{sets-append}
 use Rattle.curve.proofs.Powers.{doubled}
+use Rattle.curve.proofs.Stride.{next-first, later-first}
 use Rattle.preview.proofs.Pieces.{length-pieces, two-written}
 
 -- 2 shifted left by the depth, at our depths
@@ -30,12 +31,10 @@ points-are k m = omega arith
 
 -- a span's last record is the next one's first
 pub spans-meet : (s : ℕ) → firstRecord Bezier s + 3 ≡ firstRecord Bezier (suc s)
-unfolding firstRecord
-spans-meet s = omega arith
+spans-meet s = sym (next-first Bezier s)
 
 pub records-before : (s m : ℕ) → s < m → firstRecord Bezier s + 3 ≤ firstRecord Bezier m
-unfolding firstRecord
-records-before s m h = omega arith
+records-before s m h = later-first Bezier s m h
 
 -- where the next span starts
 pub next-start : (s k : ℕ) → (s + 1) * 2 ^ k ≡ s * 2 ^ k + 2 ^ k

@@ -52,8 +52,8 @@ module _ (e : Edit) (s : Shape) (j : ℕ) (controls lent : List ℤ) (c : Change
   fresh-exactly q = held-within (record { first = c .first; count = c .fresh }) k q
 
   -- such a number is the published curve's for the controls as they then stand
-  pub fresh-points : (q : ℕ) → Fresh c k q → getD held q (pos 0) ≡ publishedNumber (p .basis) k (p .spans) new q
-  fresh-points q fresh = answered-fresh e s j controls lent c new held done q fresh ∙ number-published (p .basis) k (p .spans) new q
+  pub fresh-points : (q : ℕ) → Fresh c k q → getD held q (pos 0) ≡ publishedNumber p new q
+  fresh-points q fresh = answered-fresh e s j controls lent c new held done q fresh ∙ number-published p new q
 
   -- number i of a span is, where it is not fresh, what number i of the old span held: the same one, the one before (insert) or the one after (remove)
   pub other-points : (t i : ℕ) → t < p .spans → i < w + 2 → (Fresh c k (t * w + i) → ⊥) → getD held (t * w + i) (pos 0) ≡ getD lent (oldSpan e j t * w + i) (pos 0)

@@ -14,6 +14,7 @@ use Rattle.curve.specs.Ways.{byWeights, byHalving, byDifferences}
 use Rattle.curve.proofs.Span as curve
 use Rattle.curve.proofs.Ways.{halving-agrees, differences-agree}
 use Rattle.shape.specs.declared.Shape.{Shape}
+use Rattle.shape.specs.declared.Plan.{Plan}
 use Rattle.shape.specs.Refusals.{planOf}
 use Rattle.spans.specs.Numbers.{number}
 use Rattle.outline.specs.declared.Drawn.the-variants.{Points}
@@ -26,10 +27,10 @@ pub point-published : (b : Basis) (k : ℕ) (p : Four) (i : ℕ) → point b k p
 point-published = curve.point-published
 
 -- so each number of an outline is
-pub number-published : (b : Basis) (k m : ℕ) (controls : List ℤ) (q : ℕ) → number b k m controls q ≡ publishedNumber b k m controls q
+pub number-published : (p : Plan) (controls : List ℤ) (q : ℕ) → number p controls q ≡ publishedNumber p controls q
 unfolding number publishedNumber
-number-published b k m controls q =
-    let s = min (q / 2 / 2 ^ k) (m - 1) in point-published b k (records b s (coordinate controls (q % 2))) (q / 2 - s * 2 ^ k)
+number-published p controls q =
+    let s = min (q / 2 / 2 ^ p .depth) (p .spans - 1) in point-published (p .basis) (p .depth) (records (p .basis) s (coordinate controls (q % 2))) (q / 2 - s * 2 ^ p .depth)
 
 -- after an accepted drawing, by whichever way: the three calls have this one reading
 pub drawn-published :
@@ -37,9 +38,9 @@ pub drawn-published :
     → draws s controls lent ≡ outcome (Points n) held
     → (q : ℕ)
     → q < 2 * points (planOf s)
-    → getD held q (pos 0) ≡ publishedNumber (planOf s .basis) (planOf s .depth) (planOf s .spans) controls q
+    → getD held q (pos 0) ≡ publishedNumber (planOf s) controls q
 drawn-published s controls lent n held e q h =
-    held-number s controls lent n held e q h ∙ number-published (planOf s .basis) (planOf s .depth) (planOf s .spans) controls q
+    held-number s controls lent n held e q h ∙ number-published (planOf s) controls q
 
 -- the three ways list the same sums of a span, at any depth
 pub three-ways : (k : ℕ) (q : Four) → (byHalving k q ≡ byWeights k q) × (byDifferences k q ≡ byWeights k q)

@@ -26,7 +26,7 @@ use Rattle.promises.proofs.Points.{number-published}
 pub after-any-calls : (t : State) (calls : List Call) → Outlined t → Published (played t calls)
 after-any-calls t calls out q h =
     let p = planOf (played t calls .shape) in
-    sequences.played-outlined t calls out .holds q h ∙ number-published (p .basis) (p .depth) (p .spans) (played t calls .controls) q
+    sequences.played-outlined t calls out .holds q h ∙ number-published p (played t calls .controls) q
 
 -- from an accepted drawing, after any list of calls: drawing again would be done and change nothing, and each point is the published curve's
 pub drawn-then-any-calls :

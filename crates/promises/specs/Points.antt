@@ -8,6 +8,7 @@ use Rattle.curve.specs.declared.Basis.{Basis}
 use Rattle.curve.specs.Tab.{tab}
 use Rattle.curve.specs.Published.{published, denominator}
 use Rattle.curve.specs.Span.{coordinate, records}
+use Rattle.shape.specs.declared.Plan.{Plan}
 
 -- The published curve of span s on an axis (0 is x, 1 is y) at t = i / 2^k.
 abbrev pub publishedPoint : Basis → ℕ → List ℤ → ℕ → ℕ → ℕ → ℤ
@@ -17,8 +18,8 @@ publishedPoint b k controls s axis i = nearest (published b (records b s (coordi
 abbrev pub publishedSpan : Basis → ℕ → List ℤ → ℕ → List ℤ
 publishedSpan b k controls s = tab (λ (j : ℕ). publishedPoint b k controls s (j % 2) (j / 2)) 0 (2 * (2 ^ k + 1))
 
--- Number q of an outline of m spans.
-unfoldable pub publishedNumber : Basis → ℕ → ℕ → List ℤ → ℕ → ℤ
-publishedNumber b k m controls q =
-    let s = min (q / 2 / 2 ^ k) (m - 1) in
-    publishedPoint b k controls s (q % 2) (q / 2 - s * 2 ^ k)
+-- Number q of a plan's outline.
+unfoldable pub publishedNumber : Plan → List ℤ → ℕ → ℤ
+publishedNumber p controls q =
+    let s = min (q / 2 / 2 ^ p .depth) (p .spans - 1) in
+    publishedPoint (p .basis) (p .depth) controls s (q % 2) (q / 2 - s * 2 ^ p .depth)

@@ -12,4 +12,4 @@ use Rattle.promises.specs.Points.{publishedNumber}
 abbrev pub Published : State → Type 0
 Published t =
     let p = planOf (t .shape) in
-    (q : ℕ) → q < 2 * points p → getD (t .held) q (pos 0) ≡ publishedNumber (p .basis) (p .depth) (p .spans) (t .controls) q
+    (q : ℕ) → q < 2 * points p → getD (t .held) q (pos 0) ≡ publishedNumber p (t .controls) q

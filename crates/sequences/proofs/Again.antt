@@ -26,7 +26,8 @@ use Rattle.shape.proofs.Seek.{seek-none}
 use Rattle.shape.proofs.Spans.{spans-records, facts-allowed}
 use Rattle.spans.proofs.Filled.{length-filled, same-filled}
 use Rattle.outline.specs.declared.Drawn.the-variants.{Points}
-use Rattle.outline.specs.Outline.{numbers, points, drawn, drawRows, draws}
+use Rattle.spans.specs.Numbers.{number}
+use Rattle.outline.specs.Outline.{points, drawn, drawRows, draws}
 use Rattle.outline.proofs.Exactly.{points-none, none-drawn}
 use Rattle.outline.proofs.Held.{held-drawn}
 use Rattle.outline.proofs.Within.{drawn-within}
@@ -68,7 +69,7 @@ lent-none n controls k len lent =
 redrawn : (t : State) → Outlined t → drawn (planOf (t .shape)) (t .controls) (t .held) ≡ t .held
 redrawn t out =
     let p = planOf (t .shape) in
-    ap (sets (t .held) 0) (tab-same (numbers p (t .controls)) (λ (i : ℕ). getD (t .held) i (pos 0)) 0 0 (2 * points p) (λ i h. sym (out .holds (0 + i) (omega arith))))
+    ap (sets (t .held) 0) (tab-same (number p (t .controls)) (λ (i : ℕ). getD (t .held) i (pos 0)) 0 0 (2 * points p) (λ i h. sym (out .holds (0 + i) (omega arith))))
     ∙ same-filled (t .held) 0 (2 * points p)
 
 outlined-redraws : (t : State) → Outlined t → NoRow (drawRows (t .shape) (t .controls) (t .held)) → Redraws t
@@ -88,7 +89,7 @@ module _ (e : Edit) (s : Shape) (j : ℕ) (controls lent : List ℤ) (none : NoR
   then = stateThen s (accepts e s p j controls lent)
 
   same-length : length (then .held) ≡ length lent
-  same-length = length-filled (pointAt e (p .basis) (p .depth) j (p .spans) (then .controls) lent) 0 (2 * points p) lent
+  same-length = length-filled (pointAt e p j (then .controls) lent) 0 (2 * points p) lent
 
   still-lent : Lent n (then .controls) (points p) (length (then .held))
   still-lent =
@@ -126,7 +127,7 @@ played-redraws t (c ∷ calls) again = played-redraws (called t c) calls (called
 pub drawn-redraws : (s : Shape) (controls lent : List ℤ) (n : ℕ) (held : List ℤ) → draws s controls lent ≡ outcome (Points n) held → Redraws (state s controls held)
 drawn-redraws s controls lent n held answered =
     let p = planOf s in
-    let long : length lent ≡ length held = sym (length-filled (numbers p controls) 0 (2 * points p) lent) ∙ ap length (held-drawn s controls lent n held answered) in
+    let long : length lent ≡ length held = sym (length-filled (number p controls) 0 (2 * points p) lent) ∙ ap length (held-drawn s controls lent n held answered) in
     outlined-redraws (state s controls held) (drawn-outlined s controls lent n held answered)
     (subst (λ (len : ℕ). NoRow (shapeRows s ++ listRows (s .count) controls (points p) len)) long (points-none s controls lent n held answered))
 

@@ -2,7 +2,7 @@
 -- answered is that reading.
 use mathlib.Core.Path.{_≡_, refl, sym, ap, _∙_, subst}
 use mathlib.Core.Bool.{false}
-use mathlib.Core.Logic.{⊎-elim, _↔_}
+use mathlib.Core.Logic.{⊎-elim, _↔_, _⊎_, inl, inr}
 use mathlib.Core.List.{List}
 use Prim.Native.Nat.{ℕ, _+_, _*_, _^_, _≤_, _<_}
 use native.Mathlib.Nat.{mul-le-mul-right}
@@ -18,10 +18,10 @@ use Rattle.shape.specs.Shape.{recordsOf}
 use Rattle.shape.specs.Refusals.{NoRow, planOf}
 use Rattle.shape.proofs.Spans.{last-record}
 use Rattle.shape.proofs.Tests.{passes, either}
-use Rattle.spans.specs.Numbers.{perSpan}
+use Rattle.spans.specs.Numbers.{number, perSpan}
 use Rattle.spans.proofs.Filled.{length-filled, in-filled, past-filled}
 use Rattle.spans.proofs.Numbers.{per-span}
-use Rattle.outline.specs.Outline.{numbers, points}
+use Rattle.outline.specs.Outline.{points}
 use Rattle.outline.proofs.Draws.{all-numbers}
 use Rattle.asked.specs.declared.Edit.{Edit}
 use Rattle.asked.specs.declared.Edit.the-variants.{Move, Insert, Remove}
@@ -39,8 +39,8 @@ use Rattle.edit.proofs.Rows.{new-room, workable}
 use Rattle.edit.proofs.Worked.{fresh-at}
 use Rattle.sequences.specs.Touched.{Touched, InRun, Fresh, oldSpan}
 use Rattle.sequences.proofs.Touched.{run-touched, nought-touched, held-fresh, next-span}
-use Rattle.sequences.proofs.OldSpans.{old-early, old-later, in-some-span, stale-at}
-use Rattle.sequences.proofs.Kept.{records-stay, records-carried}
+use Rattle.sequences.proofs.OldSpans.{in-some-span, stale-at}
+use Rattle.sequences.proofs.Kept.{old-records}
 use Rattle.sequences.proofs.Needed.{touched-needs}
 
 -- ---- from an outcome that is done
@@ -72,15 +72,15 @@ module _ (e : Edit) (s : Shape) (j : ℕ) (controls lent : List ℤ) (c : Change
 
   -- A fact of the reading is one of what was answered.
   by-answer : (P : Change → Plan → List ℤ → List ℤ → Type 0)
-      → P (change e s (after .basis) j (after .spans)) after (controlsAfter e s j controls) (pointsAfter e s after j controls lent) → P c (planOf (c .shape)) new held
+      → P (change e s after j) after (controlsAfter e s j controls) (pointsAfter e s after j controls lent) → P c (planOf (c .shape)) new held
   by-answer P fact =
       let q = planOf (shapeAfter e s) in
       let is : _≡_ {A = Outcome Edited (List ℤ × List ℤ)} _ (outcome (Done c) (new, held)) = sym (none-done e s j controls lent none) ∙ done in
-      let same = done-same (change e s (q .basis) j (q .spans)) c (λ i. is i .answer) in
+      let same = done-same (change e s q j) c (λ i. is i .answer) in
       subst (λ l. P c (planOf (c .shape)) new l) (λ i. is i .held .1)
       (subst (λ l. P c (planOf (c .shape)) l (pointsAfter e s q j controls lent)) (λ i. is i .held .0)
       (subst (λ d. P d (planOf (d .shape)) (controlsAfter e s j controls) (pointsAfter e s q j controls lent)) same
-      (subst (λ r. P (change e s (r .basis) j (r .spans)) r (controlsAfter e s j controls) (pointsAfter e s r j controls lent)) (sym (same-plan e s j controls lent none)) fact)))
+      (subst (λ r. P (change e s r j) r (controlsAfter e s j controls) (pointsAfter e s r j controls lent)) (sym (same-plan e s j controls lent none)) fact)))
 
   -- the shape and the controls are those asked for
   pub answered-shape : c .shape ≡ shapeAfter e s
@@ -91,11 +91,11 @@ module _ (e : Edit) (s : Shape) (j : ℕ) (controls lent : List ℤ) (c : Change
 
   -- the run is of the spans of the new shape that are touched
   pub answered-run : (t : ℕ) → InRun c t ↔ ((t < planOf (c .shape) .spans) × Touched e (planOf (c .shape) .basis) j t)
-  answered-run = by-answer (λ d p _ _. (t : ℕ) → InRun d t ↔ ((t < p .spans) × Touched e (p .basis) j t)) (run-touched e (after .basis) j (after .spans) (allowed .offered))
+  answered-run = by-answer (λ d p _ _. (t : ℕ) → InRun d t ↔ ((t < p .spans) × Touched e (p .basis) j t)) (run-touched e after j (allowed .offered))
 
   pub answered-nought : ((c .first ≡ 0) × (c .fresh ≡ 0)) ↔ ((t : ℕ) → t < planOf (c .shape) .spans → Touched e (planOf (c .shape) .basis) j t → ⊥)
   answered-nought =
-      by-answer (λ d p _ _. ((d .first ≡ 0) × (d .fresh ≡ 0)) ↔ ((t : ℕ) → t < p .spans → Touched e (p .basis) j t → ⊥)) (nought-touched e (after .basis) j (after .spans) (allowed .offered))
+      by-answer (λ d p _ _. ((d .first ≡ 0) × (d .fresh ≡ 0)) ↔ ((t : ℕ) → t < p .spans → Touched e (p .basis) j t → ⊥)) (nought-touched e after j (allowed .offered))
 
   -- ---- the points
 
@@ -114,24 +114,24 @@ module _ (e : Edit) (s : Shape) (j : ℕ) (controls lent : List ℤ) (c : Change
   abbrev left : List ℤ
   left = pointsAfter e s after j controls lent
 
-  left-at : (q : ℕ) → q < m * perSpan k + 2 → getD left q (pos 0) ≡ pointAt e b k j m asks lent q
-  left-at q h = in-filled (pointAt e b k j m asks lent) 0 (2 * points after) lent q (omega arith) (omega (arith, all-numbers k m)) (omega (arith, all-numbers k m, ready .points-room))
+  left-at : (q : ℕ) → q < m * perSpan k + 2 → getD left q (pos 0) ≡ pointAt e after j asks lent q
+  left-at q h = in-filled (pointAt e after j asks lent) 0 (2 * points after) lent q (omega arith) (omega (arith, all-numbers k m)) (omega (arith, all-numbers k m, ready .points-room))
 
-  left-fresh : (q : ℕ) → Fresh (change e s b j m) k q → getD left q (pos 0) ≡ numbers after asks q
+  left-fresh : (q : ℕ) → Fresh (change e s after j) k q → getD left q (pos 0) ≡ number after asks q
   left-fresh q fresh =
       let t = fresh .0 in
-      let here = run-touched e b j m (allowed .offered) t .0 (fresh .1) .0 in
+      let here = run-touched e after j (allowed .offered) t .0 (fresh .1) .0 in
       let within : q < m * perSpan k + 2 = omega (arith, fresh .2 .1, per-span m k, mul-le-mul-right {m = t + 1} {n = m} (2 ^ k) (omega (arith, here))) in
-      left-at q within ∙ fresh-at e b k j m asks lent (ready .good .spans-least) (ready .points-room) q (held-fresh (runOf e b j m) k q .0 fresh)
+      left-at q within ∙ fresh-at e after j asks lent (ready .good .spans-least) (ready .points-room) q (held-fresh (runOf e after j) k q .0 fresh)
 
-  left-other : (t i : ℕ) → t < m → i < perSpan k + 2 → (Fresh (change e s b j m) k (t * perSpan k + i) → ⊥)
+  left-other : (t i : ℕ) → t < m → i < perSpan k + 2 → (Fresh (change e s after j) k (t * perSpan k + i) → ⊥)
       → getD left (t * perSpan k + i) (pos 0) ≡ getD lent (oldSpan e j t * perSpan k + i) (pos 0)
   left-other t i h few other =
       let q = t * perSpan k + i in
-      let stale : isFresh (runOf e b j m) k q ≡ false =
-      ⊎-elim (λ fresh. absurd (other (held-fresh (runOf e b j m) k q .1 fresh))) (λ stale. stale) (passes (isFresh (runOf e b j m) k q)) in
+      let stale : isFresh (runOf e after j) k q ≡ false =
+      ⊎-elim (λ fresh. absurd (other (held-fresh (runOf e after j) k q .1 fresh))) (λ stale. stale) (passes (isFresh (runOf e after j) k q)) in
       left-at q (omega (arith, next-span t (perSpan k), mul-le-mul-right {m = t + 1} {n = m} (perSpan k) (omega arith)))
-      ∙ stale-at e b k j m asks lent (ready .good .spans-least) (ready .points-room) t i h few stale
+      ∙ stale-at e after j asks lent (ready .good .spans-least) (ready .points-room) t i h few stale
 
   -- every number of the outline is of some span
   pub answered-every : (q : ℕ) → q < 2 * points (planOf (c .shape))
@@ -141,8 +141,8 @@ module _ (e : Edit) (s : Shape) (j : ℕ) (controls lent : List ℤ) (c : Change
       (λ q h. in-some-span k m q (ready .good .spans-least) (omega (arith, all-numbers k m)))
 
   -- a number that a span of the run has among its points is the outline's of the new controls
-  pub answered-fresh : (q : ℕ) → Fresh c (planOf (c .shape) .depth) q → getD held q (pos 0) ≡ numbers (planOf (c .shape)) new q
-  answered-fresh = by-answer (λ d p l points. (q : ℕ) → Fresh d (p .depth) q → getD points q (pos 0) ≡ numbers p l q) left-fresh
+  pub answered-fresh : (q : ℕ) → Fresh c (planOf (c .shape) .depth) q → getD held q (pos 0) ≡ number (planOf (c .shape)) new q
+  answered-fresh = by-answer (λ d p l points. (q : ℕ) → Fresh d (p .depth) q → getD points q (pos 0) ≡ number p l q) left-fresh
 
   -- every other one is the lent one of the old span
   pub answered-other : (t i : ℕ) → t < planOf (c .shape) .spans → i < perSpan (planOf (c .shape) .depth) + 2 → (Fresh c (planOf (c .shape) .depth) (t * perSpan (planOf (c .shape) .depth) + i) → ⊥)
@@ -159,7 +159,7 @@ module _ (e : Edit) (s : Shape) (j : ℕ) (controls lent : List ℤ) (c : Change
   pub answered-past : (length held ≡ length lent) × ((q : ℕ) → 2 * points (planOf (c .shape)) ≤ q → getD held q (pos 0) ≡ getD lent q (pos 0))
   answered-past =
       by-answer (λ _ p _ l. (length l ≡ length lent) × ((q : ℕ) → 2 * points p ≤ q → getD l q (pos 0) ≡ getD lent q (pos 0)))
-      (length-filled (pointAt e b k j m asks lent) 0 (2 * points after) lent, (λ q h. past-filled (pointAt e b k j m asks lent) 0 (2 * points after) lent q (omega arith)))
+      (length-filled (pointAt e after j asks lent) 0 (2 * points after) lent, (λ q h. past-filled (pointAt e after j asks lent) 0 (2 * points after) lent q (omega arith)))
 
   pub answered-past-controls : (length new ≡ length controls) × ((q : ℕ) → 2 * c .shape .count ≤ q → getD new q (pos 0) ≡ getD controls q (pos 0))
   unfolding asked
@@ -170,8 +170,9 @@ module _ (e : Edit) (s : Shape) (j : ℕ) (controls lent : List ℤ) (c : Change
 
   -- ---- the records of the other spans
 
-  asks-other : (t axis : ℕ) → t < m → axis < 2 → (InRun (change e s b j m) t → ⊥) → records b t (coordinate asks axis) ≡ records b (oldSpan e j t) (coordinate controls axis)
-  asks-other t axis h two other = ⊎-elim early late (either t (firstFresh e b j))
+  asks-other : (t axis : ℕ) → t < m → axis < 2 → (InRun (change e s after j) t → ⊥) → records b t (coordinate asks axis) ≡ records b (oldSpan e j t) (coordinate controls axis)
+  asks-other t axis h two other =
+      ap (λ l. records b t (coordinate l axis)) (sym as-asked) ∙ old-records e before j controls (allowed .offered) (allowed .good .spans-least) fits t axis h two out
     where
       fits : 2 * countAfter e (recordsOf b (before .spans)) ≤ length controls
       fits = subst (λ (n : ℕ). 2 * countAfter e n ≤ length controls) (sym (allowed .good .records)) (new-room e s before j allowed controls (length lent) (room-fine e s j controls lent none))
@@ -179,18 +180,9 @@ module _ (e : Edit) (s : Shape) (j : ℕ) (controls lent : List ℤ) (c : Change
       as-asked : asked e j controls (countAfter e (recordsOf b (before .spans))) ≡ asks
       as-asked = ap (λ (n : ℕ). asked e j controls (countAfter e n)) (allowed .good .records)
 
-      early : t < firstFresh e b j → records b t (coordinate asks axis) ≡ records b (oldSpan e j t) (coordinate controls axis)
-      early first =
-          ap (λ l. records b t (coordinate l axis)) (sym as-asked)
-          ∙ records-stay e b j (before .spans) controls (allowed .offered) (allowed .good .spans-least) fits t axis h two first
-          ∙ ap (λ (n : ℕ). records b n (coordinate controls axis)) (sym (old-early e b j t first))
-
-      late : firstFresh e b j ≤ t → records b t (coordinate asks axis) ≡ records b (oldSpan e j t) (coordinate controls axis)
-      late from =
-          let past : pastFresh e b j m ≤ t = ⊎-elim (λ (g : t < pastFresh e b j m). absurd (other (run-spans e b j m t .1 (from, g)))) (λ (g : pastFresh e b j m ≤ t). g) (either t (pastFresh e b j m)) in
-          ap (λ l. records b t (coordinate l axis)) (sym as-asked)
-          ∙ records-carried e b j (before .spans) controls (allowed .offered) (allowed .good .spans-least) fits t axis h two past
-          ∙ ap (λ (n : ℕ). records b n (coordinate controls axis)) (sym (old-later e b j m t h past))
+      out : (t < firstFresh e after j) ⊎ (pastFresh e after j ≤ t)
+      out =
+          ⊎-elim (λ early. inl early) (λ low. ⊎-elim (λ high. absurd (other (run-spans e after j t .1 (low, high)))) (λ past. inr past) (either t (pastFresh e after j))) (either t (firstFresh e after j))
 
   -- a span that is not in the run has the four records of the old span
   pub answered-records : (t axis : ℕ) → t < planOf (c .shape) .spans → axis < 2 → (InRun c t → ⊥)
@@ -202,11 +194,11 @@ module _ (e : Edit) (s : Shape) (j : ℕ) (controls lent : List ℤ) (c : Change
 
   -- ---- and of those in the run
 
-  asks-needed : (t u : ℕ) → InRun (change e s b j m) t → u < before .spans
+  asks-needed : (t u : ℕ) → InRun (change e s after j) t → u < before .spans
       → ((old : List ℤ) → length old ≡ length controls → records b t (coordinate (asked e j old (countAfter e (s .count))) 0) ≡ records b u (coordinate old 0))
       → ⊥
   asks-needed t u has h alike =
-      let (here, touched) = run-touched e b j m (allowed .offered) t .0 has in
+      let (here, touched) = run-touched e after j (allowed .offered) t .0 has in
       touched-needs e b j (s .count) (length controls) t u touched (omega (arith, last-record b m t here, ready .good .records)) (new-room e s before j allowed controls (length lent) (room-fine e s j controls lent none))
       (omega (arith, last-record b (before .spans) u h, allowed .good .records))
       (old-room e j (s .count) (length controls) (ready .askable))

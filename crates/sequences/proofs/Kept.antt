@@ -1,35 +1,36 @@
--- Why the spans that are not in an edit's run need no work: such a span has the four records that its old span had, so each of its numbers is a number of the old outline,
--- in its place or one span on or back.
-use mathlib.Core.Path.{_≡_, refl, sym, ap, _∙_}
+-- Why the spans that are not in an edit's run need no work: such a span has the four records that its old span had, so each of its numbers is the old outline's.
+use mathlib.Core.Path.{_≡_, refl, sym, ap, _∙_, subst}
 use mathlib.Core.Bool.{true}
-use mathlib.Core.Logic.{⊎-elim}
+use mathlib.Core.Logic.{⊎-elim, _⊎_, inl, inr}
 use mathlib.Core.List.{List}
-use Prim.Native.Nat.{ℕ, _+_, _*_, _-_, _/_, _%_, _^_, min, _≤_, _<_}
-use native.Mathlib.Nat.{add-zero, add-div-right, div-div-eq-div-mul, div-lt-iff-lt-mul, mul-le-mul-right}
+use Prim.Native.Nat.{ℕ, _+_, _*_, _-_, _/_, _%_, _≤_, _<_}
+use native.Mathlib.Nat.{add-zero, mul-le-mul-right}
 use native.Mathlib.Omega.{arith}
 use borrow.Author.Tests.{leb-true}
 use lib.Dec.{lit<}
 use lib.IntN.{ℤ, pos}
 use lib.ListN.{getD, length}
-use lib.Pow.{pow-pos}
 use Rattle.curve.specs.declared.Basis.{Basis}
 use Rattle.curve.specs.Four.{four}
 use Rattle.curve.specs.Span.{firstRecord, coordinate, recordsFrom, records, point}
+use Rattle.shape.specs.declared.Plan.{Plan}
 use Rattle.shape.specs.Shape.{recordsOf}
 use Rattle.shape.proofs.Tests.{passes, either}
 use Rattle.shape.proofs.Spans.{last-record}
 use Rattle.spans.specs.Numbers.{number, perSpan}
 use Rattle.spans.proofs.Filled.{in-filled}
-use Rattle.spans.proofs.Numbers.{located}
+use Rattle.spans.proofs.Numbers.{span-point}
 use Rattle.asked.specs.declared.Edit.{Edit}
 use Rattle.asked.specs.declared.Edit.the-variants.{Move, Insert, Remove}
 use Rattle.asked.specs.Edits.{countAfter, spansAfter, offered, inRange, controlAt, asked, firstFresh, pastFresh, runOf, carriedFrom, isFresh, pointAt}
 use Rattle.asked.proofs.Splines.{spline-first, spline-records}
 use Rattle.asked.proofs.Controls.{Beyond, control-before, control-beyond}
-use Rattle.edit.proofs.Worked.{fewer-numbers, fresh-at, stays-at, carried-at}
+use Rattle.edit.specs.Reading.{planAfter}
+use Rattle.edit.proofs.Worked.{fresh-at}
 use Rattle.edit.proofs.Rows.{records-then}
 use Rattle.sequences.proofs.Touched.{first-bound, past-bound, next-span}
-use Rattle.sequences.proofs.OldSpans.{owner-exists, owns, outside-run}
+use Rattle.sequences.specs.Touched.{oldSpan}
+use Rattle.sequences.proofs.OldSpans.{old-early, old-later, in-some-span, span-has, outside-run, stale-at}
 
 -- ---- the records of the new controls, by what each of their numbers is
 
@@ -62,8 +63,8 @@ four-same r t f g h =
 -- ---- the four records of a span that is not in the run
 
 -- a span before the run has its records before the place
-span-before : (e : Edit) (b : Basis) (j s : ℕ) → offered e b ≡ true → s < firstFresh e b j → firstRecord b s + 3 < j
-span-before e b j s o h = ⊎-elim (λ early. early) (λ high. absurd (omega (arith, first-bound e b j s o .1 high))) (either (firstRecord b s + 3) j)
+span-before : (e : Edit) (p : Plan) (j s : ℕ) → offered e (p .basis) ≡ true → s < firstFresh e p j → firstRecord (p .basis) s + 3 < j
+span-before e p j s o h = ⊎-elim (λ early. early) (λ high. absurd (omega (arith, first-bound e p j s o .1 high))) (either (firstRecord (p .basis) s + 3) j)
 
 -- after a record past the place come others past it
 span-beyond : (e : Edit) (j r i : ℕ) → Beyond e j r → Beyond e j (r + i)
@@ -77,149 +78,86 @@ span-from (Move x y) b j s i o h = refl
 span-from (Insert x y) b j s i o h = omega (arith, spline-first b o s, spline-first b o (s - 1))
 span-from Remove b j s i o h = omega (arith, spline-first b o s, spline-first b o (s + 1))
 
-module _ (e : Edit) (b : Basis) (j m : ℕ) (old : List ℤ) (o : offered e b ≡ true) (some : 1 ≤ m) (fits : 2 * countAfter e (recordsOf b m) ≤ length old) where
+-- the old span exists: before the run, and past it
+early-exists : (e : Edit) (p : Plan) (j s : ℕ) → offered e (p .basis) ≡ true → inRange e j (recordsOf (p .basis) (p .spans)) ≡ true → s < spansAfter e (p .spans)
+    → s < firstFresh e (planAfter e p) j → s < p .spans
+early-exists (Move x y) p j s o range h first = h
+early-exists (Insert x y) p j s o range h first = omega (arith, leb-true j (recordsOf (p .basis) (p .spans)) range, spline-records (p .basis) o (p .spans))
+early-exists Remove p j s o range h first = omega arith
+
+later-exists : (e : Edit) (p : Plan) (j s : ℕ) → s < spansAfter e (p .spans) → pastFresh e (planAfter e p) j ≤ s → carriedFrom e 1 s < p .spans
+later-exists (Move x y) p j s h past = h
+later-exists (Insert x y) p j s h past = omega arith
+later-exists Remove p j s h past = omega arith
+
+-- An edit of plan p, and `old` is the list of the old controls.
+module _ (e : Edit) (p : Plan) (j : ℕ) (old : List ℤ) (o : offered e (p .basis) ≡ true) (some : 1 ≤ p .spans) (fits : 2 * countAfter e (recordsOf (p .basis) (p .spans)) ≤ length old) where
+  abbrev b : Basis
+  b = p .basis
+
+  abbrev p' : Plan
+  p' = planAfter e p
+
   -- the controls as the edit leaves them
   abbrev new : List ℤ
-  new = asked e j old (countAfter e (recordsOf b m))
+  new = asked e j old (countAfter e (recordsOf b (p .spans)))
 
-  has-records : (s i : ℕ) → s < spansAfter e m → i < 4 → firstRecord b s + i < countAfter e (recordsOf b m)
-  has-records s i h few = omega (arith, last-record b (spansAfter e m) s h, records-then e b m o some)
+  has-records : (s i : ℕ) → s < p' .spans → i < 4 → firstRecord b s + i < countAfter e (recordsOf b (p .spans))
+  has-records s i h few = omega (arith, last-record b (p' .spans) s h, records-then e b (p .spans) o some)
 
-  -- an earlier span has the same four records as before
-  pub records-stay : (s axis : ℕ) → s < spansAfter e m → axis < 2 → s < firstFresh e b j → records b s (coordinate new axis) ≡ records b s (coordinate old axis)
-  records-stay s axis h a first =
+  -- a span outside the run
+  abbrev Outside : ℕ → Type 0
+  Outside s = (s < firstFresh e p' j) ⊎ (pastFresh e p' j ≤ s)
+
+  -- an earlier span has the same four records as before, a later one those of the span that it is carried from: those of the old span
+  pub old-records : (s axis : ℕ) → s < p' .spans → axis < 2 → Outside s → records b s (coordinate new axis) ≡ records b (oldSpan e j s) (coordinate old axis)
+  old-records s axis h a (inl first) =
       four-same (firstRecord b s) (firstRecord b s) (coordinate new axis) (coordinate old axis)
-      (λ i few. coordinate-asked e j old (firstRecord b s + i) axis a (countAfter e (recordsOf b m)) fits (has-records s i h few) ∙ record-before e j old (firstRecord b s + i) axis a (omega (arith, span-before e b j s o first)))
-
-  -- a later one has those of the span that it is carried from: itself, the one before or the one after
-  pub records-carried : (s axis : ℕ) → s < spansAfter e m → axis < 2 → pastFresh e b j (spansAfter e m) ≤ s → records b s (coordinate new axis) ≡ records b (carriedFrom e 1 s) (coordinate old axis)
-  records-carried s axis h a past =
-      let beyond = past-bound e b j (spansAfter e m) s o h .0 past in
+      (λ i few. coordinate-asked e j old (firstRecord b s + i) axis a (countAfter e (recordsOf b (p .spans))) fits (has-records s i h few) ∙ record-before e j old (firstRecord b s + i) axis a (omega (arith, span-before e p' j s o first)))
+      ∙ ap (λ (n : ℕ). records b n (coordinate old axis)) (sym (old-early e p' j s first))
+  old-records s axis h a (inr past) =
+      let beyond = past-bound e p' j s o h .0 past in
       four-same (firstRecord b s) (firstRecord b (carriedFrom e 1 s)) (coordinate new axis) (coordinate old axis)
       (λ i few.
-      coordinate-asked e j old (firstRecord b s + i) axis a (countAfter e (recordsOf b m)) fits (has-records s i h few)
+      coordinate-asked e j old (firstRecord b s + i) axis a (countAfter e (recordsOf b (p .spans))) fits (has-records s i h few)
       ∙ record-beyond e j old (firstRecord b s + i) axis a (span-beyond e j (firstRecord b s) i beyond)
       ∙ ap (coordinate old axis) (span-from e b j s i o beyond))
+      ∙ ap (λ (n : ℕ). records b n (coordinate old axis)) (sym (old-later e p' j s h past))
 
--- ---- the numbers
+  -- ---- the numbers
 
--- two numbers at the same step of spans with the same four records
-same-number : (b : Basis) (k m n : ℕ) (c d : List ℤ) (q p s t i : ℕ) → min (q / 2 / 2 ^ k) (m - 1) ≡ s → q / 2 ≡ s * 2 ^ k + i → min (p / 2 / 2 ^ k) (n - 1) ≡ t
-    → p / 2 ≡ t * 2 ^ k + i
-    → q % 2 ≡ p % 2
-    → records b s (coordinate c (q % 2)) ≡ records b t (coordinate d (q % 2))
-    → number b k m c q ≡ number b k n d p
-same-number b k m n c d q p s t i span at span' at' axis same =
-    located b k m c q s i span at
-    ∙ ap (λ r. point b k r i) same
-    ∙ ap (λ (a : ℕ). point b k (records b t (coordinate d a)) i) axis
-    ∙ sym (located b k n d p t i span' at')
+  module _ (range : inRange e j (recordsOf b (p .spans)) ≡ true) where
+    abbrev k : ℕ
+    k = p .depth
 
--- where a carried number comes from: the same step of the span that it is carried from, of m old spans
-record Source (e : Edit) (k m q s i : ℕ) : Type 0 where
-  span : min (carriedFrom e (perSpan k) q / 2 / 2 ^ k) (m - 1) ≡ carriedFrom e 1 s
-  at : carriedFrom e (perSpan k) q / 2 ≡ carriedFrom e 1 s * 2 ^ k + i
-  axis : q % 2 ≡ carriedFrom e (perSpan k) q % 2
-  within : carriedFrom e (perSpan k) q < m * perSpan k + 2
+    abbrev w : ℕ
+    w = perSpan k
 
-source : (e : Edit) (b : Basis) (k j m q s i : ℕ) → 1 ≤ m → 1 ≤ spansAfter e m → q < spansAfter e m * perSpan k + 2 → min (q / 2 / 2 ^ k) (spansAfter e m - 1) ≡ s → q / 2 ≡ s * 2 ^ k + i
-    → pastFresh e b j (spansAfter e m) ≤ s → Source e k m q s i
-source (Move x y) b k j m q s i some left h span at past = record { span = span; at = at; axis = refl; within = h }
-source (Insert x y) b k j m q s i some left h span at past =
-    let d = 2 ^ k in
-    let one : s ≡ s - 1 + 1 = omega arith in
-    let row : s * d ≡ (s - 1) * d + d = ap (λ (n : ℕ). n * d) one ∙ next-span (s - 1) d in
-    let half : (q - perSpan k) / 2 ≡ (s - 1) * d + i = omega (arith, row) in
-    let all : (q - perSpan k) / 2 + d ≡ q / 2 = omega (arith, row) in
-    let spans : q / 2 / d ≡ (q - perSpan k) / 2 / d + 1 = ap (λ (n : ℕ). n / d) (sym all) ∙ add-div-right ((q - perSpan k) / 2) {k = d} (pow-pos k) in
-    record {
-      span = omega (arith, spans, span);
-      at = half;
-      axis = omega (arith, row);
-      within = omega (arith, next-span m (perSpan k), row);
-    }
-source Remove b k j m q s i some left h span at past =
-    let d = 2 ^ k in
-    let all : (q + perSpan k) / 2 ≡ q / 2 + d = omega arith in
-    let spans : (q + perSpan k) / 2 / d ≡ q / 2 / d + 1 = ap (λ (n : ℕ). n / d) all ∙ add-div-right (q / 2) {k = d} (pow-pos k) in
-    let one : m ≡ m - 1 + 1 = omega arith in
-    let wide : m * perSpan k ≡ (m - 1) * perSpan k + perSpan k = ap (λ (n : ℕ). n * perSpan k) one ∙ next-span (m - 1) (perSpan k) in
-    record {
-      span = omega (arith, spans, span);
-      at = omega (arith, next-span s d);
-      axis = omega arith;
-      within = omega (arith, wide);
-    }
+    old-exists : (s : ℕ) → s < p' .spans → Outside s → oldSpan e j s < p .spans
+    old-exists s h (inl first) = subst (λ (n : ℕ). n < p .spans) (sym (old-early e p' j s first)) (early-exists e p j s o range h first)
+    old-exists s h (inr past) = subst (λ (n : ℕ). n < p .spans) (sym (old-later e p' j s h past)) (later-exists e p j s h past)
 
--- a number of a span before the fresh ones is a number of the old outline too
-stays-within : (e : Edit) (b : Basis) (k j m q : ℕ) → offered e b ≡ true → inRange e j (recordsOf b m) ≡ true → q < spansAfter e m * perSpan k + 2
-    → min (q / perSpan k) (spansAfter e m - 1) < firstFresh e b j → q < m * perSpan k + 2
-stays-within (Move x y) b k j m q o range h first = h
-stays-within (Insert x y) b k j m q o range h first =
-    let below : q / perSpan k < m = omega (arith, leb-true j (recordsOf b m) range, spline-records b o m) in
-    omega (arith, div-lt-iff-lt-mul {k = perSpan k} {x = q} {y = m} (omega (arith, pow-pos k)) .0 below)
-stays-within Remove b k j m q o range h first = omega (arith, mul-le-mul-right {m = m - 1} {n = m} (perSpan k) (omega arith))
+    -- number i of a span outside the run is the old outline's, number i of the old span
+    number-kept : (s i : ℕ) → s < p' .spans → i < w + 2 → Outside s → number p' new (s * w + i) ≡ number p old (oldSpan e j s * w + i)
+    number-kept s i h few out =
+        span-point p' new s i h few
+        ∙ ap (λ r. point b k r (i / 2)) (old-records s (i % 2) h (omega arith) out)
+        ∙ sym (span-point p old (oldSpan e j s) i (old-exists s h out) few)
 
--- and the same one, whether of the old or of the new number of spans
-stays-same : (e : Edit) (b : Basis) (k m : ℕ) (c : List ℤ) (q : ℕ) → 1 ≤ m → 1 ≤ spansAfter e m → q < spansAfter e m * perSpan k + 2 → q < m * perSpan k + 2
-    → number b k (spansAfter e m) c q ≡ number b k m c q
-stays-same (Move x y) b k m c q some left h g = refl
-stays-same (Insert x y) b k m c q some left h g = sym (fewer-numbers b k m (m + 1) c q some (omega arith) g)
-stays-same Remove b k m c q some left h g = fewer-numbers b k (m - 1) m c q left (omega arith) h
+    -- So where the lent points are the old outline, what the edit leaves is the new outline's number.
+    module _ (left : 1 ≤ p' .spans) (lent : List ℤ) (room : p' .spans * w + 2 ≤ length lent) (held : (i : ℕ) → i < p .spans * w + 2 → getD lent i (pos 0) ≡ number p old i) where
+      span-drawn : (s i : ℕ) → s < p' .spans → i < w + 2 → pointAt e p' j new lent (s * w + i) ≡ number p' new (s * w + i)
+      span-drawn s i h few =
+          ⊎-elim (fresh-at e p' j new lent left room (s * w + i))
+          (λ stale.
+          let out : Outside s = outside-run e p' k j (s * w + i) stale s (span-has k s i few) in
+          let t = oldSpan e j s in
+          stale-at e p' j new lent left room s i h few stale
+          ∙ held (t * w + i) (omega (arith, next-span t w, mul-le-mul-right {m = t + 1} {n = p .spans} w (omega (arith, old-exists s h out))))
+          ∙ sym (number-kept s i h few out))
+          (passes (isFresh (runOf e p' j) k (s * w + i)))
 
--- Number q of the new outline: of an earlier span, fresh, or of a later span. `old` is the list of the old controls.
-module _ (e : Edit) (b : Basis) (k j m : ℕ) (old : List ℤ) (o : offered e b ≡ true) (range : inRange e j (recordsOf b m) ≡ true) (some : 1 ≤ m) (left : 1 ≤ spansAfter e m)
-    (fits : 2 * countAfter e (recordsOf b m) ≤ length old) (q : ℕ) (h : q < spansAfter e m * perSpan k + 2) where
-  abbrev w : ℕ
-  w = perSpan k
-
-  abbrev m' : ℕ
-  m' = spansAfter e m
-
-  abbrev a : ℕ
-  a = firstFresh e b j
-
-  abbrev z : ℕ
-  z = pastFresh e b j m'
-
-  abbrev s : ℕ
-  s = min (q / w) (m' - 1)
-
-  abbrev now : List ℤ
-  now = new e b j m old o some fits
-
-  span-is : min (q / 2 / 2 ^ k) (m' - 1) ≡ s
-  span-is = ap (λ (n : ℕ). min n (m' - 1)) (div-div-eq-div-mul q 2 (2 ^ k))
-
-  exists : s < m'
-  exists = owner-exists k m' q left h
-
-  two : q % 2 < 2
-  two = omega arith
-
-  step : q / 2 ≡ s * 2 ^ k + (q / 2 - s * 2 ^ k)
-  step = omega (arith, owns k m' q left h .0)
-
-  -- A number of an earlier span is the old outline's, in its place.
-  number-stays : s < a → (q < m * w + 2) × (number b k m' now q ≡ number b k m old q)
-  number-stays first =
-      let within = stays-within e b k j m q o range h first in
-      let i = q / 2 - s * 2 ^ k in
-      (within, same-number b k m' m' now old q q s s i span-is step span-is step refl (records-stay e b j m old o some fits s (q % 2) exists two first) ∙ stays-same e b k m old q some left h within)
-
-  -- A number of a later span is the old outline's, at the place that it is carried from.
-  number-carried : z ≤ s → (carriedFrom e w q < m * w + 2) × (number b k m' now q ≡ number b k m old (carriedFrom e w q))
-  number-carried past =
-      let i = q / 2 - s * 2 ^ k in
-      let r = source e b k j m q s i some left h span-is step past in
-      (r .within, same-number b k m' m now old q (carriedFrom e w q) s (carriedFrom e 1 s) i span-is step (r .span) (r .at) (r .axis) (records-carried e b j m old o some fits s (q % 2) exists two past))
-
-  -- So where the lent points are the old outline, what the edit leaves at q is the new outline's number.
-  pub point-drawn : (lent : List ℤ) → m' * w + 2 ≤ length lent → ((i : ℕ) → i < m * w + 2 → getD lent i (pos 0) ≡ number b k m old i) → pointAt e b k j m' now lent q ≡ number b k m' now q
-  point-drawn lent room held =
-      ⊎-elim (fresh-at e b k j m' now lent left room q)
-      (λ stale.
-      ⊎-elim (λ first. let (within, same) = number-stays first in stays-at e b k j m' now lent left room q stale first ∙ held q within ∙ sym same)
-      (λ past. let (within, same) = number-carried past in carried-at e b k j m' now lent left room q stale past ∙ held (carriedFrom e w q) within ∙ sym same)
-      (outside-run e b k j m' q stale s (owns k m' q left h)))
-      (passes (isFresh (runOf e b j m') k q))
+      pub point-drawn : (q : ℕ) → q < p' .spans * w + 2 → pointAt e p' j new lent q ≡ number p' new q
+      point-drawn q h =
+          let (s, i, here, few, is) = in-some-span k (p' .spans) q left h in
+          subst (λ (n : ℕ). pointAt e p' j new lent n ≡ number p' new n) (sym is) (span-drawn s i here few)

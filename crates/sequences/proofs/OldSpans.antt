@@ -11,7 +11,7 @@ use borrow.Author.Tests.{lt-ltb}
 use lib.IntN.{ℤ, pos}
 use lib.ListN.{getD, length}
 use lib.Pow.{pow-pos}
-use Rattle.curve.specs.declared.Basis.{Basis}
+use Rattle.shape.specs.declared.Plan.{Plan}
 use Rattle.shape.proofs.Tests.{either, true-is-not-false}
 use Rattle.spans.specs.Numbers.{perSpan}
 use Rattle.spans.proofs.Numbers.{per-span}
@@ -26,20 +26,20 @@ use Rattle.sequences.proofs.Touched.{held-fresh, next-span}
 -- ---- the old span that a span holds
 
 -- before the run it is the span itself
-pub old-early : (e : Edit) (b : Basis) (j t : ℕ) → t < firstFresh e b j → oldSpan e j t ≡ t
-old-early e b j t h = ap (λ v. cond v t (carriedFrom e 1 t)) (lt-ltb t j (omega (arith, first-place e b j)))
+pub old-early : (e : Edit) (p : Plan) (j t : ℕ) → t < firstFresh e p j → oldSpan e j t ≡ t
+old-early e p j t h = ap (λ v. cond v t (carriedFrom e 1 t)) (lt-ltb t j (omega (arith, first-place e p j)))
 
 -- past it, the one that it is carried from
-pub old-later : (e : Edit) (b : Basis) (j m t : ℕ) → t < m → pastFresh e b j m ≤ t → oldSpan e j t ≡ carriedFrom e 1 t
-old-later e b j m t h past = later-carried e b j m t 1 t (λ (n : ℕ). n) h past
+pub old-later : (e : Edit) (p : Plan) (j t : ℕ) → t < p .spans → pastFresh e p j ≤ t → oldSpan e j t ≡ carriedFrom e 1 t
+old-later e p j t h past = later-carried e p j t 1 t (λ (n : ℕ). n) h past
 
 -- number i of a span that is carried comes from number i of that one
-carried-number : (e : Edit) (b : Basis) (j m t w i : ℕ) → t < m → pastFresh e b j m ≤ t → carriedFrom e w (t * w + i) ≡ carriedFrom e 1 t * w + i
-carried-number (Move x y) b j m t w i h past = refl
-carried-number (Insert x y) b j m t w i h past =
+carried-number : (e : Edit) (p : Plan) (j t w i : ℕ) → t < p .spans → pastFresh e p j ≤ t → carriedFrom e w (t * w + i) ≡ carriedFrom e 1 t * w + i
+carried-number (Move x y) p j t w i h past = refl
+carried-number (Insert x y) p j t w i h past =
     let one : t - 1 + 1 ≡ t = omega arith in
     omega (arith, next-span (t - 1) w, ap (λ (n : ℕ). n * w) one)
-carried-number Remove b j m t w i h past = omega (arith, next-span t w)
+carried-number Remove p j t w i h past = omega (arith, next-span t w)
 
 -- ---- the span that number q of m spans belongs to
 
@@ -69,23 +69,34 @@ module _ (k m q : ℕ) (some : 1 ≤ m) (h : q < m * perSpan k + 2) where
   pub in-some-span : (t : ℕ) × (i : ℕ) × (t < m) × (i < w + 2) × (q ≡ t * w + i)
   in-some-span = (owner, q - owner * w, owner-exists, omega (arith, starts, ends), omega (arith, starts))
 
+-- and span t has number i of its own
+pub span-has : (k t i : ℕ) → i < perSpan k + 2 → Among k t (t * perSpan k + i)
+span-has k t i few = (omega (arith, per-span t k), omega (arith, per-span (t + 1) k, next-span t (perSpan k)))
+
 -- ---- a number that is not fresh
 
 -- a span that has it among its points is before the run or past it
-pub outside-run : (e : Edit) (b : Basis) (k j m q : ℕ) → isFresh (runOf e b j m) k q ≡ false → (t : ℕ) → Among k t q → (t < firstFresh e b j) ⊎ (pastFresh e b j m ≤ t)
-outside-run e b k j m q stale t among =
+pub outside-run : (e : Edit) (p : Plan) (k j q : ℕ) → isFresh (runOf e p j) k q ≡ false → (t : ℕ) → Among k t q → (t < firstFresh e p j) ⊎ (pastFresh e p j ≤ t)
+outside-run e p k j q stale t among =
     ⊎-elim (λ early. inl early)
     (λ low.
-    ⊎-elim (λ high. absurd (true-is-not-false (held-fresh (runOf e b j m) k q .0 (t, run-spans e b j m t .1 (low, high), among)) stale)) (λ later. inr later) (either t (pastFresh e b j m)))
-    (either t (firstFresh e b j))
+    ⊎-elim (λ high. absurd (true-is-not-false (held-fresh (runOf e p j) k q .0 (t, run-spans e p j t .1 (low, high), among)) stale)) (λ later. inr later) (either t (pastFresh e p j)))
+    (either t (firstFresh e p j))
 
--- Number i of span t, of the m spans that an edit leaves, with `lent` whatever stood there.
-module _ (e : Edit) (b : Basis) (k j m : ℕ) (c lent : List ℤ) (some : 1 ≤ m) (room : m * perSpan k + 2 ≤ length lent) (t i : ℕ) (h : t < m) (few : i < perSpan k + 2) where
+-- Number i of span t, of the plan that an edit leaves, with `lent` whatever stood there.
+module _ (e : Edit) (p : Plan) (j : ℕ) (c lent : List ℤ) (some : 1 ≤ p .spans) (room : p .spans * perSpan (p .depth) + 2 ≤ length lent)
+    (t i : ℕ) (h : t < p .spans) (few : i < perSpan (p .depth) + 2) where
+  abbrev k : ℕ
+  k = p .depth
+
+  abbrev m : ℕ
+  m = p .spans
+
   abbrev a : ℕ
-  a = firstFresh e b j
+  a = firstFresh e p j
 
   abbrev z : ℕ
-  z = pastFresh e b j m
+  z = pastFresh e p j
 
   abbrev q : ℕ
   q = t * perSpan k + i
@@ -110,21 +121,21 @@ module _ (e : Edit) (b : Basis) (k j m : ℕ) (c lent : List ℤ) (some : 1 ≤ 
       omega (arith, min-le-left (q / perSpan k) (m - 1))
 
   abbrev Comes : Type 0
-  Comes = pointAt e b k j m c lent q ≡ getD lent (oldSpan e j t * perSpan k + i) (pos 0)
+  Comes = pointAt e p j c lent q ≡ getD lent (oldSpan e j t * perSpan k + i) (pos 0)
 
-  early : isFresh (runOf e b j m) k q ≡ false → t < a → Comes
+  early : isFresh (runOf e p j) k q ≡ false → t < a → Comes
   early stale first =
-      ⊎-elim (λ (g : o < a). stays-at e b k j m c lent some room q stale g)
-      (λ (g : z ≤ o). absurd (omega (arith, to, none-first e b j m (omega (arith, to)) (omega (arith, owner-exists k m q some within)))))
-      (outside-run e b k j m q stale o (owns k m q some within))
-      ∙ ap (λ (n : ℕ). getD lent (n * perSpan k + i) (pos 0)) (sym (old-early e b j t first))
+      ⊎-elim (λ (g : o < a). stays-at e p j c lent some room q stale g)
+      (λ (g : z ≤ o). absurd (omega (arith, to, none-first e p j (omega (arith, to)) (omega (arith, owner-exists k m q some within)))))
+      (outside-run e p k j q stale o (owns k m q some within))
+      ∙ ap (λ (n : ℕ). getD lent (n * perSpan k + i) (pos 0)) (sym (old-early e p j t first))
 
-  later : isFresh (runOf e b j m) k q ≡ false → z ≤ t → Comes
+  later : isFresh (runOf e p j) k q ≡ false → z ≤ t → Comes
   later stale past =
-      carried-at e b k j m c lent some room q stale (omega (arith, from))
-      ∙ ap (λ (n : ℕ). getD lent n (pos 0)) (carried-number e b j m t (perSpan k) i h past)
-      ∙ ap (λ (n : ℕ). getD lent (n * perSpan k + i) (pos 0)) (sym (old-later e b j m t h past))
+      carried-at e p j c lent some room q stale (omega (arith, from))
+      ∙ ap (λ (n : ℕ). getD lent n (pos 0)) (carried-number e p j t (perSpan k) i h past)
+      ∙ ap (λ (n : ℕ). getD lent (n * perSpan k + i) (pos 0)) (sym (old-later e p j t h past))
 
   -- where it is not fresh it is number i of the old span
-  pub stale-at : isFresh (runOf e b j m) k q ≡ false → Comes
-  stale-at stale = ⊎-elim (early stale) (later stale) (outside-run e b k j m q stale t (omega (arith, per-span t k), omega (arith, per-span (t + 1) k, next-span t (perSpan k))))
+  pub stale-at : isFresh (runOf e p j) k q ≡ false → Comes
+  stale-at stale = ⊎-elim (early stale) (later stale) (outside-run e p k j q stale t (span-has k t i few))

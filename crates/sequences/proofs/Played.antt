@@ -13,7 +13,8 @@ use Rattle.shape.specs.Refusals.{First, NoRow, planOf}
 use Rattle.shape.proofs.Refusals.{verdict}
 use Rattle.spans.proofs.Filled.{length-filled, in-filled}
 use Rattle.outline.specs.declared.Drawn.the-variants.{Points}
-use Rattle.outline.specs.Outline.{numbers, points, draws}
+use Rattle.spans.specs.Numbers.{number}
+use Rattle.outline.specs.Outline.{points, draws}
 use Rattle.outline.proofs.Held.{held-room, held-number}
 use Rattle.asked.specs.declared.Edit.{Edit}
 use Rattle.asked.specs.Edits.{pointAt}
@@ -35,10 +36,10 @@ module _ (e : Edit) (s : Shape) (j : ℕ) (controls lent : List ℤ) where
       let new = controlsAfter e s j controls in
       let room = room-then e s j controls lent none in
       record {
-        room = omega (arith, room, length-filled (pointAt e (p .basis) (p .depth) j (p .spans) new lent) 0 (2 * points p) lent);
+        room = omega (arith, room, length-filled (pointAt e p j new lent) 0 (2 * points p) lent);
         holds =
             λ q h.
-            ap (λ l. getD l q (pos 0)) (edit-draws e s j controls lent none (out .holds)) ∙ in-filled (numbers p new) 0 (2 * points p) lent q (omega arith) (omega arith) (omega (arith, room));
+            ap (λ l. getD l q (pos 0)) (edit-draws e s j controls lent none (out .holds)) ∙ in-filled (number p new) 0 (2 * points p) lent q (omega arith) (omega arith) (omega (arith, room));
       }
 
   -- any edit

@@ -13,8 +13,8 @@ use Rattle.shape.specs.declared.Plan.{Plan}
 use Rattle.shape.specs.Inner.{Good, Lent}
 use Rattle.shape.specs.Shape.{recordsOf}
 use Rattle.shape.specs.Refusals.{NoRow, planOf}
-use Rattle.spans.specs.Numbers.{perSpan}
-use Rattle.outline.specs.Outline.{numbers, points, drawn}
+use Rattle.spans.specs.Numbers.{number, perSpan}
+use Rattle.outline.specs.Outline.{points, drawn}
 use Rattle.outline.proofs.Draws.{all-numbers}
 use Rattle.asked.specs.declared.Edit.{Edit}
 use Rattle.asked.specs.Edits.{countAfter, inRange, asked, pointAt}
@@ -31,21 +31,22 @@ module _ (e : Edit) (s : Shape) (p : Plan) (j : ℕ) (ok : Editable e s p j) (co
   abbrev Drawn : ℕ → Type 0
   Drawn n =
       (i : ℕ) → i < planAfter e p .spans * perSpan (p .depth) + 2
-      → pointAt e (p .basis) (p .depth) j (planAfter e p .spans) (asked e j controls (countAfter e n)) lent i ≡ numbers (planAfter e p) (asked e j controls (countAfter e n)) i
+      → pointAt e (planAfter e p) j (asked e j controls (countAfter e n)) lent i ≡ number (planAfter e p) (asked e j controls (countAfter e n)) i
 
-  pub plan-draws : 2 * countAfter e (s .count) ≤ length controls → 2 * points (planAfter e p) ≤ length lent → ((i : ℕ) → i < 2 * points p → getD lent i (pos 0) ≡ numbers p controls i)
+  pub plan-draws : 2 * countAfter e (s .count) ≤ length controls → 2 * points (planAfter e p) ≤ length lent → ((i : ℕ) → i < 2 * points p → getD lent i (pos 0) ≡ number p controls i)
       → pointsAfter e s (planAfter e p) j controls lent ≡ drawn (planAfter e p) (asked e j controls (countAfter e (s .count))) lent
   plan-draws fits room held =
       let q = planAfter e p in
       let new = asked e j controls (countAfter e (s .count)) in
-      ap (sets lent 0) (tab-same (pointAt e (q .basis) (q .depth) j (q .spans) new lent) (numbers q new) 0 0 (2 * points q) (λ i h. at (0 + i) (omega (arith, all-numbers (q .depth) (q .spans)))))
+      ap (sets lent 0) (tab-same (pointAt e q j new lent) (number q new) 0 0 (2 * points q) (λ i h. at (0 + i) (omega (arith, all-numbers (q .depth) (q .spans)))))
     where
       by-records : Drawn (recordsOf (p .basis) (p .spans))
       by-records i h =
-          point-drawn e (p .basis) (p .depth) j (p .spans) controls (ok .offered) (subst (λ (n : ℕ). inRange e j n ≡ true) (sym (ok .good .records)) (ok .inRange)) (ok .good .spans-least) (good-after e s p j ok .spans-least)
-          (subst (λ (n : ℕ). 2 * countAfter e n ≤ length controls) (sym (ok .good .records)) fits) i h lent
+          point-drawn e p j controls (ok .offered) (ok .good .spans-least) (subst (λ (n : ℕ). 2 * countAfter e n ≤ length controls) (sym (ok .good .records)) fits)
+          (subst (λ (n : ℕ). inRange e j n ≡ true) (sym (ok .good .records)) (ok .inRange)) (good-after e s p j ok .spans-least) lent
           (omega (arith, all-numbers (p .depth) (planAfter e p .spans)))
           (λ n g. held n (omega (arith, all-numbers (p .depth) (p .spans))))
+          i h
 
       at : Drawn (s .count)
       at = subst Drawn (ok .good .records) by-records
@@ -79,7 +80,7 @@ module _ (e : Edit) (s : Shape) (j : ℕ) (controls lent : List ℤ) (none : NoR
       subst (λ r. 2 * points r ≤ length lent) (sym same) (omega (arith, all-numbers (p .depth) (planAfter e p .spans), ready .points-room))
 
   -- The points are those of the outline of the controls asked for, drawn whole.
-  pub edit-draws : ((i : ℕ) → i < 2 * points p → getD lent i (pos 0) ≡ numbers p controls i) → pointsAfter e s q j controls lent ≡ drawn q (asked e j controls (countAfter e (s .count))) lent
+  pub edit-draws : ((i : ℕ) → i < 2 * points p → getD lent i (pos 0) ≡ number p controls i) → pointsAfter e s q j controls lent ≡ drawn q (asked e j controls (countAfter e (s .count))) lent
   edit-draws held =
       subst (λ r. pointsAfter e s r j controls lent ≡ drawn r (asked e j controls (countAfter e (s .count))) lent) (sym same)
       (plan-draws e s p j allowed controls lent (new-room e s p j allowed controls (length lent) (room-fine e s j controls lent none)) (subst (λ r. 2 * points r ≤ length lent) same room-then) held)

@@ -4,14 +4,14 @@ use mathlib.Core.Path.{_≡_, ap, _∙_}
 use mathlib.Core.Bool.{true}
 use mathlib.Core.Logic.{⊎-elim, _↔_}
 use Prim.Native.Nat.{ℕ, _+_, _*_, _-_, _/_, _^_, _≤_, _<_}
-use native.Mathlib.Nat.{div-lt-iff-lt-mul, mul-comm, suc-mul, mul-le-mul-right, le-div-iff-mul-le, div-mul-le-self, lt-div-mul-add}
+use native.Mathlib.Nat.{suc-mul, mul-le-mul-right, le-div-iff-mul-le, div-mul-le-self, lt-div-mul-add}
 use native.Mathlib.Numerals.{add-one}
 use native.Mathlib.Omega.{arith}
 use lib.Pow.{pow-pos}
 use Rattle.curve.specs.declared.Basis.{Basis}
-use Rattle.curve.specs.Span.{stride, firstRecord}
-use Rattle.curve.proofs.Stride.{stride-bounds}
-use Rattle.shape.proofs.Spans.{among-first}
+use Rattle.curve.specs.Span.{firstRecord}
+use Rattle.shape.specs.declared.Plan.{Plan}
+use Rattle.shape.proofs.Spans.{among-first, begins-past}
 use Rattle.shape.proofs.Tests.{either}
 use Rattle.spans.proofs.Numbers.{per-span}
 use Rattle.asked.specs.declared.Edit.{Edit}
@@ -32,20 +32,18 @@ not-below {a} {b} {c} {d} (to, from) = (
 )
 
 -- a span is not before the run exactly when the place is not past its last record
-pub first-bound : (e : Edit) (b : Basis) (j t : ℕ) → offered e b ≡ true → (firstFresh e b j ≤ t) ↔ (j ≤ firstRecord b t + 3)
-first-bound (Move x y) b j t o = not-below (among-first b j t)
-first-bound (Insert x y) b j t o = (omega (arith, spline-first b o t), omega (arith, spline-first b o t))
-first-bound Remove b j t o = (omega (arith, spline-first b o t), omega (arith, spline-first b o t))
+pub first-bound : (e : Edit) (p : Plan) (j t : ℕ) → offered e (p .basis) ≡ true → (firstFresh e p j ≤ t) ↔ (j ≤ firstRecord (p .basis) t + 3)
+first-bound (Move x y) p j t o = not-below (among-first (p .basis) j t)
+first-bound (Insert x y) p j t o = (omega (arith, spline-first (p .basis) o t), omega (arith, spline-first (p .basis) o t))
+first-bound Remove p j t o = (omega (arith, spline-first (p .basis) o t), omega (arith, spline-first (p .basis) o t))
 
 -- and it is past the run exactly when its first record is past the place
-pub past-bound : (e : Edit) (b : Basis) (j m t : ℕ) → offered e b ≡ true → t < m → (pastFresh e b j m ≤ t) ↔ Beyond e j (firstRecord b t)
-unfolding firstRecord
-past-bound (Move x y) b j m t o h =
-    let (to, from) = div-lt-iff-lt-mul {k = stride b} {x = j} {y = t} (stride-bounds b .0) in
-    let first = mul-comm (stride b) t in
-    ((λ past. omega (arith, first, to (omega arith))), (λ past. let last = from (omega (arith, first)) in omega (arith, last)))
-past-bound (Insert x y) b j m t o h = (omega (arith, spline-first b o t), omega (arith, spline-first b o t))
-past-bound Remove b j m t o h = (omega (arith, spline-first b o t), omega (arith, spline-first b o t))
+pub past-bound : (e : Edit) (p : Plan) (j t : ℕ) → offered e (p .basis) ≡ true → t < p .spans → (pastFresh e p j ≤ t) ↔ Beyond e j (firstRecord (p .basis) t)
+past-bound (Move x y) p j t o h =
+    let (to, from) = begins-past (p .basis) j t in
+    ((λ past. to (omega arith)), (λ past. let last = from past in omega (arith, last)))
+past-bound (Insert x y) p j t o h = (omega (arith, spline-first (p .basis) o t), omega (arith, spline-first (p .basis) o t))
+past-bound Remove p j t o h = (omega (arith, spline-first (p .basis) o t), omega (arith, spline-first (p .basis) o t))
 
 -- a span is touched where its first record is not past the place, nor the place past its last
 not-past : (e : Edit) (b : Basis) (j t : ℕ) → (Beyond e j (firstRecord b t) → ⊥) → j ≤ firstRecord b t + 3 → Touched e b j t
@@ -60,33 +58,33 @@ past-not Remove b j t (low, high) = (omega arith, high)
 
 -- ---- the run
 
-module _ (e : Edit) (b : Basis) (j m : ℕ) (o : offered e b ≡ true) where
+module _ (e : Edit) (p : Plan) (j : ℕ) (o : offered e (p .basis) ≡ true) where
   abbrev run : Run
-  run = runOf e b j m
+  run = runOf e p j
 
   abbrev Has : ℕ → Type 0
   Has t = (run .first ≤ t) × (t < run .first + run .count)
 
-  -- its spans are those of the m that are touched
-  pub run-touched : (t : ℕ) → Has t ↔ ((t < m) × Touched e b j t)
+  -- its spans are those of the plan that are touched
+  pub run-touched : (t : ℕ) → Has t ↔ ((t < p .spans) × Touched e (p .basis) j t)
   run-touched t = (
     (λ has.
-        let (low, high) = run-spans e b j m t .0 has in
-        let here : t < m = omega (arith, past-most e b j m) in
-        (here, not-past e b j t (λ past. omega (arith, past-bound e b j m t o here .1 past)) (first-bound e b j t o .0 low))),
+        let (low, high) = run-spans e p j t .0 has in
+        let here : t < p .spans = omega (arith, past-most e p j) in
+        (here, not-past e (p .basis) j t (λ past. omega (arith, past-bound e p j t o here .1 past)) (first-bound e p j t o .0 low))),
     (λ (here, touched).
-        let (not, high) = past-not e b j t touched in
-        run-spans e b j m t .1 (first-bound e b j t o .1 high, ⊎-elim (λ inside. inside) (λ past. absurd (not (past-bound e b j m t o here .0 past))) (either t (pastFresh e b j m)))),
+        let (not, high) = past-not e (p .basis) j t touched in
+        run-spans e p j t .1 (first-bound e p j t o .1 high, ⊎-elim (λ inside. inside) (λ past. absurd (not (past-bound e p j t o here .0 past))) (either t (pastFresh e p j)))),
   )
 
   -- both of its numbers are 0 exactly where none is
-  pub nought-touched : ((run .first ≡ 0) × (run .count ≡ 0)) ↔ ((t : ℕ) → t < m → Touched e b j t → ⊥)
+  pub nought-touched : ((run .first ≡ 0) × (run .count ≡ 0)) ↔ ((t : ℕ) → t < p .spans → Touched e (p .basis) j t → ⊥)
   nought-touched = (
     (λ (first, count) t h touched. let has = run-touched t .1 (h, touched) in omega (arith, has .1, first, count)),
     (λ none.
         let empty : run .count ≡ 0 =
         ⊎-elim (λ (some : 0 < run .count). let here = run-touched (run .first) .0 (omega arith, omega arith) in absurd (none (run .first) (here .0) (here .1))) (λ (h : run .count ≤ 0). omega arith) (either 0 (run .count)) in
-        (run-nought e b j m (omega (arith, empty, run-count e b j m)), empty)),
+        (run-nought e p j (omega (arith, empty, run-count e p j)), empty)),
   )
 
 -- ---- the numbers of its points

@@ -8,7 +8,8 @@ use Rattle.whole.specs.Outcome.{Outcome, outcome}
 use Rattle.shape.specs.declared.Shape.{Shape}
 use Rattle.shape.specs.Refusals.{planOf}
 use Rattle.outline.specs.declared.Drawn.the-variants.{Points}
-use Rattle.outline.specs.Outline.{numbers, points, draws}
+use Rattle.spans.specs.Numbers.{number}
+use Rattle.outline.specs.Outline.{points, draws}
 use Rattle.asked.specs.declared.Edit.{Edit}
 use Rattle.edit.specs.declared.Edited.{Edited}
 use Rattle.edit.specs.declared.Edited.the-variants.{Done, Refused}
@@ -49,7 +50,7 @@ played t (c ∷ calls) = played (called t c) calls
 -- The list of points begins with all numbers of the outline of the controls.
 pub record Outlined (t : State) : Type 0 where
   pub room : 2 * points (planOf (t .shape)) ≤ length (t .held)
-  pub holds : (q : ℕ) → q < 2 * points (planOf (t .shape)) → getD (t .held) q (pos 0) ≡ numbers (planOf (t .shape)) (t .controls) q
+  pub holds : (q : ℕ) → q < 2 * points (planOf (t .shape)) → getD (t .held) q (pos 0) ≡ number (planOf (t .shape)) (t .controls) q
 
 -- Drawing the controls again is done, and changes nothing.
 abbrev pub Redraws : State → Type 0

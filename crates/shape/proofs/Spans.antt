@@ -1,9 +1,9 @@
 -- Spans and records: laws of any stride from 1 to 3, so of every basis at once.
-use mathlib.Core.Path.{_≡_, sym, ap, _∙_}
+use mathlib.Core.Path.{_≡_, refl, sym, ap, _∙_}
 use mathlib.Core.Bool.{true, false, cond, _&&_}
 use mathlib.Core.Logic.{⊎-elim, _↔_}
 use Prim.Native.Nat.{ℕ, suc, _+_, _*_, _-_, _/_, _≤_, _<_}
-use native.Mathlib.Nat.{div-le-self, le-div-iff-mul-le, mul-comm, mul-div-right, mul-le-mul, mul-le-mul-right, mul-zero, one-mul, suc-mul}
+use native.Mathlib.Nat.{div-le-self, div-lt-iff-lt-mul, div-mul-le-self, le-div-iff-mul-le, mul-comm, mul-div-right, mul-le-mul, mul-le-mul-right, mul-zero, one-mul, suc-mul}
 use native.Mathlib.Omega.{arith}
 use borrow.Author.Tests.{leb-true, eqb-true, le-leb, eq-eqb}
 use lib.Dec.{leb, eqb}
@@ -12,7 +12,7 @@ use Rattle.curve.specs.Span.{stride, firstRecord}
 use Rattle.curve.specs.Ways.{deepest}
 use Rattle.curve.specs.declared.Basis.{Basis}
 use Rattle.curve.proofs.Stride.{stride-bounds}
-use Rattle.shape.specs.Shape.{shared, recordsOf, spansOf, allowed, pointsOf, leastRecords, mostRecords, mostPoints}
+use Rattle.shape.specs.Shape.{shared, recordsOf, spansOf, firstUsing, lastUsing, allowed, pointsOf, leastRecords, mostRecords, mostPoints}
 use Rattle.shape.proofs.Tests.{passes, either, true-is-not-false, and-true}
 
 -- ---- records of a span
@@ -25,6 +25,27 @@ among-first b n t =
     let (to, from) = le-div-iff-mul-le {k = stride b} {x = suc t} {y = n - shared b} least in
     let next = suc-mul t (stride b) ∙ ap (λ (i : ℕ). i + stride b) (mul-comm t (stride b)) in
     ((λ h. let room = to h in omega (arith, next, room)), (λ h. from (omega (arith, next))))
+
+-- it begins past record j exactly when it is past the last span that uses it
+pub begins-past : (b : Basis) (j t : ℕ) → (lastUsing b j < t) ↔ (j < firstRecord b t)
+unfolding firstRecord lastUsing
+begins-past b j t =
+    let (to, from) = div-lt-iff-lt-mul {k = stride b} {x = j} {y = t} (stride-bounds b .0) in
+    let first = mul-comm (stride b) t in
+    ((λ h. let past = to h in omega (arith, first, past)), (λ h. from (omega (arith, first))))
+
+-- the first span that uses a record is not past the last, nor past the record
+pub first-below : (b : Basis) (j : ℕ) → (firstUsing b j ≤ lastUsing b j) × (lastUsing b j ≤ j)
+unfolding spansOf lastUsing
+first-below b j = (
+  le-div-iff-mul-le {k = stride b} {x = spansOf b j} {y = j} (stride-bounds b .0) .1 (omega (arith, div-mul-le-self (j - shared b) (stride b))),
+  div-le-self j (stride b),
+)
+
+-- the records of m spans are those before the next one would begin, and those that it would share
+pub records-first : (b : Basis) (m : ℕ) → recordsOf b m ≡ firstRecord b m + shared b
+unfolding recordsOf firstRecord
+records-first b m = refl
 
 -- the spans of the records of m spans are m
 pub spans-records : (b : Basis) (m : ℕ) → spansOf b (recordsOf b m) ≡ m

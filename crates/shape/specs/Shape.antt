@@ -38,6 +38,13 @@ recordsOf b m = stride b * m + shared b
 unfoldable pub spansOf : Basis → ℕ → ℕ
 spansOf b n = (n - shared b) / stride b
 
+-- The first and the last span that uses record j: the spans before have all their records among the first j, and those after begin past it.
+abbrev pub firstUsing : Basis → ℕ → ℕ
+firstUsing b j = spansOf b j
+
+unfoldable pub lastUsing : Basis → ℕ → ℕ
+lastUsing b j = j / stride b
+
 -- n is allowed for a basis: it is the records of some m, at least 1, and at most 64.
 unfoldable pub allowed : Basis → ℕ → Bool
 allowed b n = leb n mostRecords && (leb 1 (spansOf b n) && eqb (recordsOf b (spansOf b n)) n)

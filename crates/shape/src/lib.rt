@@ -4,7 +4,7 @@ ghost use mathlib.Core.Path.{_≡_};
 ghost use Prim.Native.Nat.{_*_, _^_, _≤_};
 ghost use lib.ListN.{length};
 ghost use Rattle.curve.specs.Ways.{deepest};
-ghost use Rattle.shape.specs.Shape.{basisOf, shared, spansOf, recordsOf, allowed, pointsOf, mostRecords, mostPoints};
+ghost use Rattle.shape.specs.Shape.{basisOf, shared, spansOf, lastUsing, recordsOf, allowed, pointsOf, mostRecords, mostPoints};
 ghost use Rattle.shape.specs.Refusals.{judgeShape, judgeLists, firstOutside};
 use curve::Basis;
 use curve::DEEPEST;
@@ -102,6 +102,14 @@ pub fn spans_of(basis: Basis, count: usize) -> usize
         return 0;
     }
     (count - shared) / stride_of(basis)
+}
+
+// The last span that uses record `place`; the first is `spans_of` of the same number.
+pub fn last_using(basis: Basis, place: usize) -> usize
+    requires { ⌜ place ≤ mostRecords ⌝ }
+    ensures { λ r. ⌜ r ≡ lastUsing basis place ⌝ }
+{
+    place / stride_of(basis)
 }
 
 // The records of a number of spans.

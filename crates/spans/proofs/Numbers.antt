@@ -1,9 +1,10 @@
--- The numbers of an outline, span by span: those of span s from its start on are the span's own pairs, and the last two are the last span's end.
-use mathlib.Core.Path.{_≡_, refl, ap, _∙_}
+-- The numbers of an outline, span by span: those of span t from its start on are the span's own pairs, and the two after them are its end.
+use mathlib.Core.Path.{_≡_, refl, sym, ap, _∙_}
 use mathlib.Core.Bool.{cond}
 use mathlib.Core.List.{List, [], _∷_, _++_}
-use Prim.Native.Nat.{ℕ, zero, suc, _+_, _*_, _-_, _/_, _%_, _^_, min, _<_}
-use native.Mathlib.Nat.{mul-left-comm, suc-mul, zero-mul, sub-self, mod-lt, min-eq-left, min-eq-right}
+use mathlib.Core.Logic.{⊎-elim}
+use Prim.Native.Nat.{ℕ, zero, suc, _+_, _*_, _-_, _/_, _%_, _^_, min, _≤_, _<_}
+use native.Mathlib.Nat.{zero-add, mul-left-comm, suc-mul, zero-mul, sub-self, mod-lt, min-eq-left, min-eq-right}
 use native.Mathlib.Numerals.{add-one}
 use native.Mathlib.Omega.{arith}
 use lib.Arith.{digits-div}
@@ -15,7 +16,10 @@ use Rattle.curve.specs.declared.Four.{Four}
 use Rattle.curve.specs.declared.Basis.{Basis}
 use Rattle.curve.specs.Tab.{tab}
 use Rattle.curve.specs.Span.{coordinate, records, sixfoldControls, weighted, divisor, point}
+use Rattle.curve.proofs.Span.{joint}
 use Rattle.curve.proofs.Tab.{tab-append, tab-same}
+use Rattle.shape.specs.declared.Plan.{Plan}
+use Rattle.shape.proofs.Tests.{either}
 use Rattle.spans.specs.Numbers.{number, perSpan}
 use Rattle.spans.specs.Inner.{paired, onAxis, ending}
 
@@ -26,16 +30,6 @@ spanControls b controls s axis = sixfoldControls b (records b s (coordinate cont
 -- a span's numbers are twice its steps
 pub per-span : (s k : ℕ) → s * perSpan k ≡ 2 * (s * 2 ^ k)
 per-span s k = mul-left-comm s 2 (2 ^ k)
-
--- where number q is: at step i of span s on axis q % 2
-pub located : (b : Basis) (k m : ℕ) (controls : List ℤ) (q s i : ℕ) → min (q / 2 / 2 ^ k) (m - 1) ≡ s → q / 2 ≡ s * 2 ^ k + i → number b k m controls q ≡ point b k (records b s (coordinate controls (q % 2))) i
-unfolding number
-located b k m controls q s i e f =
-    ap (λ (t : ℕ). point b k (records b t (coordinate controls (q % 2))) (q / 2 - t * 2 ^ k)) e
-    ∙ ap (point b k (records b s (coordinate controls (q % 2)))) left
-  where
-    left : q / 2 - s * 2 ^ k ≡ i
-    left = omega arith
 
 -- an axis is x or y
 axis-point : (b : Basis) (k s i : ℕ) (controls : List ℤ) (j : ℕ) → point b k (records b s (coordinate controls (j % 2))) i
@@ -49,42 +43,76 @@ axis-point b k s i controls j = go (j % 2) (mod-lt j (lit< tt))
     go (suc zero) h = refl
     go (suc (suc a)) h = absurd (omega arith)
 
--- number j of span s
-pub span-number : (b : Basis) (k m : ℕ) (controls : List ℤ) (s j : ℕ) → s < m → j < perSpan k
-    → number b k m controls (s * perSpan k + j) ≡ paired k (divisor b k) (spanControls b controls s 0) (spanControls b controls s 1) j
+-- ---- number j of the 2^k + 1 points of span t, its end among them: the next span's start where there is one
+
+module _ (p : Plan) (controls : List ℤ) (t j : ℕ) (there : t < p .spans) where
+  abbrev b : Basis
+  b = p .basis
+
+  abbrev k : ℕ
+  k = p .depth
+
+  abbrev q : ℕ
+  q = t * perSpan k + j
+
+  abbrev at : ℕ → ℤ
+  at = coordinate controls (j % 2)
+
+  half : q / 2 ≡ t * 2 ^ k + j / 2
+  half = omega (arith, per-span t k)
+
+  -- as the outline has it: step i of span s
+  stands : (s i : ℕ) → min (q / 2 / 2 ^ k) (p .spans - 1) ≡ s → q / 2 ≡ s * 2 ^ k + i → number p controls q ≡ point b k (records b s at) i
+  unfolding number
+  stands s i span step =
+      let axis : q % 2 ≡ j % 2 = omega (arith, per-span t k) in
+      let left : q / 2 - s * 2 ^ k ≡ i = omega arith in
+      ap (λ (n : ℕ). point b k (records b n (coordinate controls (q % 2))) (q / 2 - n * 2 ^ k)) span
+      ∙ ap (point b k (records b s (coordinate controls (q % 2)))) left
+      ∙ ap (λ (a : ℕ). point b k (records b s (coordinate controls a)) i) axis
+
+  -- the span of a point that is i steps from the start of span s
+  span-of : (s i : ℕ) → q / 2 ≡ s * 2 ^ k + i → i < 2 ^ k → min (q / 2 / 2 ^ k) (p .spans - 1) ≡ min s (p .spans - 1)
+  span-of s i e h = ap (λ (n : ℕ). min (n / 2 ^ k) (p .spans - 1)) e ∙ ap (λ (n : ℕ). min n (p .spans - 1)) (digits-div s h)
+
+  next : 2 ^ k ≡ j / 2 → q / 2 ≡ suc t * 2 ^ k + 0
+  next e = omega (arith, half, suc-mul t (2 ^ k))
+
+  pub span-point : j < perSpan k + 2 → number p controls q ≡ point b k (records b t at) (j / 2)
+  span-point within =
+      ⊎-elim (λ (before : j / 2 < 2 ^ k). stands t (j / 2) (span-of t (j / 2) half before ∙ min-eq-left (omega arith)) half)
+      (λ (past : 2 ^ k ≤ j / 2).
+      let end : 2 ^ k ≡ j / 2 = omega arith in
+      let on = span-of (suc t) 0 (next end) (pow-pos k) in
+      ⊎-elim (λ (more : suc t < p .spans). stands (suc t) 0 (on ∙ min-eq-left (omega arith)) (next end) ∙ sym (joint b k t at) ∙ ap (point b k (records b t at)) end)
+      (λ (last : p .spans ≤ suc t).
+      let final : p .spans - 1 ≡ t = omega arith in
+      stands t (j / 2) (on ∙ min-eq-right (omega arith) ∙ final) half)
+      (either (suc t) (p .spans)))
+      (either (j / 2) (2 ^ k))
+
+-- ---- the numbers of a span but its end, and those of its end
+
+pub span-numbers : (p : Plan) (controls : List ℤ) (t : ℕ) → t < p .spans
+    → tab (number p controls) (t * perSpan (p .depth)) (perSpan (p .depth)) ≡ tab (paired (p .depth) (divisor (p .basis) (p .depth)) (spanControls (p .basis) controls t 0) (spanControls (p .basis) controls t 1)) 0 (perSpan (p .depth))
 unfolding paired
-span-number b k m controls s j h below =
-    let q = s * perSpan k + j in
-    let half : q / 2 ≡ s * 2 ^ k + j / 2 = omega (arith, per-span s k) in
-    let same : q % 2 ≡ j % 2 = omega (arith, per-span s k) in
-    let inner : j / 2 < 2 ^ k = omega arith in
-    let span : min (q / 2 / 2 ^ k) (m - 1) ≡ s = ap (λ (n : ℕ). min (n / 2 ^ k) (m - 1)) half ∙ ap (λ (n : ℕ). min n (m - 1)) (digits-div s inner) ∙ min-eq-left (omega arith) in
-    located b k m controls q s (j / 2) span half
-    ∙ ap (λ (a : ℕ). point b k (records b s (coordinate controls a)) (j / 2)) same
-    ∙ axis-point b k s (j / 2) controls j
+span-numbers p controls t h =
+    let f = paired (p .depth) (divisor (p .basis) (p .depth)) (spanControls (p .basis) controls t 0) (spanControls (p .basis) controls t 1) in
+    tab-same (number p controls) f (t * perSpan (p .depth)) 0 (perSpan (p .depth))
+    (λ j below. span-point p controls t j h (omega arith) ∙ axis-point (p .basis) (p .depth) t (j / 2) controls j ∙ ap f (sym (zero-add j)))
 
-pub span-numbers : (b : Basis) (k m : ℕ) (controls : List ℤ) (s : ℕ) → s < m
-    → tab (number b k m controls) (s * perSpan k) (perSpan k) ≡ tab (paired k (divisor b k) (spanControls b controls s 0) (spanControls b controls s 1)) 0 (perSpan k)
-span-numbers b k m controls s h =
-    tab-same (number b k m controls) (paired k (divisor b k) (spanControls b controls s 0) (spanControls b controls s 1)) (s * perSpan k) 0 (perSpan k)
-    (λ j below. span-number b k m controls s j h below ∙ ap (paired k (divisor b k) (spanControls b controls s 0) (spanControls b controls s 1)) (omega arith))
-
--- the end of the last span
-pub end-number : (b : Basis) (k m : ℕ) (controls : List ℤ) (r : ℕ) → 0 < m → r < 2
-    → number b k m controls (m * perSpan k + r) ≡ point b k (records b (m - 1) (coordinate controls r)) (2 ^ k)
-end-number b k m controls r h below =
-    let q = m * perSpan k + r in
-    let whole : m * 2 ^ k ≡ (m - 1) * 2 ^ k + 2 ^ k = last-span in
-    let half : q / 2 ≡ m * 2 ^ k = omega (arith, per-span m k) in
-    let same : q % 2 ≡ r = omega (arith, per-span m k) in
-    let deep : 0 < 2 ^ k = pow-pos k in
-    let none : m * 2 ^ k ≡ m * 2 ^ k + 0 = omega arith in
-    let span : min (q / 2 / 2 ^ k) (m - 1) ≡ m - 1 = ap (λ (n : ℕ). min (n / 2 ^ k) (m - 1)) (half ∙ none) ∙ ap (λ (n : ℕ). min n (m - 1)) (digits-div m deep) ∙ min-eq-right (omega arith) in
-    located b k m controls q (m - 1) (2 ^ k) span (half ∙ whole)
-    ∙ ap (λ (a : ℕ). point b k (records b (m - 1) (coordinate controls a)) (2 ^ k)) same
-  where
-    last-span : m * 2 ^ k ≡ (m - 1) * 2 ^ k + 2 ^ k
-    last-span = let e : m ≡ suc (m - 1) = omega arith in ap (λ (n : ℕ). n * 2 ^ k) e ∙ suc-mul (m - 1) (2 ^ k)
+end-number : (p : Plan) (controls : List ℤ) (t r : ℕ) → 0 < t → t ≤ p .spans → r < 2
+    → number p controls (t * perSpan (p .depth) + r) ≡ point (p .basis) (p .depth) (records (p .basis) (t - 1) (coordinate controls r)) (2 ^ p .depth)
+end-number p controls t r some most below =
+    let w = perSpan (p .depth) in
+    let one : suc (t - 1) ≡ t = omega arith in
+    let here : t * w + r ≡ (t - 1) * w + (w + r) = omega (arith, ap (λ (n : ℕ). n * w) one, suc-mul (t - 1) w) in
+    let axis : (w + r) % 2 ≡ r = omega arith in
+    let step : (w + r) / 2 ≡ 2 ^ p .depth = omega arith in
+    ap (number p controls) here
+    ∙ span-point p controls (t - 1) (w + r) (omega arith) (omega arith)
+    ∙ ap (λ (a : ℕ). point (p .basis) (p .depth) (records (p .basis) (t - 1) (coordinate controls a)) ((w + r) / 2)) axis
+    ∙ ap (point (p .basis) (p .depth) (records (p .basis) (t - 1) (coordinate controls r))) step
 
 -- ---- a run of spans, taken one span at a time
 
@@ -99,16 +127,16 @@ next-span f k m s h =
     let on : s * w + w ≡ (s + 1) * w = omega (arith, ap (λ (n : ℕ). n * w) (add-one s), suc-mul s w) in
     ap (tab f (s * w)) count ∙ tab-append f (s * w) w (rest + 2) ∙ ap (λ (n : ℕ). tab f (s * w) w ++ tab f n (rest + 2)) on
 
--- after the last span two numbers are left: its end
-pub last-two : (b : Basis) (k m : ℕ) (controls : List ℤ) → 0 < m
-    → tab (number b k m controls) (m * perSpan k) ((m - m) * perSpan k + 2) ≡ ending k (divisor b k) (spanControls b controls (m - 1) 0) (spanControls b controls (m - 1) 1)
+-- after the last span of a run two numbers are left: its end
+pub last-two : (p : Plan) (controls : List ℤ) (t : ℕ) → 0 < t → t ≤ p .spans
+    → tab (number p controls) (t * perSpan (p .depth)) ((t - t) * perSpan (p .depth) + 2) ≡ ending (p .depth) (divisor (p .basis) (p .depth)) (spanControls (p .basis) controls (t - 1) 0) (spanControls (p .basis) controls (t - 1) 1)
 unfolding tab point
-last-two b k m controls h =
-    let w = perSpan k in
-    let two : (m - m) * w + 2 ≡ 2 = ap (λ (n : ℕ). n * w + 2) (sub-self m) ∙ ap (λ (n : ℕ). n + 2) (zero-mul w) in
-    let f = number b k m controls in
-    let here : m * w ≡ m * w + 0 = omega arith in
-    let next : suc (m * w) ≡ m * w + 1 = omega arith in
-    ap (tab f (m * w)) two
-    ∙ ap (λ z. z ∷ f (suc (m * w)) ∷ []) (ap f here ∙ end-number b k m controls 0 h (lit< tt))
-    ∙ ap (λ z. point b k (records b (m - 1) (coordinate controls 0)) (2 ^ k) ∷ z ∷ []) (ap f next ∙ end-number b k m controls 1 h (lit< tt))
+last-two p controls t some most =
+    let w = perSpan (p .depth) in
+    let two : (t - t) * w + 2 ≡ 2 = ap (λ (n : ℕ). n * w + 2) (sub-self t) ∙ ap (λ (n : ℕ). n + 2) (zero-mul w) in
+    let f = number p controls in
+    let here : t * w ≡ t * w + 0 = omega arith in
+    let next : suc (t * w) ≡ t * w + 1 = omega arith in
+    ap (tab f (t * w)) two
+    ∙ ap (λ z. z ∷ f (suc (t * w)) ∷ []) (ap f here ∙ end-number p controls t 0 some most (lit< tt))
+    ∙ ap (λ z. point (p .basis) (p .depth) (records (p .basis) (t - 1) (coordinate controls 0)) (2 ^ p .depth) ∷ z ∷ []) (ap f next ∙ end-number p controls t 1 some most (lit< tt))

@@ -8,12 +8,12 @@ use lib.IntN.{ℤ, pos, natAbs}
 use lib.ListN.{length}
 use Rattle.whole.specs.Nearest.{nearest}
 use Rattle.curve.specs.declared.Four.{Four}
-use Rattle.curve.specs.declared.Basis.{Basis}
 use Rattle.curve.specs.declared.Differences.{Differences}
 use Rattle.curve.specs.Span.{coordinate, records, weighted, firstRecord}
 use Rattle.curve.specs.Ways.{advance, deepest}
 use Rattle.curve.specs.Limits.{Inside, limit, reach}
 use Rattle.curve.specs.Inner.{Small, widest}
+use Rattle.shape.specs.declared.Plan.{Plan}
 use Rattle.shape.specs.Shape.{mostRecords}
 
 -- ---- one span, from its two axes' controls: number j is step j / 2 on axis j % 2, at `left` more halvings and over the divisor d
@@ -54,8 +54,8 @@ pub record Steady (k d : ℕ) (s : Differences) : Type 0 where
   pub small : (i : ℕ) → i < 2 ^ k → Small (after i s)
   pub near : (i : ℕ) → i < 2 ^ k → natAbs (after i s .value) ≤ d * reach
 
--- A list of controls that m spans of a basis can be drawn from: each span's four records are in the list and inside the limits.
-pub record Drawable (b : Basis) (m : ℕ) (controls : List ℤ) : Type 0 where
-  pub few : m ≤ mostRecords
-  pub held : (s : ℕ) → s < m → 2 * firstRecord b s + 8 ≤ length controls
-  pub inside : (s axis : ℕ) → s < m → axis < 2 → Inside limit (records b s (coordinate controls axis))
+-- A list of controls that a plan's spans can be drawn from: each span's four records are in the list and inside the limits.
+pub record Drawable (p : Plan) (controls : List ℤ) : Type 0 where
+  pub few : p .spans ≤ mostRecords
+  pub held : (s : ℕ) → s < p .spans → 2 * firstRecord (p .basis) s + 8 ≤ length controls
+  pub inside : (s axis : ℕ) → s < p .spans → axis < 2 → Inside limit (records (p .basis) s (coordinate controls axis))

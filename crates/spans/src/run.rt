@@ -16,11 +16,11 @@ use crate::halving;
 use crate::point::put_point;
 use crate::stepping;
 use crate::weights;
-use curve::Basis;
 use curve::Four;
 use curve::records::first_record;
 use curve::records::four_records;
 use curve::records::sixfold_controls;
+use shape::Plan;
 
 // The three ways of document 01.
 pub enum Way {
@@ -30,11 +30,12 @@ pub enum Way {
 }
 
 // The sixfold controls of a span on an axis: 0 is x, 1 is y.
-fn span_controls(controls: &[i32], basis: Basis, span: usize, axis: usize) -> Four
-    requires { ⌜ axis < 2 ⌝ }
-    requires { ⌜ Drawable basis (span + 1) (now controls) ⌝ }
-    ensures { λ r. ⌜ r ≡ sixfoldControls basis (records basis span (coordinate (now (controls .entry)) axis)) ⌝ }
+fn span_controls(controls: &[i32], plan: Plan, span: usize, axis: usize) -> Four
+    requires { ⌜ (span < plan .spans) × (axis < 2) ⌝ }
+    requires { ⌜ Drawable plan (now controls) ⌝ }
+    ensures { λ r. ⌜ r ≡ sixfoldControls (plan .basis) (records (plan .basis) span (coordinate (now (controls .entry)) axis)) ⌝ }
 {
+    let basis = plan.basis;
     let first = first_record(basis, span);
     sixfold_controls(basis, four_records(controls, first, axis))
 }
@@ -78,29 +79,29 @@ pub fn fill_spans(
     way: Way,
     points: &mut [i32],
     controls: &[i32],
-    basis: Basis,
-    depth: usize,
+    plan: Plan,
     from: usize,
     to: usize,
 )
-    requires { ⌜ (depth ≤ deepest) × (from < to) ⌝ }
-    requires { ⌜ Drawable basis to (now controls) ⌝ }
-    requires { ⌜ to * perSpan depth + 2 ≤ length (now points) ⌝ }
-    ensures { λ _. ⌜ now (points .exit) ≡ filled (number basis depth to (now (controls .entry))) (from * perSpan depth) ((to - from) * perSpan depth + 2) (now (points .entry)) ⌝ }
+    requires { ⌜ (plan .depth ≤ deepest) × (from < to) × (to ≤ plan .spans) ⌝ }
+    requires { ⌜ Drawable plan (now controls) ⌝ }
+    requires { ⌜ to * perSpan (plan .depth) + 2 ≤ length (now points) ⌝ }
+    ensures { λ _. ⌜ now (points .exit) ≡ filled (number plan (now (controls .entry))) (from * perSpan (plan .depth)) ((to - from) * perSpan (plan .depth) + 2) (now (points .entry)) ⌝ }
 {
+    let depth = plan.depth;
     // The divisor is 6 · 2^bits.
     let bits = (3 * depth) as u32;
     let stride: usize = 2 << depth;
     let mut span = from;
     let mut at = from * stride;
     while span < to {
-        let x = span_controls(controls, basis, span, 0);
-        let y = span_controls(controls, basis, span, 1);
+        let x = span_controls(controls, plan, span, 0);
+        let y = span_controls(controls, plan, span, 1);
         fill_span(way, points, at, depth, bits, x, y);
         span += 1;
         at += stride;
     }
-    let x = span_controls(controls, basis, to - 1, 0);
-    let y = span_controls(controls, basis, to - 1, 1);
+    let x = span_controls(controls, plan, to - 1, 0);
+    let y = span_controls(controls, plan, to - 1, 1);
     put_end(points, at, depth, bits, x, y);
 }

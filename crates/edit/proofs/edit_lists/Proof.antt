@@ -23,7 +23,7 @@ work-requires c κs =
     let t = c .before .before .before in
     let s = t .before .before in
     let w = s .pre in
-    ((w .good .depth-most, w .place, w .good .spans-least), (subst (Drawable (s .args .plan .basis) (s .args .plan .spans)) (sym (t .ask .ensures)) (w .drawable), (w .points-room, w .carriable)))
+    ((w .good .depth-most, w .place, w .good .spans-least), (subst (Drawable (s .args .plan)) (sym (t .ask .ensures)) (w .drawable), (w .points-room, w .carriable)))
 
 change-of-requires : tie.Need-change-of-requires
 change-of-requires c κs = search needs
@@ -41,7 +41,7 @@ returns c =
     let a = t .before .before .args in
     let q = a .plan in
     let lent = a .points .now in
-    let worked : List ℤ → ℕ → List ℤ = λ controls n. filled (pointAt (a .edit) (q .basis) (q .depth) (a .place) (q .spans) controls lent) 0 n lent in
+    let worked : List ℤ → ℕ → List ℤ = λ controls n. filled (pointAt (a .edit) q (a .place) controls lent) 0 n lent in
     let all = q .spans * perSpan (q .depth) + 2 in
     let points = r .work .ensures ∙ ap (λ l. worked l all) (t .ask .ensures) ∙ ap (worked (controlsAfter (a .edit) (a .shape) (a .place) (a .controls .now))) (sym (all-numbers (q .depth) (q .spans))) in
     λ i. outcome (Done (c .change-of .ensures i)) (t .ask .ensures i, points i)

@@ -2,7 +2,7 @@
 use mathlib.Core.Path.{_≡_, sym, ap, _∙_, subst}
 use mathlib.Core.List.{List}
 use Prim.Native.Nat.{ℕ, _+_, _*_, _-_, _≤_}
-use native.Mathlib.Nat.{zero-mul}
+use native.Mathlib.Nat.{le-refl, zero-mul}
 use native.Mathlib.Omega.{arith}
 use borrow.Author.Needs.{needs}
 use lib.IntN.{ℤ}
@@ -15,11 +15,11 @@ use Rattle.shape.specs.Refusals.{judgeLists}
 use Rattle.shape.specs.Inner.{Lent}
 use Rattle.shape.proofs.Refusals.{fine-facts}
 use Rattle.shape.proofs.Spans.{points-at-most}
-use Rattle.spans.specs.Numbers.{perSpan}
+use Rattle.spans.specs.Numbers.{number, perSpan}
 use Rattle.spans.specs.Filled.{filled}
 use Rattle.spans.specs.Inner.{Drawable}
 use Rattle.outline.specs.declared.Drawn.the-variants.{Points}
-use Rattle.outline.specs.Outline.{numbers, points, drawn}
+use Rattle.outline.specs.Outline.{points, drawn}
 use Rattle.outline.proofs.Draws.{all-numbers, plan-bad, plan-drawn, drawable}
 use Rattle.outline.proofs.draw_plan.Statement.{statement}
 use Rattle.outline.proofs.draw_plan.Tie as tie
@@ -58,7 +58,7 @@ is-fine c = sym (listed (c .before .before)) ∙ c .enum-told .given .1
 lent : (c : tie.After-enum-told) → Lent (c .before .before .before .before .args .shape .count) (c .before .before .before .before .args .controls .now) (points (c .before .before .before .before .args .plan)) (length (c .before .before .before .before .args .points .now))
 lent c = let a = c .before .before .before .before .args in fine-facts (a .shape .count) (a .controls .now) (points (a .plan)) (length (a .points .now)) (is-fine c)
 
-spans-drawable : (c : tie.After-enum-told) → Drawable (c .before .before .before .before .args .plan .basis) (c .before .before .before .before .args .plan .spans) (c .before .before .before .before .args .controls .now)
+spans-drawable : (c : tie.After-enum-told) → Drawable (c .before .before .before .before .args .plan) (c .before .before .before .before .args .controls .now)
 spans-drawable c = let s = c .before .before .before .before in drawable (s .args .shape) (s .args .plan) (s .pre) (s .args .controls .now) (points (s .args .plan)) (length (s .args .points .now)) (lent c)
 
 fill-spans-requires : tie.Need-fill-spans-requires
@@ -66,18 +66,18 @@ fill-spans-requires c κs =
     let t = c .before in
     let s = t .before .before .before .before in
     let p = s .args .plan in
-    ((s .pre .depth-most, omega (arith, s .pre .spans-least)), (spans-drawable t, omega (arith, all-numbers (p .depth) (p .spans), lent t .points-room)))
+    ((s .pre .depth-most, omega (arith, s .pre .spans-least), le-refl (p .spans)), (spans-drawable t, omega (arith, all-numbers (p .depth) (p .spans), lent t .points-room)))
 
 same-length : tie.Need-same-length
 same-length c = search needs
 
 -- the run from span 0 on is the whole outline
-whole-run : (p : Plan) (controls l : List ℤ) → filled (numbers p controls) (0 * perSpan (p .depth)) ((p .spans - 0) * perSpan (p .depth) + 2) l ≡ drawn p controls l
+whole-run : (p : Plan) (controls l : List ℤ) → filled (number p controls) (0 * perSpan (p .depth)) ((p .spans - 0) * perSpan (p .depth) + 2) l ≡ drawn p controls l
 whole-run p controls l =
     let all : p .spans - 0 ≡ p .spans = omega arith in
-    ap (λ (n : ℕ). filled (numbers p controls) n ((p .spans - 0) * perSpan (p .depth) + 2) l) (zero-mul (perSpan (p .depth)))
-    ∙ ap (λ (n : ℕ). filled (numbers p controls) 0 (n * perSpan (p .depth) + 2) l) all
-    ∙ ap (λ (n : ℕ). filled (numbers p controls) 0 n l) (sym (all-numbers (p .depth) (p .spans)))
+    ap (λ (n : ℕ). filled (number p controls) n ((p .spans - 0) * perSpan (p .depth) + 2) l) (zero-mul (perSpan (p .depth)))
+    ∙ ap (λ (n : ℕ). filled (number p controls) 0 (n * perSpan (p .depth) + 2) l) all
+    ∙ ap (λ (n : ℕ). filled (number p controls) 0 n l) (sym (all-numbers (p .depth) (p .spans)))
 
 returns-2 : tie.Need-returns-2
 returns-2 c =

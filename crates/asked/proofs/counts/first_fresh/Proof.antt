@@ -24,13 +24,13 @@ less-requires-2 : tie.Need-less-requires-2
 less-requires-2 c κs = search needs
 
 returns : tie.Need-returns
-returns c = c .spans-of .ensures ∙ sym (ap (λ e. firstFresh e (c .before .before .before .args .basis) (c .before .before .before .args .place)) (c .before .enum-told .given .1))
+returns c = c .spans-of .ensures ∙ sym (ap (λ e. firstFresh e (c .before .before .before .args .plan) (c .before .before .before .args .place)) (c .before .enum-told .given .1))
 
 returns-2 : tie.Need-returns-2
-returns-2 c = c .less .ensures ∙ sym (ap (λ e. firstFresh e (c .before .before .before .args .basis) (c .before .before .before .args .place)) (c .before .enum-told2 .given .1))
+returns-2 c = c .less .ensures ∙ sym (ap (λ e. firstFresh e (c .before .before .before .args .plan) (c .before .before .before .args .place)) (c .before .enum-told2 .given .1))
 
 returns-3 : tie.Need-returns-3
-returns-3 c = c .less2 .ensures ∙ sym (ap (λ e. firstFresh e (c .before .before .before .args .basis) (c .before .before .before .args .place)) (c .before .enum-told3 .given .1))
+returns-3 c = c .less2 .ensures ∙ sym (ap (λ e. firstFresh e (c .before .before .before .args .plan) (c .before .before .before .args .place)) (c .before .enum-told3 .given .1))
 
 pub first-fresh-spec : {M : Type 1} → statement M
 first-fresh-spec =

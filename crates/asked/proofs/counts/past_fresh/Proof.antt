@@ -1,10 +1,9 @@
 -- In each arm the case is that arm's, and the definition has the arm's answer there.
 use mathlib.Core.Path.{_≡_, sym, ap, _∙_}
-use Prim.Native.Nat.{ℕ, _+_, _/_, min}
-use native.Mathlib.Nat.{div-le-self}
+use Prim.Native.Nat.{ℕ, _+_, min}
 use native.Mathlib.Omega.{arith}
 use borrow.Author.Needs.{needs}
-use Rattle.curve.proofs.Stride.{stride-bounds}
+use Rattle.shape.proofs.Spans.{first-below}
 use Rattle.asked.specs.declared.Edit.{Edit}
 use Rattle.asked.specs.Edits.{pastFresh}
 use Rattle.asked.proofs.counts.past_fresh.Statement.{statement}
@@ -13,14 +12,11 @@ use Rattle.asked.proofs.counts.past_fresh.Tie as tie
 enum-told : tie.Need-enum-told
 enum-told c = search needs
 
-stride-of-requires : tie.Need-stride-of-requires
-stride-of-requires c κs = search needs
-
-div-least : tie.Need-div-least
-div-least c = omega (arith, c .stride-of .ensures, stride-bounds (c .before .before .before .args .basis) .0)
+last-using-requires : tie.Need-last-using-requires
+last-using-requires c κs = search needs
 
 add-least : tie.Need-add-least
-add-least c = let j = c .before .before .before .args .place in omega (arith, div-le-self j (c .stride-of .result))
+add-least c = let a = c .before .before .before .args in omega (arith, c .last-using .ensures, first-below (a .plan .basis) (a .place) .1)
 
 least-requires : tie.Need-least-requires
 least-requires c κs = search needs
@@ -41,14 +37,14 @@ least-requires-3 : tie.Need-least-requires-3
 least-requires-3 c κs = search needs
 
 -- the definition at an arm's edit
-told : (s : tie.Start) (e : Edit) → s .args .edit ≡ e → pastFresh e (s .args .basis) (s .args .place) (s .args .spans) ≡ pastFresh (s .args .edit) (s .args .basis) (s .args .place) (s .args .spans)
-told s e is = ap (λ d. pastFresh d (s .args .basis) (s .args .place) (s .args .spans)) (sym is)
+told : (s : tie.Start) (e : Edit) → s .args .edit ≡ e → pastFresh e (s .args .plan) (s .args .place) ≡ pastFresh (s .args .edit) (s .args .plan) (s .args .place)
+told s e is = ap (λ d. pastFresh d (s .args .plan) (s .args .place)) (sym is)
 
 returns : tie.Need-returns
 returns c =
     let t = c .before .before in
     let s = t .before .before in
-    c .least .ensures ∙ ap (λ (d : ℕ). min (s .args .place / d + 1) (s .args .spans)) (c .before .stride-of .ensures) ∙ told s _ (t .enum-told .given .1)
+    c .least .ensures ∙ ap (λ (n : ℕ). min (n + 1) (s .args .plan .spans)) (c .before .last-using .ensures) ∙ told s _ (t .enum-told .given .1)
 
 returns-2 : tie.Need-returns-2
 returns-2 c = let t = c .before in c .least2 .ensures ∙ told (t .before .before) _ (t .enum-told2 .given .1)
@@ -61,8 +57,7 @@ past-fresh-spec =
     tie.close
     (tie.spec
     enum-told
-    stride-of-requires
-    div-least
+    last-using-requires
     add-least
     least-requires
     enum-told-2

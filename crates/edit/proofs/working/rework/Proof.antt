@@ -14,8 +14,8 @@ use Rattle.edit.proofs.working.rework.Tie as tie
 returns : tie.Need-returns
 returns c =
     let a = c .before .args in
-    let w = perSpan (a .depth) in
-    sym (none-filled (number (a .basis) (a .depth) (a .past) (a .controls .now)) (a .first * w) (runLength (a .first) (a .past) w) (a .points .now) (run-none (a .first) (a .past) w (c .if1 .taken)))
+    let w = perSpan (a .plan .depth) in
+    sym (none-filled (number (a .plan) (a .controls .now)) (a .first * w) (runLength (a .first) (a .past) w) (a .points .now) (run-none (a .first) (a .past) w (c .if1 .taken)))
 
 fill-spans-requires : tie.Need-fill-spans-requires
 fill-spans-requires c κs = search needs
@@ -27,9 +27,9 @@ returns-2 : tie.Need-returns-2
 returns-2 c =
     let s = c .before .before .before in
     let a = s .before .args in
-    let w = perSpan (a .depth) in
+    let w = perSpan (a .plan .depth) in
     c .before .fill-spans .ensures
-    ∙ ap (λ (n : ℕ). filled (number (a .basis) (a .depth) (a .past) (a .controls .now)) (a .first * w) n (a .points .now)) (sym (run-some (a .first) (a .past) w (omega (arith, s))))
+    ∙ ap (λ (n : ℕ). filled (number (a .plan) (a .controls .now)) (a .first * w) n (a .points .now)) (sym (run-some (a .first) (a .past) w (omega (arith, s))))
 
 pub rework-spec : {M : Type 1} → statement M
 rework-spec = tie.close (tie.spec returns fill-spans-requires same-length returns-2)

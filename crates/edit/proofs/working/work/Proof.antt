@@ -11,7 +11,6 @@ use lib.Pow.{pow-mono}
 use Rattle.curve.specs.Ways.{deepest}
 use Rattle.spans.specs.Numbers.{number, perSpan}
 use Rattle.spans.specs.Filled.{filled}
-use Rattle.spans.proofs.Drawables.{fewer}
 use Rattle.asked.specs.Edits.{firstFresh, carriedFrom}
 use Rattle.asked.proofs.Run.{past-most}
 use Rattle.edit.specs.Inner.{Carriable, runLength}
@@ -55,8 +54,8 @@ rework-requires c κs =
     let a = s .args in
     let p = a .plan in
     let is = c .before .before .before .before .before .past-fresh .ensures in
-    let most : c .before .before .before .before .before .past-fresh .result ≤ p .spans = subst (λ (n : ℕ). n ≤ p .spans) (sym is) (past-most (a .edit) (p .basis) (a .place) (p .spans)) in (
-      (s .pre .0 .0, fewer (p .basis) (p .spans) _ (a .controls .now) most (s .pre .1 .0)),
+    let most : c .before .before .before .before .before .past-fresh .result ≤ p .spans = subst (λ (n : ℕ). n ≤ p .spans) (sym is) (past-most (a .edit) p (a .place)) in (
+      (s .pre .0 .0, most, s .pre .1 .0),
       omega (arith, mul-le-mul-right {m = c .before .before .before .before .before .past-fresh .result} {n = p .spans} (perSpan (p .depth)) most, s .pre .1 .1 .0, c .before .before .carry .kept .1 .0),
     )
 
@@ -72,14 +71,14 @@ returns c =
     let lent = a .points .now in
     let w = perSpan (p .depth) in
     let carry : ℕ → ℕ → List ℤ = λ v past. filled (λ q. getD lent (carriedFrom (a .edit) v q) (pos 0)) (past * v) (runLength past (p .spans) v) lent in
-    let spans : List ℤ → ℕ → ℕ → List ℤ = λ l first past. filled (number (p .basis) (p .depth) past (a .controls .now)) (first * w) (runLength first past w) l in
+    let spans : List ℤ → ℕ → ℕ → List ℤ = λ l first past. filled (number p (a .controls .now)) (first * w) (runLength first past w) l in
     let first = t .before .before .before .before .first-fresh .result in
     let past = t .before .before .before .past-fresh .result in
     c .before .rework .ensures
     ∙ ap (λ l. spans l first past) (t .carry .ensures ∙ ap (λ (v : ℕ). carry v past) (width (t .before)))
     ∙ ap (λ (n : ℕ). spans (carry w past) n past) (t .before .before .before .before .first-fresh .ensures)
-    ∙ ap (λ (n : ℕ). spans (carry w n) (firstFresh (a .edit) (p .basis) (a .place)) n) (t .before .before .before .past-fresh .ensures)
-    ∙ worked (a .edit) (p .basis) (p .depth) (a .place) (p .spans) (a .controls .now) lent (s .pre .0 .2) (s .pre .1 .1 .0)
+    ∙ ap (λ (n : ℕ). spans (carry w n) (firstFresh (a .edit) p (a .place)) n) (t .before .before .before .past-fresh .ensures)
+    ∙ worked (a .edit) p (a .place) (a .controls .now) lent (s .pre .0 .2) (s .pre .1 .1 .0)
 
 pub work-spec : {M : Type 1} → statement M
 work-spec = tie.close (tie.spec first-fresh-requires past-fresh-requires steps-requires mul-carry carry-requires rework-requires same-length returns)

@@ -21,21 +21,21 @@ use Rattle.spans.specs.Filled.{filled}
 use Rattle.spans.specs.Inner.{paired, ending, Ready}
 use Rattle.whole.proofs.Writes.{sets-append}
 use Rattle.spans.proofs.Numbers.{spanControls, span-numbers, next-span, last-two}
-use Rattle.spans.proofs.Drawables.{fewer, span-ready}
+use Rattle.spans.proofs.Drawables.{span-ready}
 use Rattle.spans.proofs.run.fill_spans.Statement.{statement}
 use Rattle.spans.proofs.run.fill_spans.Tie as tie
 
 abbrev Inv-loop : tie.InvT-loop
-Inv-loop way points₀ controls basis depth from to bits stride span₀ at₀ points span at =
-    (stride ≡ perSpan depth)
+Inv-loop way points₀ controls plan from to depth bits stride span₀ at₀ points span at =
+    (stride ≡ perSpan (plan .depth))
     × (span ≤ to)
-    × (at ≡ span * perSpan depth)
+    × (at ≡ span * perSpan (plan .depth))
     × (length points ≡ length points₀)
-    × (sets points at (tab (number basis depth to controls) (span * perSpan depth) ((to - span) * perSpan depth + 2))
-    ≡ filled (number basis depth to controls) (from * perSpan depth) ((to - from) * perSpan depth + 2) points₀)
+    × (sets points at (tab (number plan controls) (span * perSpan (plan .depth)) ((to - span) * perSpan (plan .depth) + 2))
+    ≡ filled (number plan controls) (from * perSpan (plan .depth)) ((to - from) * perSpan (plan .depth) + 2) points₀)
 
 abbrev μ-loop : tie.MeasureT-loop
-μ-loop way points₀ controls basis depth from to bits stride span₀ at₀ points span at = to - span
+μ-loop way points₀ controls plan from to depth bits stride span₀ at₀ points span at = to - span
 
 -- 2 shifted left by the depth is a span's numbers
 stride-is : (k : ℕ) → k ≤ deepest → 2 * 2 ^ k % 2 ^ 64 ≡ perSpan k
@@ -61,29 +61,29 @@ shl-stride c = omega arith
 mul-at : tie.Need-mul-at Inv-loop μ-loop
 mul-at c =
     let a = c .args in
-    let k = a .depth in
+    let k = a .plan .depth in
     omega (arith, ap (λ (n : ℕ). a .from * n) (stride-is k (c .pre .0 .0)), place-small k (a .from) (c .pre .0 .0) (omega arith))
 
 loop-holds : tie.Need-loop-holds Inv-loop μ-loop
 loop-holds c =
     let a = c .args in
-    let e = stride-is (a .depth) (c .pre .0 .0) in
+    let e = stride-is (a .plan .depth) (c .pre .0 .0) in
     let at = ap (λ (n : ℕ). a .from * n) e in (
       e,
       omega arith,
       at,
       refl,
-      ap (λ (n : ℕ). sets (a .points .now) n (tab (number (a .basis) (a .depth) (a .to) (a .controls .now)) (a .from * perSpan (a .depth)) ((a .to - a .from) * perSpan (a .depth) + 2))) at,
+      ap (λ (n : ℕ). sets (a .points .now) n (tab (number (a .plan) (a .controls .now)) (a .from * perSpan (a .plan .depth)) ((a .to - a .from) * perSpan (a .plan .depth) + 2))) at,
     )
 
 span-controls-requires : tie.Need-span-controls-requires Inv-loop μ-loop
 span-controls-requires c κs =
     let s = c .before .before in
     let a = s .args in
-    (lit< tt, fewer (a .basis) (a .to) (c .before .loop .span + 1) (a .controls .now) (omega arith) (s .pre .1 .0))
+    ((omega arith, lit< tt), s .pre .1 .0)
 
 span-controls-requires-2 : tie.Need-span-controls-requires-2 Inv-loop μ-loop
-span-controls-requires-2 c κs = (lit< tt, span-controls-requires (c .before) κs .1)
+span-controls-requires-2 c κs = let r = span-controls-requires (c .before) κs in ((r .0 .0, lit< tt), r .1)
 
 -- a span of the run ends in it, and the run in the list
 room : (k s m n : ℕ) → s < m → m * perSpan k + 2 ≤ n → s * perSpan k + perSpan k ≤ n
@@ -95,15 +95,15 @@ fill-span-requires c κs =
     let s = t .before .before in
     let a = s .args in
     let l = t .before .loop in
-    let here : l .span < a .to = omega arith in
+    let here : l .span < a .plan .spans = omega arith in
     let d = s .pre .1 .0 in (
-      (s .pre .0 .0, bits-small (a .depth) (s .pre .0 .0)),
+      (s .pre .0 .0, bits-small (a .plan .depth) (s .pre .0 .0)),
       (
         (
-          subst (Ready (a .depth) (divisor (a .basis) (a .depth))) (sym (c .before .before .span-controls .ensures)) (span-ready (a .basis) (a .to) (a .controls .now) d (l .span) 0 here (lit< tt) (a .depth)),
-          subst (Ready (a .depth) (divisor (a .basis) (a .depth))) (sym (c .before .span-controls2 .ensures)) (span-ready (a .basis) (a .to) (a .controls .now) d (l .span) 1 here (lit< tt) (a .depth)),
+          subst (Ready (a .plan .depth) (divisor (a .plan .basis) (a .plan .depth))) (sym (c .before .before .span-controls .ensures)) (span-ready (a .plan) (a .controls .now) d (l .span) 0 here (lit< tt)),
+          subst (Ready (a .plan .depth) (divisor (a .plan .basis) (a .plan .depth))) (sym (c .before .span-controls2 .ensures)) (span-ready (a .plan) (a .controls .now) d (l .span) 1 here (lit< tt)),
         ),
-        omega (arith, room (a .depth) (l .span) (a .to) (length (a .points .now)) here (s .pre .1 .1)),
+        omega (arith, room (a .plan .depth) (l .span) (a .to) (length (a .points .now)) (omega arith) (s .pre .1 .1)),
       ),
     )
 
@@ -115,7 +115,7 @@ add-at c =
     let t = c .before .before .before .before .before in
     let s = t .before .before in
     let l = t .before .loop in
-    let k = s .args .depth in
+    let k = s .args .plan .depth in
     omega (arith, t, l .inv .2, stride-is k (s .pre .0 .0), place-small k (l .span) (s .pre .0 .0) (omega (arith, l .inv .1, s .pre .1 .0 .few)), pow-mono {i = k} {j = deepest} (s .pre .0 .0))
 
 loop-less : tie.Need-loop-less Inv-loop μ-loop
@@ -124,27 +124,27 @@ loop-less c = let t = c .before .before .before .before .before in omega (arith,
 -- a turn writes the next span's numbers
 wrote : (c : tie.After-fill-span Inv-loop μ-loop) → c .fill-span .last .1 .0
     ≡ sets (c .before .before .before .before .before .loop .points) (c .before .before .before .before .before .loop .at)
-    (tab (number (c .before .before .before .before .before .before .args .basis) (c .before .before .before .before .before .before .args .depth) (c .before .before .before .before .before .before .args .to) (c .before .before .before .before .before .before .args .controls .now)) (c .before .before .before .before .before .loop .span * perSpan (c .before .before .before .before .before .before .args .depth)) (perSpan (c .before .before .before .before .before .before .args .depth)))
+    (tab (number (c .before .before .before .before .before .before .args .plan) (c .before .before .before .before .before .before .args .controls .now)) (c .before .before .before .before .before .loop .span * perSpan (c .before .before .before .before .before .before .args .plan .depth)) (perSpan (c .before .before .before .before .before .before .args .plan .depth)))
 wrote c =
     let t = c .before .before .before .before in
     let a = t .before .before .args in
     let l = t .before .loop in
-    let k = a .depth in
-    let here : l .span < a .to = omega (arith, t) in
-    let write : Four → Four → List ℤ = λ x y. sets (l .points) (l .at) (tab (paired k (divisor (a .basis) k) x y) 0 (perSpan k)) in
+    let k = a .plan .depth in
+    let here : l .span < a .plan .spans = omega (arith, t, t .before .before .pre .0) in
+    let write : Four → Four → List ℤ = λ x y. sets (l .points) (l .at) (tab (paired k (divisor (a .plan .basis) k) x y) 0 (perSpan k)) in
     c .fill-span .ensures
     ∙ ap (λ x. write x (c .before .before .span-controls2 .result)) (c .before .before .before .span-controls .ensures)
-    ∙ ap (write (spanControls (a .basis) (a .controls .now) (l .span) 0)) (c .before .before .span-controls2 .ensures)
-    ∙ ap (sets (l .points) (l .at)) (sym (span-numbers (a .basis) k (a .to) (a .controls .now) (l .span) here))
+    ∙ ap (write (spanControls (a .plan .basis) (a .controls .now) (l .span) 0)) (c .before .before .span-controls2 .ensures)
+    ∙ ap (sets (l .points) (l .at)) (sym (span-numbers (a .plan) (a .controls .now) (l .span) here))
 
 loop-again : tie.Need-loop-again Inv-loop μ-loop
 loop-again c =
     let t = c .before .before .before .before .before in
     let a = t .before .before .args in
     let l = t .before .loop in
-    let k = a .depth in
+    let k = a .plan .depth in
     let w = perSpan k in
-    let f = number (a .basis) k (a .to) (a .controls .now) in
+    let f = number (a .plan) (a .controls .now) in
     let here : l .span < a .to = omega (arith, t) in
     let left = (a .to - (l .span + 1)) * w + 2 in
     let numbers = tab f (l .span * w) w in
@@ -167,13 +167,13 @@ span-controls-requires-3 : tie.Need-span-controls-requires-3 Inv-loop μ-loop
 span-controls-requires-3 c κs =
     let s = c .before .before in
     let a = s .args in
-    (lit< tt, fewer (a .basis) (a .to) (a .to - 1 + 1) (a .controls .now) (omega arith) (s .pre .1 .0))
+    ((omega arith, lit< tt), s .pre .1 .0)
 
 sub-span-controls-2 : tie.Need-sub-span-controls-2 Inv-loop μ-loop
 sub-span-controls-2 c = omega arith
 
 span-controls-requires-4 : tie.Need-span-controls-requires-4 Inv-loop μ-loop
-span-controls-requires-4 c κs = (lit< tt, span-controls-requires-3 (c .before) κs .1)
+span-controls-requires-4 c κs = let r = span-controls-requires-3 (c .before) κs in ((r .0 .0, lit< tt), r .1)
 
 put-end-requires : tie.Need-put-end-requires Inv-loop μ-loop
 put-end-requires c κs =
@@ -181,16 +181,16 @@ put-end-requires c κs =
     let s = t .before .before in
     let a = s .args in
     let l = t .before .loop in
-    let last : a .to - 1 < a .to = omega arith in
+    let last : a .to - 1 < a .plan .spans = omega arith in
     let d = s .pre .1 .0 in
     let done : l .span ≡ a .to = omega arith in (
-      (s .pre .0 .0, bits-small (a .depth) (s .pre .0 .0)),
+      (s .pre .0 .0, bits-small (a .plan .depth) (s .pre .0 .0)),
       (
         (
-          subst (Ready (a .depth) (divisor (a .basis) (a .depth))) (sym (c .before .before .span-controls3 .ensures)) (span-ready (a .basis) (a .to) (a .controls .now) d (a .to - 1) 0 last (lit< tt) (a .depth)),
-          subst (Ready (a .depth) (divisor (a .basis) (a .depth))) (sym (c .before .span-controls4 .ensures)) (span-ready (a .basis) (a .to) (a .controls .now) d (a .to - 1) 1 last (lit< tt) (a .depth)),
+          subst (Ready (a .plan .depth) (divisor (a .plan .basis) (a .plan .depth))) (sym (c .before .before .span-controls3 .ensures)) (span-ready (a .plan) (a .controls .now) d (a .to - 1) 0 last (lit< tt)),
+          subst (Ready (a .plan .depth) (divisor (a .plan .basis) (a .plan .depth))) (sym (c .before .span-controls4 .ensures)) (span-ready (a .plan) (a .controls .now) d (a .to - 1) 1 last (lit< tt)),
         ),
-        omega (arith, ap (λ (n : ℕ). n * perSpan (a .depth)) done),
+        omega (arith, ap (λ (n : ℕ). n * perSpan (a .plan .depth)) done),
       ),
     )
 
@@ -203,17 +203,17 @@ returns c =
     let s = t .before .before in
     let a = s .args in
     let l = t .before .loop in
-    let k = a .depth in
+    let k = a .plan .depth in
     let w = perSpan k in
-    let f = number (a .basis) k (a .to) (a .controls .now) in
+    let f = number (a .plan) (a .controls .now) in
     let done : l .span ≡ a .to = omega (arith, t, l .inv .1) in
     let some : 0 < a .to = omega (arith, s .pre .0) in
-    let close : Four → Four → List ℤ = λ x y. sets (l .points) (l .at) (ending k (divisor (a .basis) k) x y) in
-    let x = spanControls (a .basis) (a .controls .now) (a .to - 1) 0 in
+    let close : Four → Four → List ℤ = λ x y. sets (l .points) (l .at) (ending k (divisor (a .plan .basis) k) x y) in
+    let x = spanControls (a .plan .basis) (a .controls .now) (a .to - 1) 0 in
     c .before .put-end .ensures
     ∙ ap (λ q. close q (c .before .before .before .span-controls4 .result)) (c .before .before .before .before .span-controls3 .ensures)
     ∙ ap (close x) (c .before .before .before .span-controls4 .ensures)
-    ∙ ap (sets (l .points) (l .at)) (sym (last-two (a .basis) k (a .to) (a .controls .now) some))
+    ∙ ap (sets (l .points) (l .at)) (sym (last-two (a .plan) (a .controls .now) (a .to) some (s .pre .0 .2)))
     ∙ ap (λ (n : ℕ). sets (l .points) (l .at) (tab f (n * w) ((a .to - n) * w + 2))) (sym done)
     ∙ l .inv .4
 
