@@ -7,7 +7,7 @@ use native.Mathlib.Omega.{arith}
 use Rattle.curve.specs.Span.{firstRecord}
 use Rattle.curve.specs.declared.Basis.{Basis}
 use Rattle.shape.specs.Shape.{recordsOf, spansOf, mostRecords}
-use Rattle.shape.specs.Table.{Row, Table}
+use Rattle.shape.specs.Table.{Line, Table}
 use Rattle.shape.proofs.Spans.{allowed-facts, facts-allowed}
 
 -- a row follows from its controls, their most and its first records
@@ -15,7 +15,7 @@ row-of : (b : Basis) (controls : ℕ → ℕ) (most : ℕ) (first : ℕ → ℕ)
     → ((m : ℕ) → recordsOf b m ≡ controls m)
     → ((m : ℕ) → (controls m ≤ mostRecords) ↔ (m ≤ most))
     → ((s : ℕ) → firstRecord b s ≡ first s)
-    → Row b controls most first
+    → Line b controls most first
 row-of b controls most first records few uses =
     record {
       records = records;

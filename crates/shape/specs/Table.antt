@@ -8,14 +8,14 @@ use Rattle.curve.specs.declared.Basis.{Basis}
 use Rattle.curve.specs.declared.Basis.the-variants.{Bezier, BSpline, Cardinal, Hermite}
 use Rattle.shape.specs.Shape.{recordsOf, spansOf, allowed}
 
--- A row: the controls of m spans, how many spans there are at most, and the first of the four records that span s uses.
-pub record Row (b : Basis) (controls : ℕ → ℕ) (most : ℕ) (first : ℕ → ℕ) : Type 0 where
+-- A line of it: the controls of m spans, how many spans there are at most, and the first of the four records that span s uses.
+pub record Line (b : Basis) (controls : ℕ → ℕ) (most : ℕ) (first : ℕ → ℕ) : Type 0 where
   pub records : (m : ℕ) → recordsOf b m ≡ controls m
   pub spans : (n : ℕ) → (allowed b n ≡ true) ↔ ((1 ≤ spansOf b n) × (spansOf b n ≤ most) × (n ≡ controls (spansOf b n)))
   pub uses : (s : ℕ) → firstRecord b s ≡ first s
 
 pub record Table : Type 0 where
-  pub bezier : Row Bezier (λ m. 3 * m + 1) 21 (λ s. 3 * s)
-  pub bSpline : Row BSpline (λ m. m + 3) 61 (λ s. s)
-  pub cardinal : Row Cardinal (λ m. m + 3) 61 (λ s. s)
-  pub hermite : Row Hermite (λ m. 2 * m + 2) 31 (λ s. 2 * s)
+  pub bezier : Line Bezier (λ m. 3 * m + 1) 21 (λ s. 3 * s)
+  pub bSpline : Line BSpline (λ m. m + 3) 61 (λ s. s)
+  pub cardinal : Line Cardinal (λ m. m + 3) 61 (λ s. s)
+  pub hermite : Line Hermite (λ m. 2 * m + 2) 31 (λ s. 2 * s)
