@@ -4,19 +4,17 @@
 use mathlib.Core.Path.{_≡_, refl, sym, ap, _∙_, subst}
 use mathlib.Core.Bool.{Bool, _&&_}
 use mathlib.Core.List.{List, [], _∷_}
-use Prim.Native.Nat.{ℕ, zero, suc, _+_, _*_, _-_, _^_, _≤_}
+use Prim.Native.Nat.{ℕ, zero, suc, _+_, _*_, _-_, _^_, _≤_, _<_}
 use native.Mathlib.Omega.{arith}
-use native.Mathlib.Nat.{mul-le-mul, le-refl, le-trans, lt-of-le-of-lt, lt-of-lt-of-le, le-of-eq}
+use native.Mathlib.Nat.{mul-le-mul, le-refl, le-trans, lt-of-le-of-lt, lt-of-lt-of-le, le-of-eq, mul-comm, mul-suc, mul-div-cancel-left, div-eq-of-lt-le}
 use lib.Dec.{T, ltb, ltb→lt, lit≤}
-use lib.IntN.{ℤ, pos, negsuc, negℤ, natAbs, subℕ, _+ℤ_, _-ℤ_, _*ℤ_}
-use lib.Signed.{mag, shrZ, mag-shr}
+use lib.IntN.{ℤ, pos, negsuc, negℤ, natAbs, subℕ, _+ℤ_, _-ℤ_, _*ℤ_, +ℤ-idl}
+use lib.Signed.{mag, ltZ, shrZ, mag-shr}
 use mir.Syntax.{Width, w32, w64}
 use mir.Val.{SFits, toZ, ofZ, hbits}
 use mir.ValLaws.{toZ-ofZ}
 use Rattle.whole.proofs.Ring.{Ex, var, lit, _⊕_, _⊖_, _⊗_, look, ev, and-left, and-right}
-use Rattle.whole.specs.Nearest.{floor}
 use Rattle.whole.proofs.Order.{subℕ-ind}
-use Rattle.whole.proofs.Floor.{shift-floor}
 
 -- ---- sizes
 
@@ -169,13 +167,35 @@ widened-fits z f = subst (SFits w64) (sym (kept-is w32 z f)) (wider z f)
 pub widened : (z : ℤ) → SFits w32 z → kept w64 (kept w32 z) ≡ z
 widened z f = ap (kept w64) (kept-is w32 z f) ∙ kept-is w64 z (wider z f)
 
--- ---- a shift, as the machine keeps it, is the floor
+-- ---- a number turned, which the machine takes as a difference from 0
 
-pub shift-kept : (z : ℤ) (d : ℕ) → SFits w64 z → kept w64 (shrZ (kept w64 z) d) ≡ floor z d
-shift-kept z d f =
-    ap (λ x. kept w64 (shrZ x d)) (kept-is w64 z f)
-    ∙ kept-is w64 (shrZ z d) (record { sfits = lt-of-le-of-lt (mag-shr z d) (f .sfits) })
-    ∙ shift-floor z d
+pub size-fits : (z : ℤ) → natAbs z < 2 ^ 63 → SFits w64 z
+size-fits z h = record { sfits = lt-of-le-of-lt (mag-le z) h }
 
-pub mag-floor : (z : ℤ) (d : ℕ) → mag (floor z d) ≤ mag z
-mag-floor z d = subst (λ x. mag x ≤ mag z) (shift-floor z d) (mag-shr z d)
+pub turned : (z : ℤ) → natAbs z < 2 ^ 63 → pos 0 -ℤ kept w64 z ≡ negℤ z
+turned z h = ap (λ x. pos 0 -ℤ x) (kept-is w64 z (size-fits z h)) ∙ +ℤ-idl (negℤ z)
+
+pub turned-fits : (z : ℤ) → natAbs z < 2 ^ 63 → SFits w64 (pos 0 -ℤ kept w64 z)
+turned-fits z h = subst (SFits w64) (sym (turned z h)) (size-fits (negℤ z) (subst (λ (n : ℕ). n < 2 ^ 63) (sym (natAbs-neg z)) h))
+
+pub turned-kept : (z : ℤ) → natAbs z < 2 ^ 63 → kept w64 (pos 0 -ℤ kept w64 z) ≡ negℤ z
+turned-kept z h = kept-is w64 (pos 0 -ℤ kept w64 z) (turned-fits z h) ∙ turned z h
+
+-- the test of its sign, on the number as the machine keeps it
+pub sign-kept : (z : ℤ) → natAbs z < 2 ^ 63 → {b : Bool} → ltZ (kept w64 z) (pos 0) ≡ b → ltZ z (pos 0) ≡ b
+sign-kept z h e = ap (λ x. ltZ x (pos 0)) (sym (kept-is w64 z (size-fits z h))) ∙ e
+
+-- ---- a shift of a multiple of its power of two, as the machine keeps it, loses nothing
+
+shift-multiple : (z : ℤ) (d : ℕ) → 0 < d → shrZ (pos d *ℤ z) d ≡ z
+shift-multiple (pos n) d h = ap pos (mul-div-cancel-left n h)
+shift-multiple (negsuc n) d h = ap (λ x. shrZ x d) (minus-suc (d * suc n) (d * suc n - 1) (omega (arith, mul-suc d n))) ∙ ap negsuc (div-eq-of-lt-le d (omega (arith, mul-suc d n, mul-comm n d)) (omega (arith, mul-suc d n, mul-comm (n + 1) d)))
+  where
+    minus-suc : (m k : ℕ) → m ≡ suc k → negℤ (pos m) ≡ negsuc k
+    minus-suc m k e = ap (λ (x : ℕ). negℤ (pos x)) e
+
+pub shift-kept : (z : ℤ) (d : ℕ) → 0 < d → SFits w64 (pos d *ℤ z) → kept w64 (shrZ (kept w64 (pos d *ℤ z)) d) ≡ z
+shift-kept z d h f =
+    ap (λ x. kept w64 (shrZ x d)) (kept-is w64 (pos d *ℤ z) f)
+    ∙ kept-is w64 (shrZ (pos d *ℤ z) d) (record { sfits = lt-of-le-of-lt (mag-shr (pos d *ℤ z) d) (f .sfits) })
+    ∙ shift-multiple z d h

@@ -1,6 +1,6 @@
 pub mod Ring
 pub mod Order
-pub mod Floor
-pub mod Nearest
 pub mod Fit
+pub mod HalfUp
+pub mod Nearest
 pub mod Writes

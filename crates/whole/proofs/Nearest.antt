@@ -1,153 +1,141 @@
--- What `nearest` means and the laws by which every other crate uses it: all follow from the quotient and remainder of `Floor`.
+-- What `nearest` means and the laws by which every other crate uses it: those of `halfUp`, with the sign put back.
 use mathlib.Core.Path.{_≡_, refl, sym, ap, _∙_, subst}
 use mathlib.Core.List.{[], _∷_}
+use mathlib.Core.Logic.{_⊎_, inl, inr}
 use Prim.Native.Nat.{ℕ, zero, suc, _+_, _*_, _-_, _≤_, _<_}
 use native.Mathlib.Omega.{arith}
-use native.Mathlib.Nat.{mul-comm, mul-left-comm, mul-pos, mul-zero}
-use lib.Dec.{T, lt→ltb}
-use lib.IntN.{ℤ, pos, negsuc, negℤ, natAbs, _+ℤ_, _-ℤ_, _*ℤ_, +ℤ-idl, *ℤ-zero}
-use lib.Signed.{_≤ℤ_, _<ℤ_, ltZ}
-use Rattle.whole.specs.Nearest.{floor, nearest, Rounded}
-use Rattle.whole.proofs.Ring.{var, lit, _⊕_, _⊖_, _⊗_, solve}
-use Rattle.whole.proofs.Order.{le-gap, le-of, lt-gap, lt-of, *-mono, pos-injective, size-above, size-below, size-between}
-use Rattle.whole.proofs.Floor.{rest, rest-lt, floor-rest, floor-unique, floor-add, floor-scale, floor-floor, floor-mono}
+use native.Mathlib.Nat.{div-eq-of-lt, zero-div, mul-zero, mul-suc, eq-or-lt-of-le}
+use lib.Dec.{T, leb→le}
+use lib.IntN.{ℤ, pos, negsuc, negℤ, natAbs, _+ℤ_, _-ℤ_, _*ℤ_, negℤ-negℤ, *ℤ-zero}
+use lib.Signed.{_≤ℤ_, leZ}
+use Rattle.whole.specs.Nearest.{halfUp, nearest, Rounded}
+use Rattle.whole.proofs.Ring.{var, lit, _⊕_, _⊖_, _⊗_, solve, minus}
+use Rattle.whole.proofs.Order.{subℕ-ind, le-of, ≤ℤ-pos, size-above, size-below, size-between}
+use Rattle.whole.proofs.Fit.{natAbs-neg}
+use Rattle.whole.proofs.HalfUp.{half-low, half-high, half-unique, half-scale, half-whole, half-mono}
 
--- ---- what it means: with n = nearest z d, twice the distance z - d·n is from -d up to, and not with, d.
--- So z / d is at most a half away from n, and a half above n - 1 has gone up to n.
+-- ---- the sign
 
--- twice the distance and d are a remainder over 2d
-distance : (z : ℤ) (d : ℕ) → 0 < d → pos 2 *ℤ (z -ℤ pos d *ℤ nearest z d) ≡ pos (rest (pos 2 *ℤ z +ℤ pos d) (2 * d)) -ℤ pos d
+half-nought : (d : ℕ) → halfUp 0 d ≡ 0
+unfolding halfUp
+half-nought zero = zero-div 0
+half-nought (suc d) = div-eq-of-lt (omega arith)
+
+pub nearest-negative : (n d : ℕ) → nearest (negℤ (pos n)) d ≡ negℤ (pos (halfUp n d))
 unfolding nearest
-distance z d h =
-    let n = floor (pos 2 *ℤ z +ℤ pos d) (2 * d) in
-    let r = rest (pos 2 *ℤ z +ℤ pos d) (2 * d) in
-    solve (z ∷ pos d ∷ n ∷ []) (lit (pos 2) ⊗ (var 0 ⊖ var 1 ⊗ var 2)) (lit (pos 2) ⊗ var 0 ⊕ var 1 ⊖ lit (pos 2) ⊗ var 1 ⊗ var 2 ⊖ var 1) tt
-    ∙ ap (λ x. x -ℤ pos (2 * d) *ℤ n -ℤ pos d) (floor-rest (pos 2 *ℤ z +ℤ pos d) (2 * d) (omega arith))
-    ∙ solve (pos (2 * d) ∷ n ∷ pos r ∷ pos d ∷ []) (var 0 ⊗ var 1 ⊕ var 2 ⊖ var 0 ⊗ var 1 ⊖ var 3) (var 2 ⊖ var 3) tt
+nearest-negative zero d = ap pos (half-nought d) ∙ ap (λ (n : ℕ). negℤ (pos n)) (sym (half-nought d))
+nearest-negative (suc n) d = refl
 
-pub nearest-low : (z : ℤ) (d : ℕ) → 0 < d → (pos 0 -ℤ pos d) ≤ℤ (pos 2 *ℤ (z -ℤ pos d *ℤ nearest z d))
-nearest-low z d h =
-    let r = rest (pos 2 *ℤ z +ℤ pos d) (2 * d) in
-    le-of r (distance z d h ∙ solve (pos r ∷ pos d ∷ []) (var 0 ⊖ var 1) (lit (pos 0) ⊖ var 1 ⊕ var 0) tt)
-
-pub nearest-high : (z : ℤ) (d : ℕ) → 0 < d → (pos 2 *ℤ (z -ℤ pos d *ℤ nearest z d)) <ℤ pos d
-nearest-high z d h =
-    let r = rest (pos 2 *ℤ z +ℤ pos d) (2 * d) in
-    let below : r < 2 * d = rest-lt (pos 2 *ℤ z +ℤ pos d) (2 * d) (omega arith) in
-    let left : d + d ≡ r + suc (2 * d - suc r) = omega arith in
-    lt-of (2 * d - suc r)
-    (solve (pos d ∷ []) (var 0) (var 0 ⊕ var 0 ⊖ var 0) tt
-    ∙ ap (λ x. x -ℤ pos d) (ap pos left)
-    ∙ solve (pos r ∷ pos (suc (2 * d - suc r)) ∷ pos d ∷ []) (var 0 ⊕ var 1 ⊖ var 2) (var 0 ⊖ var 2 ⊕ var 1) tt
-    ∙ ap (λ x. x +ℤ pos (suc (2 * d - suc r))) (sym (distance z d h)))
-
--- and no other whole number is within those bounds
-pub nearest-unique : (z : ℤ) (d : ℕ) (n : ℤ) → (pos 0 -ℤ pos d) ≤ℤ (pos 2 *ℤ (z -ℤ pos d *ℤ n)) → (pos 2 *ℤ (z -ℤ pos d *ℤ n)) <ℤ pos d → nearest z d ≡ n
+-- the mirror: nearest of minus z is minus nearest of z
+pub nearest-minus : (z : ℤ) (d : ℕ) → nearest (negℤ z) d ≡ negℤ (nearest z d)
 unfolding nearest
-nearest-unique z d n lo hi =
-    let (r, e) = le-gap lo in
-    let (s, f) = lt-gap hi in
-    let full : pos d +ℤ pos d ≡ pos r +ℤ pos (suc s) =
-    ap (λ x. x +ℤ pos d) (f ∙ ap (λ x. x +ℤ pos (suc s)) e)
-    ∙ solve (pos d ∷ pos r ∷ pos (suc s) ∷ []) (lit (pos 0) ⊖ var 0 ⊕ var 1 ⊕ var 2 ⊕ var 0) (var 1 ⊕ var 2) tt in
-    floor-unique (pos 2 *ℤ z +ℤ pos d) (2 * d) n r (omega (arith, pos-injective full))
-    (solve (z ∷ pos d ∷ n ∷ []) (lit (pos 2) ⊗ var 0 ⊕ var 1) (lit (pos 2) ⊗ (var 0 ⊖ var 1 ⊗ var 2) ⊕ lit (pos 2) ⊗ var 1 ⊗ var 2 ⊕ var 1) tt
-    ∙ ap (λ x. x +ℤ pos (2 * d) *ℤ n +ℤ pos d) e
-    ∙ solve (pos d ∷ n ∷ pos r ∷ []) (lit (pos 0) ⊖ var 0 ⊕ var 2 ⊕ lit (pos 2) ⊗ var 0 ⊗ var 1 ⊕ var 0) (lit (pos 2) ⊗ var 0 ⊗ var 1 ⊕ var 2) tt)
+nearest-minus (pos n) d = nearest-negative n d
+nearest-minus (negsuc n) d = sym (negℤ-negℤ (pos (halfUp (suc n) d)))
 
--- ---- the same in the paper's words
+-- the size of what z / d is rounded to is its size, rounded
+pub size-nearest : (z : ℤ) (d : ℕ) → natAbs (nearest z d) ≡ halfUp (natAbs z) d
+unfolding nearest
+size-nearest (pos n) d = refl
+size-nearest (negsuc n) d = natAbs-neg (pos (halfUp (suc n) d))
 
--- twice a distance is the size of its double
-double-size : (w : ℤ) → natAbs (pos 2 *ℤ w) ≡ 2 * natAbs w
-double-size (pos m) = refl
-double-size (negsuc m) = minus-size (2 * suc m)
-  where
-    minus-size : (n : ℕ) → natAbs (negℤ (pos n)) ≡ n
-    minus-size zero = refl
-    minus-size (suc n) = refl
+-- ---- in the paper's words: at most a half away, and a half away from zero
 
--- with w the distance z - d·n: its double is below d exactly where a half away is a half below n
-module _ (z : ℤ) (d : ℕ) (n : ℤ) (some : 0 < d) where
-  half-below : (w : ℤ) → z -ℤ pos d *ℤ n ≡ w → (pos 2 *ℤ w) <ℤ pos d → 2 * natAbs w ≡ d → z ≤ℤ (pos d *ℤ n)
-  half-below (pos m) e less half = let (s, f) = lt-gap less in absurd (omega (arith, pos-injective f))
-  half-below (negsuc m) e less half =
-      le-of (suc m) (solve (z ∷ pos d ∷ n ∷ []) (var 1 ⊗ var 2) (var 0 ⊖ (var 0 ⊖ var 1 ⊗ var 2)) tt ∙ ap (λ x. z -ℤ x) e)
+apart : (a b : ℕ) → natAbs (pos a -ℤ pos b) ≡ a - b + (b - a)
+apart a zero = omega arith
+apart a (suc b) = subℕ-ind a (suc b) (λ z. natAbs z ≡ a - suc b + (suc b - a)) (λ n e. omega arith) (λ n e. omega arith)
 
-  below-half : (w : ℤ) → z -ℤ pos d *ℤ n ≡ w → 2 * natAbs w ≤ d → (2 * natAbs w ≡ d → z ≤ℤ (pos d *ℤ n)) → (pos 2 *ℤ w) <ℤ pos d
-  below-half (pos m) e most greater =
-      let not-half : 2 * m ≡ d → ⊥ =
-      λ half.
-      let (g, f) = le-gap (greater half) in
-      let nought : pos 0 ≡ pos (m + g) =
-      solve (z ∷ pos d ∷ n ∷ []) (lit (pos 0)) (var 0 ⊖ var 1 ⊗ var 2 ⊕ var 1 ⊗ var 2 ⊖ var 0) tt
-      ∙ ap (λ x. z -ℤ pos d *ℤ n +ℤ x -ℤ z) f
-      ∙ solve (z ∷ pos d ∷ n ∷ pos g ∷ []) (var 0 ⊖ var 1 ⊗ var 2 ⊕ (var 0 ⊕ var 3) ⊖ var 0) (var 0 ⊖ var 1 ⊗ var 2 ⊕ var 3) tt
-      ∙ ap (λ x. x +ℤ pos g) e in
-      omega (arith, pos-injective nought) in
-      let less : 2 * m < d = omega arith in
-      record { lt = lt→ltb (2 * m) d less }
-  below-half (negsuc m) e most greater = record { lt = minus-less (2 * suc m) }
-    where
-      minus-less : (a : ℕ) → T (ltZ (negℤ (pos a)) (pos d))
-      minus-less zero = lt→ltb 0 d some
-      minus-less (suc a) = tt
-
-pub nearest-rounded : (z : ℤ) (d : ℕ) → 0 < d → Rounded z d (nearest z d)
-nearest-rounded z d h =
-    let w = z -ℤ pos d *ℤ nearest z d in
-    let low : negℤ (pos d) ≤ℤ (pos 2 *ℤ w) = subst (λ x. x ≤ℤ (pos 2 *ℤ w)) (+ℤ-idl (negℤ (pos d))) (nearest-low z d h) in
-    let high = nearest-high z d h in
-    let (s, f) = lt-gap high in
+-- a number and its negative are rounded to a number and its negative
+rounded-minus : {z : ℤ} {d : ℕ} {n : ℤ} → Rounded z d n → Rounded (negℤ z) d (negℤ n)
+rounded-minus {z} {d} {n} r =
+    let same : natAbs (negℤ z -ℤ pos d *ℤ negℤ n) ≡ natAbs (z -ℤ pos d *ℤ n) =
+    ap natAbs
+    (ap (λ x. x -ℤ pos d *ℤ negℤ n) (minus z)
+    ∙ ap (λ x. pos 0 -ℤ z -ℤ pos d *ℤ x) (minus n)
+    ∙ solve (z ∷ pos d ∷ n ∷ []) (lit (pos 0) ⊖ var 0 ⊖ var 1 ⊗ (lit (pos 0) ⊖ var 2)) (lit (pos 0) ⊖ (var 0 ⊖ var 1 ⊗ var 2)) tt
+    ∙ sym (minus (z -ℤ pos d *ℤ n)))
+    ∙ natAbs-neg (z -ℤ pos d *ℤ n) in
     record {
-      close = subst (λ (m : ℕ). m ≤ d) (double-size w) (size-between low (le-of (suc s) f));
-      greater = half-below z d (nearest z d) h w refl high;
+      close = omega (arith, same, r .close);
+      away = λ half. subst (λ (a : ℕ). a ≤ d * natAbs (negℤ n)) (sym (natAbs-neg z)) (subst (λ (a : ℕ). natAbs z ≤ d * a) (sym (natAbs-neg n)) (r .away (omega (arith, same, half))));
     }
 
--- no other number does
-pub rounded-nearest : (z : ℤ) (d : ℕ) (n : ℤ) → 0 < d → Rounded z d n → n ≡ nearest z d
-rounded-nearest z d n h r =
-    let w = z -ℤ pos d *ℤ n in
-    let size : natAbs (pos 2 *ℤ w) ≤ d = subst (λ (m : ℕ). m ≤ d) (sym (double-size w)) (r .close) in
-    sym (nearest-unique z d n (subst (λ x. x ≤ℤ (pos 2 *ℤ w)) (sym (+ℤ-idl (negℤ (pos d)))) (size-below size)) (below-half z d n h w refl (r .close) (r .greater)))
+-- a size is rounded so
+half-rounded : (n d : ℕ) → 0 < d → Rounded (pos n) d (pos (halfUp n d))
+half-rounded n d h =
+    let x = d * halfUp n d in
+    record { close = omega (arith, apart n x, half-low n d, half-high n d h); away = λ half. omega (arith, apart n x, half-low n d, half-high n d h, half) }
 
--- n and a half goes to n + 1, above zero and below
-pub half-up : (z : ℤ) (d : ℕ) (n : ℤ) → 0 < d → pos 2 *ℤ z ≡ pos d *ℤ (pos 2 *ℤ n +ℤ pos 1) → nearest z d ≡ n +ℤ pos 1
-half-up z d n h half =
-    let away : pos 2 *ℤ (z -ℤ pos d *ℤ (n +ℤ pos 1)) ≡ pos 0 -ℤ pos d =
-    solve (z ∷ pos d ∷ n ∷ []) (lit (pos 2) ⊗ (var 0 ⊖ var 1 ⊗ (var 2 ⊕ lit (pos 1)))) (lit (pos 2) ⊗ var 0 ⊖ lit (pos 2) ⊗ var 1 ⊗ (var 2 ⊕ lit (pos 1))) tt
-    ∙ ap (λ x. x -ℤ pos 2 *ℤ pos d *ℤ (n +ℤ pos 1)) half
-    ∙ solve (pos d ∷ n ∷ []) (var 0 ⊗ (lit (pos 2) ⊗ var 1 ⊕ lit (pos 1)) ⊖ lit (pos 2) ⊗ var 0 ⊗ (var 1 ⊕ lit (pos 1))) (lit (pos 0) ⊖ var 0) tt in
-    let twice : suc (2 * d - 1) ≡ 2 * d = omega arith in
-    nearest-unique z d (n +ℤ pos 1)
-    (le-of 0 (away ∙ solve (pos d ∷ []) (lit (pos 0) ⊖ var 0) (lit (pos 0) ⊖ var 0 ⊕ lit (pos 0)) tt))
-    (lt-of (2 * d - 1)
-    (solve (pos d ∷ []) (var 0) (lit (pos 0) ⊖ var 0 ⊕ lit (pos 2) ⊗ var 0) tt
-    ∙ ap (λ (m : ℕ). pos 0 -ℤ pos d +ℤ pos m) (sym twice)
-    ∙ ap (λ x. x +ℤ pos (suc (2 * d - 1))) (sym away)))
+pub nearest-rounded : (z : ℤ) (d : ℕ) → 0 < d → Rounded z d (nearest z d)
+unfolding nearest
+nearest-rounded (pos n) d h = half-rounded n d h
+nearest-rounded (negsuc n) d h = rounded-minus (half-rounded (suc n) d h)
+
+-- no other number is
+rounded-half : (n d m : ℕ) → 0 < d → Rounded (pos n) d (pos m) → m ≡ halfUp n d
+rounded-half n d m h r = sym (half-unique n d m (omega (arith, apart n (d * m), r .close)) (below (eq-or-lt-of-le (r .close))))
+  where
+    below : (2 * natAbs (pos n -ℤ pos (d * m)) ≡ d) ⊎ (2 * natAbs (pos n -ℤ pos (d * m)) < d) → 2 * n < 2 * (d * m) + d
+    below (inl half) = omega (arith, r .away half)
+    below (inr less) = omega (arith, apart n (d * m))
+
+-- a number below zero is too far from a size
+wrong-side : (n d m : ℕ) → 0 < d → Rounded (pos n) d (negsuc m) → ⊥
+wrong-side n d m h r = omega (arith, mul-suc d m, ap (λ x. natAbs (pos n +ℤ x)) (negℤ-negℤ (pos (d * suc m))), r .close)
+
+rounded-size : (n d : ℕ) (m : ℤ) → 0 < d → Rounded (pos n) d m → m ≡ nearest (pos n) d
+unfolding nearest
+rounded-size n d (pos m) h r = ap pos (rounded-half n d m h r)
+rounded-size n d (negsuc m) h r = absurd (wrong-side n d m h r)
+
+pub rounded-nearest : (z : ℤ) (d : ℕ) (n : ℤ) → 0 < d → Rounded z d n → n ≡ nearest z d
+rounded-nearest (pos a) d n h r = rounded-size a d n h r
+rounded-nearest (negsuc a) d n h r = sym (negℤ-negℤ n) ∙ ap negℤ (rounded-size (suc a) d (negℤ n) h (rounded-minus r)) ∙ sym (nearest-minus (pos (suc a)) d)
+
+-- n and a half goes to n + 1, and minus n and a half to minus n + 1
+pub half-away : (z d n : ℕ) → 0 < d → 2 * z ≡ d * (2 * n + 1) → (nearest (pos z) d ≡ pos (n + 1)) × (nearest (negℤ (pos z)) d ≡ negℤ (pos (n + 1)))
+unfolding nearest
+half-away z d n h half =
+    let up : halfUp z d ≡ n + 1 = half-unique z d (n + 1) (omega arith) (omega arith) in
+    (ap pos up, nearest-negative z d ∙ ap (λ (m : ℕ). negℤ (pos m)) up)
 
 -- ---- laws
 
 -- both parts of the fraction m times as large
 pub nearest-scale : (m : ℕ) (z : ℤ) (d : ℕ) → 0 < m → 0 < d → nearest (pos m *ℤ z) (m * d) ≡ nearest z d
 unfolding nearest
-nearest-scale m z d hm hd =
-    ap (λ x. floor x (2 * (m * d))) (solve (pos m ∷ z ∷ pos d ∷ []) (lit (pos 2) ⊗ (var 0 ⊗ var 1) ⊕ var 0 ⊗ var 2) (var 0 ⊗ (lit (pos 2) ⊗ var 1 ⊕ var 2)) tt)
-    ∙ ap (λ x. floor (pos m *ℤ (pos 2 *ℤ z +ℤ pos d)) x) (mul-left-comm 2 m d)
-    ∙ floor-scale m (pos 2 *ℤ z +ℤ pos d) (2 * d) hm (omega arith)
+nearest-scale m (pos n) d hm hd = ap pos (half-scale m n d hm)
+nearest-scale m (negsuc n) d hm hd = nearest-negative (m * suc n) (m * d) ∙ ap (λ (q : ℕ). negℤ (pos q)) (half-scale m (suc n) d hm)
 
 -- a whole value is kept
 pub nearest-whole : (n : ℤ) (d : ℕ) → 0 < d → nearest (pos d *ℤ n) d ≡ n
 unfolding nearest
-nearest-whole n d h =
-    floor-unique (pos 2 *ℤ (pos d *ℤ n) +ℤ pos d) (2 * d) n d (omega arith)
-    (solve (pos d ∷ n ∷ []) (lit (pos 2) ⊗ (var 0 ⊗ var 1) ⊕ var 0) (lit (pos 2) ⊗ var 0 ⊗ var 1 ⊕ var 0) tt)
+nearest-whole (pos n) d h = ap pos (half-whole n d h)
+nearest-whole (negsuc n) d h = nearest-negative (d * suc n) d ∙ ap (λ (q : ℕ). negℤ (pos q)) (half-whole (suc n) d h)
+
+-- signs put back keep the order
+minus-plus : (a b : ℕ) → negℤ (pos a) ≤ℤ pos b
+minus-plus a b =
+    le-of (a + b) (solve (pos a ∷ pos b ∷ []) (var 1) (lit (pos 0) ⊖ var 0 ⊕ (var 0 ⊕ var 1)) tt ∙ ap (λ x. x +ℤ pos (a + b)) (sym (minus (pos a))))
+
+minus-minus : {a b : ℕ} → a ≤ b → negℤ (pos b) ≤ℤ negℤ (pos a)
+minus-minus {a} {b} h =
+    let g = b - a in
+    let e : b ≡ a + g = omega arith in
+    le-of g
+    (minus (pos a)
+    ∙ solve (pos a ∷ pos g ∷ []) (lit (pos 0) ⊖ var 0) (lit (pos 0) ⊖ (var 0 ⊕ var 1) ⊕ var 1) tt
+    ∙ ap (λ (x : ℕ). pos 0 -ℤ pos x +ℤ pos g) (sym e)
+    ∙ ap (λ x. x +ℤ pos g) (sym (minus (pos b))))
 
 pub nearest-mono : {z w : ℤ} (d : ℕ) → 0 < d → z ≤ℤ w → nearest z d ≤ℤ nearest w d
 unfolding nearest
-nearest-mono {z} {w} d h k =
-    let (n, e) = le-gap (*-mono 2 k) in
-    floor-mono (2 * d) (omega arith)
-    (le-of n (ap (λ x. x +ℤ pos d) e ∙ solve (z ∷ pos n ∷ pos d ∷ []) (lit (pos 2) ⊗ var 0 ⊕ var 1 ⊕ var 2) (lit (pos 2) ⊗ var 0 ⊕ var 2 ⊕ var 1) tt))
+nearest-mono {z} {w} d h k = go z w (k .le)
+  where
+    go : (z w : ℤ) → T (leZ z w) → nearest z d ≤ℤ nearest w d
+    go (pos a) (pos b) t = ≤ℤ-pos (half-mono d h (leb→le a b t))
+    go (pos a) (negsuc b) t = absurd t
+    go (negsuc a) (pos b) t = minus-plus (halfUp (suc a) d) (halfUp b d)
+    go (negsuc a) (negsuc b) t = let l : b ≤ a = leb→le b a t in minus-minus (half-mono d h (omega arith))
 
 -- between whole bounds the rounded number stays between them
 pub nearest-above : {z n : ℤ} (d : ℕ) → 0 < d → (pos d *ℤ n) ≤ℤ z → n ≤ℤ nearest z d
@@ -156,24 +144,6 @@ nearest-above {z} {n} d h k = subst (λ x. x ≤ℤ nearest z d) (nearest-whole 
 pub nearest-below : {z n : ℤ} (d : ℕ) → 0 < d → z ≤ℤ (pos d *ℤ n) → nearest z d ≤ℤ n
 nearest-below {z} {n} d h k = subst (λ x. nearest z d ≤ℤ x) (nearest-whole n d h) (nearest-mono d h k)
 
--- over 2·c·e: the floor over e first, then c more and the floor over 2c
-pub nearest-by-steps : (z : ℤ) (c e : ℕ) → 0 < c → 0 < e → nearest z (2 * c * e) ≡ floor (floor z e +ℤ pos c) (2 * c)
-unfolding nearest
-nearest-by-steps z c e hc he =
-    ap (λ x. floor x (2 * (2 * c * e)))
-    (solve (z ∷ pos c ∷ pos e ∷ []) (lit (pos 2) ⊗ var 0 ⊕ lit (pos 2) ⊗ var 1 ⊗ var 2) (lit (pos 2) ⊗ (var 0 ⊕ var 2 ⊗ var 1)) tt)
-    ∙ floor-scale 2 (z +ℤ pos e *ℤ pos c) (2 * c * e) (omega arith) (mul-pos (omega arith) he)
-    ∙ ap (λ x. floor (z +ℤ pos e *ℤ pos c) x) (mul-comm (2 * c) e)
-    ∙ sym (floor-floor (z +ℤ pos e *ℤ pos c) e (2 * c))
-    ∙ ap (λ x. floor x (2 * c)) (floor-add z e (pos c) he)
-
 -- a fraction within n either way rounds to a number within n either way
 pub nearest-size : (z : ℤ) (d n : ℕ) → 0 < d → natAbs z ≤ d * n → natAbs (nearest z d) ≤ n
-nearest-size z d n h k =
-    size-between
-    (nearest-above d h (subst (λ x. x ≤ℤ z) (minus-product d n) (size-below k)))
-    (nearest-below d h (size-above k))
-  where
-    minus-product : (d n : ℕ) → negℤ (pos (d * n)) ≡ pos d *ℤ negℤ (pos n)
-    minus-product d zero = ap (λ (m : ℕ). negℤ (pos m)) (mul-zero d) ∙ sym (*ℤ-zero (pos d))
-    minus-product d (suc n) = refl
+nearest-size z d n h k = omega (arith, size-nearest z d, half-mono d h k, half-whole n d h)

@@ -1,8 +1,10 @@
 -- The order of whole numbers with a sign. a ≤ b says that b is a and a natural number more (`le-gap`, `le-of`), so each law is an identity of `Ring`.
 use mathlib.Core.Path.{_≡_, refl, sym, ap, _∙_, subst}
+use mathlib.Core.Bool.{true, false}
 use mathlib.Core.List.{[], _∷_}
 use Prim.Native.Nat.{ℕ, zero, suc, _+_, _*_, _-_, _≤_, _<_}
 use native.Mathlib.Omega.{arith}
+use borrow.Author.Tests.{ltb-true}
 use lib.Dec.{T, leb, ltb, leb→le, le→leb, ltb→lt, lt→ltb, nltb→le}
 use lib.IntN.{ℤ, pos, negsuc, negℤ, subℕ, natAbs, _+ℤ_, _*ℤ_}
 use lib.Signed.{_≤ℤ_, _<ℤ_, leZ, ltZ}
@@ -119,3 +121,18 @@ size-between {z} {n} h k = go z n (h .le) (k .le)
     go (pos m) n h k = leb→le m n k
     go (negsuc m) zero h k = absurd h
     go (negsuc m) (suc n) h k = let b = leb→le m n h in omega arith
+
+-- what the test of a sign says
+pub below-zero : (z : ℤ) → ltZ z (pos 0) ≡ true → (n : ℕ) × (z ≡ negsuc n)
+below-zero (pos n) e = absurd (clash n e)
+  where
+    clash : (n : ℕ) → ltZ (pos n) (pos 0) ≡ true → ⊥
+    clash n e = omega (arith, ltb-true n 0 e)
+below-zero (negsuc n) e = (n, refl)
+
+pub not-below-zero : (z : ℤ) → ltZ z (pos 0) ≡ false → (n : ℕ) × (z ≡ pos n)
+not-below-zero (pos n) e = (n, refl)
+not-below-zero (negsuc n) e = absurd (clash e)
+  where
+    clash : true ≡ false → ⊥
+    clash e = let z : _≡_ {A = ℕ} 0 1 = cc in omega arith

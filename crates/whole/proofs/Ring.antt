@@ -263,3 +263,7 @@ Same a b = T (zeros (norm (a ⊖ b)))
 
 pub solve : (r : List ℤ) (a b : Ex) → Same a b → ev r a ≡ ev r b
 solve r a b t = equal-of-sub (ev r a) (ev r b) (sym (norm-ev r (a ⊖ b)) ∙ zeros-sound r (norm (a ⊖ b)) t)
+
+-- a negation as a difference, which `solve` reads
+pub minus : (z : ℤ) → negℤ z ≡ pos 0 -ℤ z
+minus z = sym (+ℤ-idl (negℤ z))

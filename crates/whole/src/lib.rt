@@ -1,24 +1,32 @@
 // Whole numbers with a sign: how an exact sum is rounded once. Signed sums are 64 bits wide, and each is proved to fit.
 ghost use mathlib.Core.Path.{_≡_};
-ghost use Prim.Native.Nat.{_*_, _-_, _%_, _^_, _<_};
-ghost use lib.Signed.{mag};
-ghost use Rattle.whole.specs.Nearest.{floor, nearest};
+ghost use Prim.Native.Nat.{_*_, _%_, _^_, _<_};
+ghost use lib.IntN.{natAbs};
+ghost use Rattle.whole.specs.Nearest.{halfUp, nearest};
 
-// The greatest whole number that is at most z / d. A number below zero is mirrored, since `/` cuts the fraction off.
-fn floor_over(z: i64, d: u32) -> i64
-    requires { ⌜ 0 < d ⌝ }
-    ensures { λ r. ⌜ r ≡ floor z d ⌝ }
+// The whole number nearest to size / (multiple · 2^bits), an exact half up. The power of two is a shift, and what is left is a literal where the caller's multiple is one.
+pub fn half_up(size: u64, multiple: u32, bits: u32) -> u64
+    requires { ⌜ (size < 2 ^ 63) × (bits < 64) ⌝ }
+    requires { ⌜ (0 < multiple) × (multiple % 2 ≡ 0) ⌝ }
+    ensures { λ r. ⌜ r ≡ halfUp size (multiple * 2 ^ bits) ⌝ }
 {
-    let by = d as i64;
-    if z < 0 { -1 - (-1 - z) / by } else { z / by }
+    ((size >> bits) + (multiple / 2) as u64) / multiple as u64
 }
 
-// The whole number nearest to sum / (multiple · 2^bits), an exact half to the greater. The power of two is a shift, and what is left is a literal where the caller's
-// multiple is one.
+// How far a sum is from zero.
+fn size_of(sum: i64) -> u64
+    requires { ⌜ natAbs sum < 2 ^ 63 ⌝ }
+    ensures { λ r. ⌜ r ≡ natAbs sum ⌝ }
+{
+    if sum < 0 { -sum as u64 } else { sum as u64 }
+}
+
+// The whole number nearest to sum / (multiple · 2^bits), an exact half away from zero: the size is rounded and the sign put back.
 pub fn round_over(sum: i64, multiple: u32, bits: u32) -> i64
-    requires { ⌜ (mag sum < 2 ^ 63 - 2 ^ 31) × (bits < 64) ⌝ }
+    requires { ⌜ (natAbs sum < 2 ^ 63) × (bits < 64) ⌝ }
     requires { ⌜ (0 < multiple) × (multiple % 2 ≡ 0) ⌝ }
     ensures { λ r. ⌜ r ≡ nearest sum (multiple * 2 ^ bits) ⌝ }
 {
-    floor_over((sum >> bits) + (multiple / 2) as i64, multiple)
+    let size = half_up(size_of(sum), multiple, bits) as i64;
+    if sum < 0 { -size } else { size }
 }

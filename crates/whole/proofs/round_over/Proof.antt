@@ -1,66 +1,74 @@
--- The shift is the floor over 2^bits, and adding half the multiple before the floor over it rounds to the nearest (`nearest-by-steps`).
-use mathlib.Core.Path.{_≡_, sym, ap, _∙_, subst}
-use Prim.Native.Nat.{ℕ, _*_, _-_, _/_, _^_, _<_}
-use native.Mathlib.Omega.{arith}
+-- The size rounded, and turned back where the sum is below zero: the two clauses of `nearest`. It fits, since a size is rounded to no more than itself.
+use mathlib.Core.Path.{_≡_, refl, sym, ap, _∙_, subst}
+use mathlib.Core.Bool.{true, false}
+use Prim.Native.Nat.{ℕ, _*_, _^_, _<_}
+use native.Mathlib.Nat.{mul-pos, lt-of-le-of-lt}
 use borrow.Author.Needs.{needs}
+use lib.IntN.{ℤ, pos, negℤ, natAbs}
 use lib.Pow.{pow-pos}
-use lib.IntN.{ℤ, pos, _+ℤ_}
-use lib.Signed.{mag, shrZ}
+use lib.Signed.{ltZ}
 use mir.Syntax.{w64}
-use mir.Val.{SFits, toZ}
-use mir.ValLaws.{toZ-pos}
-use Rattle.whole.specs.Nearest.{floor, nearest}
-use Rattle.whole.proofs.Nearest.{nearest-by-steps}
-use Rattle.whole.proofs.Fit.{kept, kept-is, shift-kept, mag-floor, mag-add-pos}
+use Rattle.whole.specs.Nearest.{halfUp, nearest}
+use Rattle.whole.proofs.Order.{below-zero, not-below-zero}
+use Rattle.whole.proofs.Fit.{kept-is, size-fits, turned-fits, turned-kept, sign-kept}
+use Rattle.whole.proofs.HalfUp.{half-least}
 use Rattle.whole.proofs.round_over.Statement.{statement}
 use Rattle.whole.proofs.round_over.Tie as tie
 
--- half the multiple, as the machine reads it
-half-is : (n : ℕ) → n < 2 ^ 32 → toZ w64 (n / 2) ≡ pos (n / 2)
-half-is n h = toZ-pos w64 (n / 2) (omega arith)
+below : (z : ℤ) (d : ℕ) → ltZ z (pos 0) ≡ true → negℤ (pos (halfUp (natAbs z) d)) ≡ nearest z d
+unfolding nearest
+below z d e = let (n, is) = below-zero z e in subst (λ x. negℤ (pos (halfUp (natAbs x) d)) ≡ nearest x d) (sym is) refl
 
--- which more stays in range
-more-fits : (z : ℤ) (d n : ℕ) → mag z < 2 ^ 63 - 2 ^ 31 → n < 2 ^ 32 → SFits w64 (floor z d +ℤ pos (n / 2))
-more-fits z d n h k = record { sfits = omega (arith, mag-add-pos (floor z d) (n / 2), mag-floor z d) }
+above : (z : ℤ) (d : ℕ) → ltZ z (pos 0) ≡ false → pos (halfUp (natAbs z) d) ≡ nearest z d
+unfolding nearest
+above z d e = let (n, is) = not-below-zero z e in subst (λ x. pos (halfUp (natAbs x) d) ≡ nearest x d) (sym is) refl
 
-cast-floor-over : tie.Need-cast-floor-over
-cast-floor-over c = search needs
+size-of-requires : tie.Need-size-of-requires
+size-of-requires c κs = search needs
 
-shr-floor-over : tie.Need-shr-floor-over
-shr-floor-over c = search needs
+size-is : (c : tie.After-size-of) → c .size-of .result ≡ natAbs (c .before .args .sum)
+size-is c = let z = c .before .args .sum in c .size-of .ensures ∙ ap natAbs (kept-is w64 z (size-fits z (c .before .pre .0 .0)))
 
-cast-floor-over-2 : tie.Need-cast-floor-over-2
-cast-floor-over-2 c = search needs
+half-up-requires : tie.Need-half-up-requires
+half-up-requires c κs = ((subst (λ (n : ℕ). n < 2 ^ 63) (sym (size-is c)) (c .before .pre .0 .0), c .before .pre .0 .1), c .before .pre .1)
 
-short : (c : tie.Start) → c .args .multiple < 2 ^ 32
-short c = omega arith
+-- the size that was rounded
+module _ (c : tie.After-half-up) where
+  abbrev sum : ℤ
+  sum = c .before .before .args .sum
 
--- what is divided, before the machine keeps it
-dividend : (c : tie.Start) → kept w64 (shrZ (kept w64 (c .args .sum)) (2 ^ c .args .bits)) +ℤ toZ w64 (c .args .multiple / 2) ≡ floor (c .args .sum) (2 ^ c .args .bits) +ℤ pos (c .args .multiple / 2)
-dividend c =
-    let d = 2 ^ c .args .bits in
-    let n = c .args .multiple in
-    ap (λ x. x +ℤ toZ w64 (n / 2)) (shift-kept (c .args .sum) d (c .fits .sum)) ∙ ap (λ x. floor (c .args .sum) d +ℤ x) (half-is n (short c))
+  abbrev d : ℕ
+  d = c .before .before .args .multiple * 2 ^ c .before .before .args .bits
 
-add-floor-over : tie.Need-add-floor-over
-add-floor-over c = subst (SFits w64) (sym (dividend c)) (more-fits (c .args .sum) (2 ^ c .args .bits) (c .args .multiple) (c .pre .0 .0) (short c))
+  abbrev size : ℤ
+  size = pos (c .half-up .result)
 
-floor-over-requires : tie.Need-floor-over-requires
-floor-over-requires c κs = search needs
+  rounded : c .half-up .result ≡ halfUp (natAbs sum) d
+  rounded = c .half-up .ensures ∙ ap (λ (n : ℕ). halfUp n d) (size-is (c .before))
+
+  in-range : natAbs sum < 2 ^ 63
+  in-range = c .before .before .pre .0 .0
+
+  small : natAbs size < 2 ^ 63
+  small =
+      let some = mul-pos (c .before .before .pre .1 .0) (pow-pos (c .before .before .args .bits)) in
+      subst (λ (n : ℕ). n < 2 ^ 63) (sym rounded) (lt-of-le-of-lt (half-least (natAbs sum) d some) in-range)
+
+cast-size : tie.Need-cast-size
+cast-size c = size-fits (size c) (small c)
+
+sub-result : tie.Need-sub-result
+sub-result c = turned-fits (size (c .before)) (small (c .before))
 
 returns : tie.Need-returns
 returns c =
-    let s = c .before in
-    let z = s .args .sum in
-    let d = 2 ^ s .args .bits in
-    let n = s .args .multiple in
-    let even : 2 * (n / 2) ≡ n = omega (arith, s .pre .1) in
-    kept-is w64 (c .floor-over .result) (record { sfits = c .floor-over .ok })
-    ∙ c .floor-over .ensures
-    ∙ ap (λ x. floor x n) (ap (kept w64) (dividend s) ∙ kept-is w64 (floor z d +ℤ pos (n / 2)) (more-fits z d n (s .pre .0 .0) (short s)))
-    ∙ ap (floor (floor z d +ℤ pos (n / 2))) (sym even)
-    ∙ sym (nearest-by-steps z (n / 2) d (omega (arith, s .pre .1)) (pow-pos (s .args .bits)))
-    ∙ ap (λ (m : ℕ). nearest z (m * d)) even
+    let r = c .before in
+    turned-kept (size r) (small r) ∙ ap (λ (n : ℕ). negℤ (pos n)) (rounded r) ∙ below (sum r) (d r) (sign-kept (sum r) (in-range r) (c .if1 .taken))
+
+returns-2 : tie.Need-returns-2
+returns-2 c =
+    let r = c .before in
+    kept-is w64 (size r) (size-fits (size r) (small r)) ∙ ap pos (rounded r) ∙ above (sum r) (d r) (sign-kept (sum r) (in-range r) (c .if1 .left))
 
 pub round-over-spec : {M : Type 1} → statement M
-round-over-spec = tie.close (tie.spec cast-floor-over shr-floor-over cast-floor-over-2 add-floor-over floor-over-requires returns)
+round-over-spec = tie.close (tie.spec size-of-requires half-up-requires cast-size sub-result returns returns-2)

@@ -1,17 +1,16 @@
 -- A sum within the divisor times 5,000,000 rounds within 5,000,000, which 32 bits hold.
 use mathlib.Core.Path.{_≡_, refl, sym, ap, _∙_, subst}
-use Prim.Native.Nat.{ℕ, _*_, _-_, _^_, _≤_, _<_}
+use Prim.Native.Nat.{ℕ, _*_, _^_, _≤_, _<_}
 use native.Mathlib.Nat.{le-trans, lt-of-le-of-lt, mul-le-mul, mul-pos, le-refl}
 use native.Mathlib.Omega.{arith}
 use lib.Dec.{lit<}
 use lib.IntN.{natAbs}
 use lib.Pow.{pow-mono, pow-pos}
-use lib.Signed.{mag}
 use mir.Syntax.{w32, w64}
 use mir.Val.{SFits}
 use Rattle.whole.specs.Nearest.{nearest}
 use Rattle.whole.proofs.Nearest.{nearest-size}
-use Rattle.whole.proofs.Fit.{kept, kept-is, mag-le, sfits}
+use Rattle.whole.proofs.Fit.{kept, kept-is, sfits}
 use Rattle.curve.specs.Limits.{reach}
 use Rattle.curve.specs.Span.{sixfold, divisorOf}
 use Rattle.curve.specs.Ways.{mostBits}
@@ -26,8 +25,7 @@ round-over-requires : tie.Need-round-over-requires
 round-over-requires c κs =
     let z = c .args .sum in (
       (
-        subst (λ x. mag x < 2 ^ 63 - 2 ^ 31) (sym (kept-is w64 z (c .fits .sum)))
-            (lt-of-le-of-lt (le-trans (mag-le z) (le-trans (c .pre .1) (sum-bound (c .args .bits) (c .pre .0)))) (lit< tt)),
+        subst (λ x. natAbs x < 2 ^ 63) (sym (kept-is w64 z (c .fits .sum))) (lt-of-le-of-lt (le-trans (c .pre .1) (sum-bound (c .args .bits) (c .pre .0))) (lit< tt)),
         omega arith,
       ),
       (lit< tt, refl),

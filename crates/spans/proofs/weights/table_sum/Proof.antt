@@ -4,11 +4,12 @@ use Prim.Native.Nat.{ℕ, _*_, _-_, _%_, _^_, _≤_}
 use native.Mathlib.Nat.{lt-of-le-of-lt, mod-eq-of-lt}
 use borrow.Author.Needs.{needs}
 use lib.Dec.{lit<}
-use lib.IntN.{pos}
+use lib.IntN.{pos, _*ℤ_}
 use lib.Pow.{pow-pos}
-use Rattle.whole.specs.Nearest.{floor}
-use Rattle.whole.proofs.Floor.{floor-whole}
-use Rattle.whole.proofs.Fit.{shift-kept}
+use lib.Signed.{shrZ}
+use mir.Syntax.{w64}
+use mir.Val.{SFits}
+use Rattle.whole.proofs.Fit.{kept, shift-kept}
 use Rattle.curve.specs.Span.{weighted}
 use Rattle.curve.specs.Ways.{deepest, row}
 use Rattle.curve.proofs.Table.{by-table, row-small}
@@ -47,12 +48,12 @@ returns c =
     let a = c .before .args in
     let p = c .before .pre .0 in
     let d = 2 ^ (3 * (deepest - a .depth)) in
-    shift-kept (c .weighted-sum .result) d (record { sfits = c .weighted-sum .ok })
-    ∙ ap (λ z. floor z d)
-    (c .weighted-sum .ensures
+    let z = weighted (a .q) (pos (a .step)) (pos (2 ^ a .depth)) in
+    let times : c .weighted-sum .result ≡ pos d *ℤ z =
+    c .weighted-sum .ensures
     ∙ ap (λ (m : ℕ). weighted (a .q) (pos m) (pos (2 ^ deepest))) (shifted (a .depth) (a .step) (p .0) (p .1))
-    ∙ by-table (a .depth) (p .0) (a .q) (a .step))
-    ∙ floor-whole (weighted (a .q) (pos (a .step)) (pos (2 ^ a .depth))) d (pow-pos (3 * (deepest - a .depth)))
+    ∙ by-table (a .depth) (p .0) (a .q) (a .step) in
+    ap (λ x. kept w64 (shrZ (kept w64 x) d)) times ∙ shift-kept z d (pow-pos (3 * (deepest - a .depth))) (subst (SFits w64) times (record { sfits = c .weighted-sum .ok }))
 
 pub table-sum-spec : {M : Type 1} → statement M
 table-sum-spec = tie.close (tie.spec sub-finer shl-weighted-sum weighted-sum-requires mul-result cast-result shr-result returns)
