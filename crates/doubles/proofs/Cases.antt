@@ -4,7 +4,7 @@ use mathlib.Core.Bool.{Bool, true, false}
 use Prim.Native.Nat.{_+_, _*_, _-_, _^_}
 use lib.IntN.{pos, negsuc, negℤ}
 use lib.Ieee.{Float, nan, inf, fin}
-use Rattle.whole.specs.Nearest.{floor, nearest}
+use Rattle.whole.specs.Nearest.{halfUp, nearest}
 use Rattle.doubles.specs.Exact.{dyadic, Value}
 use Rattle.doubles.specs.Number.{measure}
 use Rattle.doubles.specs.declared.Measure.the-variants.{NotFinite, Outside, Micrometres}
@@ -40,19 +40,19 @@ unfolding dyadic Value
 just-outside-is = refl
 
 pub sixteenth-measure : measure sixteenth ≡ Micrometres (pos 63)
-unfolding dyadic measure nearest floor
+unfolding dyadic measure nearest halfUp
 sixteenth-measure = refl
 
-pub minus-sixteenth-measure : measure minus-sixteenth ≡ Micrometres (negℤ (pos 62))
-unfolding dyadic measure nearest floor
+pub minus-sixteenth-measure : measure minus-sixteenth ≡ Micrometres (negℤ (pos 63))
+unfolding dyadic measure nearest halfUp
 minus-sixteenth-measure = refl
 
 pub just-within-measure : measure just-within ≡ Micrometres (pos 4000000)
-unfolding dyadic measure nearest floor
+unfolding dyadic measure nearest halfUp
 just-within-measure = refl
 
 pub just-outside-measure : measure just-outside ≡ Outside
-unfolding dyadic measure nearest floor
+unfolding dyadic measure nearest halfUp
 just-outside-measure = refl
 
 -- the ends of the format: no number, both infinities, both zeros, the smallest and the largest double
@@ -65,16 +65,16 @@ unfolding measure
 infinity-measure s = refl
 
 pub zero-measure : (s : Bool) → measure (fin s 0 (pos 0)) ≡ Micrometres (pos 0)
-unfolding measure nearest floor
+unfolding measure nearest halfUp
 zero-measure false = refl
 zero-measure true = refl
 
 pub smallest-measure : (s : Bool) → measure (fin s 1 (negsuc 1073)) ≡ Micrometres (pos 0)
-unfolding measure nearest floor
+unfolding measure nearest halfUp
 smallest-measure false = refl
 smallest-measure true = refl
 
 pub largest-measure : (s : Bool) → measure (fin s (2 ^ 53 - 1) (pos 971)) ≡ Outside
-unfolding measure nearest floor
+unfolding measure nearest halfUp
 largest-measure false = refl
 largest-measure true = refl

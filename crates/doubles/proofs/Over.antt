@@ -12,11 +12,10 @@ use lib.IntN.{ℤ, pos, negsuc, negℤ, natAbs, _+ℤ_, _-ℤ_, _*ℤ_, +ℤ-com
 use lib.Ieee.{Float, nan, inf, fin, binary64, unlike, up, down, round, sum, add, div}
 use lib.Ieee.Fits.{up-pos, down-pos}
 use lib.Ieee.Scale.{round-same}
-use Rattle.whole.proofs.Ring.{var, lit, _⊕_, _⊖_, _⊗_, solve, cond-ind}
+use Rattle.whole.proofs.Ring.{var, lit, _⊕_, _⊖_, _⊗_, solve, cond-ind, minus}
 use Rattle.whole.proofs.Fit.{natAbs-mul}
 use Rattle.doubles.specs.Exact.{signed, Value, minusZero}
 use Rattle.doubles.specs.Midpoint.{two}
-use Rattle.doubles.proofs.Rounding.{minus}
 use Rattle.doubles.proofs.Values.{signed-times}
 
 unfoldable pub over : ℤ → ℕ → Float

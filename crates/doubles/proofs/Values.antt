@@ -8,10 +8,9 @@ use lib.IntN.{ℤ, pos, negsuc, natAbs, _-ℤ_, _*ℤ_}
 use lib.Ieee.{Float, nan, inf, fin, up, down}
 use lib.Ieee.Exact.{HasValue}
 use lib.Ieee.Fits.{down-pos}
-use Rattle.whole.proofs.Ring.{var, lit, _⊖_, _⊗_, solve, equal-of-sub}
+use Rattle.whole.proofs.Ring.{var, lit, _⊖_, _⊗_, solve, equal-of-sub, minus}
 use Rattle.whole.proofs.Fit.{natAbs-mul}
 use Rattle.doubles.specs.Exact.{signed, Value}
-use Rattle.doubles.proofs.Rounding.{minus}
 
 -- the sign before a product
 pub signed-times : (s : Bool) (a c : ℕ) → signed s (a * c) ≡ signed s a *ℤ pos c

@@ -7,7 +7,7 @@ ghost use Rattle.doubles.specs.Exact.{signed, dyadic};
 ghost use Rattle.doubles.specs.Midpoint.{mid, midPair};
 ghost use Rattle.doubles.specs.Number.{thousand, within, measure};
 use curve::LIMIT;
-use whole::round_over;
+use whole::half_up;
 
 // A point of the preview: a pair of doubles, in micrometres.
 pub struct Pair {
@@ -22,8 +22,8 @@ pub enum Measure {
     Micrometres(i32),
 }
 
-// The limit of a coordinate either way, among the values that are rounded.
-const FARTHEST: i64 = LIMIT as i64;
+// The limit of a coordinate either way, among the sizes that are rounded.
+const FARTHEST: u64 = LIMIT as u64;
 
 // Micrometres in a millimetre.
 const THOUSAND: u64 = 1000;
@@ -73,17 +73,19 @@ pub fn midpoint_pair(a: Pair, b: Pair) -> Pair
     }
 }
 
-// A rounded value as a coordinate, if it is within limits.
-fn coordinate(n: i64) -> Measure
-    ensures { λ r. ⌜ r ≡ within n ⌝ }
+// A rounded size with its sign put back, if it is within limits.
+fn coordinate(negative: bool, size: u64) -> Measure
+    ensures { λ r. ⌜ r ≡ within (signed negative size) ⌝ }
 {
-    if n < -FARTHEST {
+    if FARTHEST < size {
         return Measure::Outside;
     }
-    if FARTHEST < n {
-        return Measure::Outside;
+    let n = size as i32;
+    if negative {
+        Measure::Micrometres(-n)
+    } else {
+        Measure::Micrometres(n)
     }
-    Measure::Micrometres(n as i32)
 }
 
 // The millimetres digits / (4 · 2^bits), negative where it is said, as micrometres.
@@ -91,12 +93,7 @@ fn scaled(negative: bool, digits: u64, bits: u32) -> Measure
     requires { ⌜ (digits < 2 ^ 53) × (bits < 64) ⌝ }
     ensures { λ r. ⌜ r ≡ within (nearest (signed negative (digits * thousand)) (4 * 2 ^ bits)) ⌝ }
 {
-    let z = (digits * THOUSAND) as i64;
-    if negative {
-        coordinate(round_over(-z, FOUR, bits))
-    } else {
-        coordinate(round_over(z, FOUR, bits))
-    }
+    coordinate(negative, half_up(digits * THOUSAND, FOUR, bits))
 }
 
 // What the double of a bit pattern means, by its fields alone.

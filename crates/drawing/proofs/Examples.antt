@@ -5,7 +5,7 @@ use mathlib.Core.List.{List, [], _∷_}
 use lib.IntN.{pos, negsuc}
 use lib.Ieee.{Float, fin}
 use lib.ListN.{replicate}
-use Rattle.whole.specs.Nearest.{floor, nearest}
+use Rattle.whole.specs.Nearest.{halfUp, nearest}
 use Rattle.doubles.specs.Number.{within, measure}
 use Rattle.shape.specs.Refusals.{judge}
 use Rattle.drawing.specs.declared.Step.{Step}
@@ -33,5 +33,5 @@ there-and-back =
     }
 
 pub drawn-there-and-back : drawn (begin (replicate 16 (negsuc 4))) steps ≡ there-and-back
-unfolding drawn stepped judge reached miscounted astray outOfTurn added measure within nearest floor
+unfolding drawn stepped judge reached miscounted astray outOfTurn added measure within nearest halfUp
 drawn-there-and-back = refl

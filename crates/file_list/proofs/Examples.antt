@@ -2,7 +2,7 @@
 use mathlib.Core.Path.{_≡_, refl}
 use mathlib.Core.List.{List, [], _∷_}
 use Prim.Native.Nat.{ℕ}
-use Rattle.whole.specs.Nearest.{floor, nearest}
+use Rattle.whole.specs.Nearest.{halfUp, nearest}
 use Rattle.curve.specs.Tab.{tab}
 use Rattle.curve.specs.Four.{dot}
 use Rattle.curve.specs.Published.{weights}
@@ -37,5 +37,5 @@ listing =
     ∷ []
 
 pub paper-listed : fileText file ≡ listing
-unfolding fileText reading judge recordRows format.number number word signed tab coordinate basisOf spansOf recordsOf allowed outside seek planOf pointsOf shapeText draws firstRecord recordsFrom sixfoldControls weighted weights dot nearest floor point outlineText natural naturalIn
+unfolding fileText reading judge recordRows format.number number word signed tab coordinate basisOf spansOf recordsOf allowed outside seek planOf pointsOf shapeText draws firstRecord recordsFrom sixfoldControls weighted weights dot nearest halfUp point outlineText natural naturalIn
 paper-listed = refl

@@ -1,7 +1,7 @@
 -- P1 to P12 of document 01: one statement over one list of cases, computed from the definitions.
 use mathlib.Core.Path.{_≡_, refl}
 use mathlib.Core.List.{map}
-use Rattle.whole.specs.Nearest.{floor, nearest}
+use Rattle.whole.specs.Nearest.{halfUp, nearest}
 use Rattle.curve.specs.Tab.{tab}
 use Rattle.curve.specs.Four.{dot}
 use Rattle.curve.specs.Published.{weights}
@@ -20,5 +20,5 @@ use Rattle.promises.specs.Cases.{Case, cases}
 
 -- for every case the definitions give what the paper gives
 pub cases-hold : map (λ (c : Case). c .given) cases ≡ map (λ (c : Case). c .paper) cases
-unfolding tab point sixfoldControls weighted weights dot nearest floor firstRecord coordinate recordsFrom basisOf recordsOf spansOf lastUsing allowed pointsOf judge seek planOf outside number draws onX dyadic within measure asked runOf isFresh pointAt edits flat
+unfolding tab point sixfoldControls weighted weights dot nearest halfUp firstRecord coordinate recordsFrom basisOf recordsOf spansOf lastUsing allowed pointsOf judge seek planOf outside number draws onX dyadic within measure asked runOf isFresh pointAt edits flat
 cases-hold = refl

@@ -169,21 +169,21 @@ widened z f = ap (kept w64) (kept-is w32 z f) ∙ kept-is w64 z (wider z f)
 
 -- ---- a number turned, which the machine takes as a difference from 0
 
-pub size-fits : (z : ℤ) → natAbs z < 2 ^ 63 → SFits w64 z
-size-fits z h = record { sfits = lt-of-le-of-lt (mag-le z) h }
+pub size-fits : (w : Width) (z : ℤ) → natAbs z < 2 ^ hbits w → SFits w z
+size-fits w z h = record { sfits = lt-of-le-of-lt (mag-le z) h }
 
-pub turned : (z : ℤ) → natAbs z < 2 ^ 63 → pos 0 -ℤ kept w64 z ≡ negℤ z
-turned z h = ap (λ x. pos 0 -ℤ x) (kept-is w64 z (size-fits z h)) ∙ +ℤ-idl (negℤ z)
+pub turned : (w : Width) (z : ℤ) → natAbs z < 2 ^ hbits w → pos 0 -ℤ kept w z ≡ negℤ z
+turned w z h = ap (λ x. pos 0 -ℤ x) (kept-is w z (size-fits w z h)) ∙ +ℤ-idl (negℤ z)
 
-pub turned-fits : (z : ℤ) → natAbs z < 2 ^ 63 → SFits w64 (pos 0 -ℤ kept w64 z)
-turned-fits z h = subst (SFits w64) (sym (turned z h)) (size-fits (negℤ z) (subst (λ (n : ℕ). n < 2 ^ 63) (sym (natAbs-neg z)) h))
+pub turned-fits : (w : Width) (z : ℤ) → natAbs z < 2 ^ hbits w → SFits w (pos 0 -ℤ kept w z)
+turned-fits w z h = subst (SFits w) (sym (turned w z h)) (size-fits w (negℤ z) (subst (λ (n : ℕ). n < 2 ^ hbits w) (sym (natAbs-neg z)) h))
 
-pub turned-kept : (z : ℤ) → natAbs z < 2 ^ 63 → kept w64 (pos 0 -ℤ kept w64 z) ≡ negℤ z
-turned-kept z h = kept-is w64 (pos 0 -ℤ kept w64 z) (turned-fits z h) ∙ turned z h
+pub turned-kept : (w : Width) (z : ℤ) → natAbs z < 2 ^ hbits w → kept w (pos 0 -ℤ kept w z) ≡ negℤ z
+turned-kept w z h = kept-is w (pos 0 -ℤ kept w z) (turned-fits w z h) ∙ turned w z h
 
 -- the test of its sign, on the number as the machine keeps it
-pub sign-kept : (z : ℤ) → natAbs z < 2 ^ 63 → {b : Bool} → ltZ (kept w64 z) (pos 0) ≡ b → ltZ z (pos 0) ≡ b
-sign-kept z h e = ap (λ x. ltZ x (pos 0)) (sym (kept-is w64 z (size-fits z h))) ∙ e
+pub sign-kept : (w : Width) (z : ℤ) → natAbs z < 2 ^ hbits w → {b : Bool} → ltZ (kept w z) (pos 0) ≡ b → ltZ z (pos 0) ≡ b
+sign-kept w z h e = ap (λ x. ltZ x (pos 0)) (sym (kept-is w z (size-fits w z h))) ∙ e
 
 -- ---- a shift of a multiple of its power of two, as the machine keeps it, loses nothing
 

@@ -21,6 +21,10 @@ unfolding halfUp
 half-nought zero = zero-div 0
 half-nought (suc d) = div-eq-of-lt (omega arith)
 
+pub nearest-natural : (n d : ℕ) → nearest (pos n) d ≡ pos (halfUp n d)
+unfolding nearest
+nearest-natural n d = refl
+
 pub nearest-negative : (n d : ℕ) → nearest (negℤ (pos n)) d ≡ negℤ (pos (halfUp n d))
 unfolding nearest
 nearest-negative zero d = ap pos (half-nought d) ∙ ap (λ (n : ℕ). negℤ (pos n)) (sym (half-nought d))

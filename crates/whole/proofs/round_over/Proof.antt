@@ -27,7 +27,7 @@ size-of-requires : tie.Need-size-of-requires
 size-of-requires c κs = search needs
 
 size-is : (c : tie.After-size-of) → c .size-of .result ≡ natAbs (c .before .args .sum)
-size-is c = let z = c .before .args .sum in c .size-of .ensures ∙ ap natAbs (kept-is w64 z (size-fits z (c .before .pre .0 .0)))
+size-is c = let z = c .before .args .sum in c .size-of .ensures ∙ ap natAbs (kept-is w64 z (size-fits w64 z (c .before .pre .0 .0)))
 
 half-up-requires : tie.Need-half-up-requires
 half-up-requires c κs = ((subst (λ (n : ℕ). n < 2 ^ 63) (sym (size-is c)) (c .before .pre .0 .0), c .before .pre .0 .1), c .before .pre .1)
@@ -55,20 +55,20 @@ module _ (c : tie.After-half-up) where
       subst (λ (n : ℕ). n < 2 ^ 63) (sym rounded) (lt-of-le-of-lt (half-least (natAbs sum) d some) in-range)
 
 cast-size : tie.Need-cast-size
-cast-size c = size-fits (size c) (small c)
+cast-size c = size-fits w64 (size c) (small c)
 
 sub-result : tie.Need-sub-result
-sub-result c = turned-fits (size (c .before)) (small (c .before))
+sub-result c = turned-fits w64 (size (c .before)) (small (c .before))
 
 returns : tie.Need-returns
 returns c =
     let r = c .before in
-    turned-kept (size r) (small r) ∙ ap (λ (n : ℕ). negℤ (pos n)) (rounded r) ∙ below (sum r) (d r) (sign-kept (sum r) (in-range r) (c .if1 .taken))
+    turned-kept w64 (size r) (small r) ∙ ap (λ (n : ℕ). negℤ (pos n)) (rounded r) ∙ below (sum r) (d r) (sign-kept w64 (sum r) (in-range r) (c .if1 .taken))
 
 returns-2 : tie.Need-returns-2
 returns-2 c =
     let r = c .before in
-    kept-is w64 (size r) (size-fits (size r) (small r)) ∙ ap pos (rounded r) ∙ above (sum r) (d r) (sign-kept (sum r) (in-range r) (c .if1 .left))
+    kept-is w64 (size r) (size-fits w64 (size r) (small r)) ∙ ap pos (rounded r) ∙ above (sum r) (d r) (sign-kept w64 (sum r) (in-range r) (c .if1 .left))
 
 pub round-over-spec : {M : Type 1} → statement M
 round-over-spec = tie.close (tie.spec size-of-requires half-up-requires cast-size sub-result returns returns-2)

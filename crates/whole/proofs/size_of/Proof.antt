@@ -20,24 +20,24 @@ not-below : (z : ℤ) → ltZ z (pos 0) ≡ false → T (nonNeg z)
 not-below z e = let (n, is) = not-below-zero z e in subst (λ x. T (nonNeg x)) (sym is) tt
 
 sub-result : tie.Need-sub-result
-sub-result c = turned-fits (c .before .args .sum) (c .before .pre)
+sub-result c = turned-fits w64 (c .before .args .sum) (c .before .pre)
 
 cast-result : tie.Need-cast-result
 cast-result c =
     let z = c .before .args .sum in
     let small = c .before .pre in
-    subst (λ x. T (nonNeg x) × Fits w64 (natAbs x)) (sym (turned-kept z small))
-    (turned-up z (sign-kept z small (c .if1 .taken)), record { fits = omega (arith, natAbs-neg z, small) })
+    subst (λ x. T (nonNeg x) × Fits w64 (natAbs x)) (sym (turned-kept w64 z small))
+    (turned-up z (sign-kept w64 z small (c .if1 .taken)), record { fits = omega (arith, natAbs-neg z, small) })
 
 cast-result-2 : tie.Need-cast-result-2
 cast-result-2 c =
     let z = c .before .args .sum in
     let small = c .before .pre in
-    subst (λ x. T (nonNeg x) × Fits w64 (natAbs x)) (sym (kept-is w64 z (size-fits z small)))
-    (not-below z (sign-kept z small (c .if1 .left)), record { fits = omega (arith, small) })
+    subst (λ x. T (nonNeg x) × Fits w64 (natAbs x)) (sym (kept-is w64 z (size-fits w64 z small)))
+    (not-below z (sign-kept w64 z small (c .if1 .left)), record { fits = omega (arith, small) })
 
 returns : tie.Need-returns
-returns c = let z = c .before .args .sum in ap natAbs (turned-kept z (c .before .pre)) ∙ natAbs-neg z
+returns c = let z = c .before .args .sum in ap natAbs (turned-kept w64 z (c .before .pre)) ∙ natAbs-neg z
 
 returns-2 : tie.Need-returns-2
 returns-2 c = search needs
