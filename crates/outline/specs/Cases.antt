@@ -30,12 +30,12 @@ given c = draws (record { basis = c .basis; depth = c .depth; count = length (c 
 abbrev pub paper : Case → Outcome Drawn (List ℤ)
 paper c = outcome (Points (length (c .points))) (onX (c .points) ++ neg 1 ∷ neg 1 ∷ [])
 
--- A half goes to the greater, above zero and below.
+-- A half goes away from zero, above it and below (document 02, request 1, for document 01's P2).
 abbrev pub p1 : Case
 p1 = record { basis = 1; depth = 1; records = pos 0 ∷ pos 0 ∷ pos 0 ∷ pos 4 ∷ []; points = pos 0 ∷ pos 1 ∷ pos 4 ∷ [] }
 
 abbrev pub p2 : Case
-p2 = record { basis = 1; depth = 1; records = pos 0 ∷ pos 0 ∷ pos 0 ∷ neg 4 ∷ []; points = pos 0 ∷ pos 0 ∷ neg 4 ∷ [] }
+p2 = record { basis = 1; depth = 1; records = pos 0 ∷ pos 0 ∷ pos 0 ∷ neg 4 ∷ []; points = pos 0 ∷ neg 1 ∷ neg 4 ∷ [] }
 
 abbrev pub p3 : Case
 p3 = record { basis = 2; depth = 1; records = pos 0 ∷ pos 6 ∷ pos 12 ∷ pos 18 ∷ []; points = pos 6 ∷ pos 9 ∷ pos 12 ∷ [] }

@@ -51,7 +51,7 @@ ofEdit c =
       paper = told (outcome (Done (record { shape = edit.cardinal (c .count); first = c .first; fresh = c .fresh })) (c .controls, c .held));
     }
 
--- P12: 0.0625 mm is 63, -0.0625 mm is -62; 4000.00048828125 mm is accepted, 4000.0009765625 mm gives 11. These doubles are 1/2^4, -1/2^4, 4000 + 1/2^11 and
+-- P12: 0.0625 mm is 63, -0.0625 mm is -63 (document 02, request 1); 4000.00048828125 mm is accepted, 4000.0009765625 mm gives 11. These doubles are 1/2^4, -1/2^4, 4000 + 1/2^11 and
 -- 4000 + 1/2^10 exactly.
 abbrev pub ofDouble : ℤ → ℕ → List ℤ
 ofDouble z k = pos (number.paper (measure (dyadic z k)) .0) ∷ number.paper (measure (dyadic z k)) .1 ∷ []
@@ -60,7 +60,7 @@ abbrev pub p12 : Case
 p12 =
     record {
       given = ofDouble (pos 1) 4 ++ (ofDouble (neg 1) 4 ++ (ofDouble (pos (4000 * 2 ^ 11 + 1)) 11 ++ ofDouble (pos (4000 * 2 ^ 10 + 1)) 10));
-      paper = pos 0 ∷ pos 63 ∷ pos 0 ∷ neg 62 ∷ pos 0 ∷ pos 4000000 ∷ pos 11 ∷ pos 0 ∷ [];
+      paper = pos 0 ∷ pos 63 ∷ pos 0 ∷ neg 63 ∷ pos 0 ∷ pos 4000000 ∷ pos 11 ∷ pos 0 ∷ [];
     }
 
 abbrev pub cases : List Case
