@@ -4,26 +4,30 @@ use mathlib.Core.Bool.{Bool, true, false, cond}
 use mathlib.Core.List.{List, [], _∷_}
 use Prim.Native.Nat.{ℕ, zero, suc, _+_, _*_, _%_}
 use native.Mathlib.Omega.{arith}
-use lib.Dec.{eqb}
+use lib.Dec.{ltb, eqb}
+use lib.IntN.{ℤ, pos, negsuc, negℤ, natAbs}
 use lib.ListN.{length, getD, set}
 use lib.Seq.{sets}
 use Rattle.curve.specs.Tab.{tab}
-use Rattle.mirror.specs.Mirror.{Axis, X, Y, mirrorX, mirrorY, across, mirrored}
+use Rattle.curve.specs.Limits.{limit, beyond}
+use Rattle.curve.specs.Span.{coordinate}
+use Rattle.shape.specs.Refusals.{seek, outside, firstOutside, controlRows}
+use Rattle.mirror.specs.Mirror.{Axis, X, Y, mirrorX, mirrorY, across, mirrored, mirror}
 
 module _ {A : Type 0} (minus : A → A) (axis : Axis) where
   -- ---- the numbers on an axis are two apart
 
-  across-mod : (q r : ℕ) → q % 2 ≡ r → (v : A) → across minus axis q v ≡ cond (eqb r 0) (mirrorX minus axis v) (mirrorY minus axis v)
-  across-mod q r e v = rw e
+  pub across-same : (q r : ℕ) → q % 2 ≡ r % 2 → (v : A) → across minus axis q v ≡ across minus axis r v
+  across-same q r e v = rw e
 
   pub across-next : (q : ℕ) (v : A) → across minus axis (suc (suc q)) v ≡ across minus axis q v
-  across-next q v = across-mod (suc (suc q)) (q % 2) (omega arith) v
+  across-next q = across-same (suc (suc q)) q (omega arith)
 
   pub across-x : (n : ℕ) (v : A) → across minus axis (2 * n) v ≡ mirrorX minus axis v
-  across-x n v = across-mod (2 * n) 0 (omega arith) v
+  across-x n = across-same (2 * n) 0 (omega arith)
 
   pub across-y : (n : ℕ) (v : A) → across minus axis (suc (2 * n)) v ≡ mirrorY minus axis v
-  across-y n v = across-mod (suc (2 * n)) 1 (omega arith) v
+  across-y n = across-same (suc (2 * n)) 1 (omega arith)
 
   -- a number in the mirror stays or is negated, whichever number it is
   pub across-cases : (P : (A → A) → Type 0) → P (λ v. v) → P minus → (q : ℕ) → P (across minus axis q)
@@ -88,3 +92,30 @@ module _ {A : Type 0} (minus : A → A) (axis : Axis) where
   mirrored-sets l n (x ∷ y ∷ vs) =
       let next : suc (suc (2 * n)) ≡ 2 * suc n = omega arith in
       rw next (mirrored-sets (set (set l (2 * n) x) (suc (2 * n)) y) (suc n) vs ∙ ap (λ r. sets r (2 * suc n) (mirrored minus axis vs)) (mirrored-record l n x y))
+
+-- ---- controls: their coordinates, and the rows that look at them
+
+natAbs-minus : (z : ℤ) → natAbs (negℤ z) ≡ natAbs z
+natAbs-minus (pos zero) = refl
+natAbs-minus (pos (suc n)) = refl
+natAbs-minus (negsuc n) = refl
+
+module _ (axis : Axis) where
+  -- a number in the mirror is as far from zero
+  pub across-beyond : (q n : ℕ) (z : ℤ) → beyond n (across negℤ axis q z) ≡ beyond n z
+  across-beyond q n z = ap (ltb n) (across-cases negℤ axis (λ g. natAbs (g z) ≡ natAbs z) refl (natAbs-minus z) q)
+
+  module _ (controls : List ℤ) where
+    -- the coordinate that number q of a list is on the axis of
+    pub coordinate-mirror : (q r : ℕ) → coordinate (mirror axis controls) (q % 2) r ≡ across negℤ axis q (coordinate controls (q % 2) r)
+    unfolding coordinate
+    coordinate-mirror q r = getD-mirrored negℤ axis (pos 0) refl controls (2 * r + q % 2) ∙ across-same negℤ axis (2 * r + q % 2) q (omega arith) (getD controls (2 * r + q % 2) (pos 0))
+
+    outside-mirror : (r : ℕ) → outside (mirror axis controls) r ≡ outside controls r
+    unfolding outside
+    outside-mirror r = rw (coordinate-mirror 0 r, coordinate-mirror 1 r, across-beyond 0 limit, across-beyond 1 limit)
+
+    pub controlRows-mirror : (most n : ℕ) → controlRows most n (mirror axis controls) ≡ controlRows most n controls
+    controlRows-mirror most n =
+        let found : firstOutside (mirror axis controls) n ≡ firstOutside controls n = ap (λ test. seek test 0 n) (λ i r. outside-mirror r i) in
+        rw (length-mirrored, found)
