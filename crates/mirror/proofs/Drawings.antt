@@ -4,12 +4,9 @@ use mathlib.Core.List.{List, _++_}
 use Prim.Native.Nat.{ℕ, _*_, _<_}
 use lib.IntN.{ℤ, pos, negℤ}
 use lib.ListN.{getD, length}
-use lib.Seq.{sets}
 use Rattle.whole.specs.Nearest.{nearest}
 use Rattle.whole.specs.Outcome.{Outcome, outcome, refuses}
-use Rattle.curve.specs.Tab.{tab}
 use Rattle.shape.specs.declared.Shape.{Shape}
-use Rattle.shape.specs.declared.Plan.{Plan}
 use Rattle.shape.specs.Refusals.{NoRow, judge, shapeRows, pointRows, planOf}
 use Rattle.spans.specs.declared.run.Way.{Way}
 use Rattle.spans.specs.Numbers.{number}
@@ -21,7 +18,7 @@ use Rattle.outline.proofs.Held.{held-number}
 use Rattle.sequences.specs.Calls.{MeetsDrawing}
 use Rattle.sequences.proofs.Calls.{meets-draws}
 use Rattle.mirror.specs.Mirror.{Axis, across, mirror, mirrorDrawn}
-use Rattle.mirror.proofs.Lists.{length-mirrored, mirrored-tab, controlRows-mirror, judge-then}
+use Rattle.mirror.proofs.Lists.{length-mirrored, mirrored-rule, controlRows-mirror, judge-mirror}
 use Rattle.mirror.proofs.Points.{number-mirror}
 
 -- ---- the checks: they see how far a control is from zero, and how long the lists are
@@ -36,19 +33,14 @@ drawRows-mirror axis s controls lent = drawRows-other axis s controls lent (mirr
 module _ (nearest-minus : (z : ℤ) (d : ℕ) → nearest (negℤ z) d ≡ negℤ (nearest z d)) (axis : Axis) where
   -- ---- the mirrored drawing
 
-  drawn-mirror : (p : Plan) (controls lent : List ℤ) → drawn p (mirror axis controls) (mirror axis lent) ≡ mirror axis (drawn p controls lent)
-  drawn-mirror p controls lent =
-      ap (λ f. sets (mirror axis lent) 0 (tab f 0 (2 * points p))) (λ i q. number-mirror nearest-minus axis p controls q i)
-      ∙ sym (mirrored-tab negℤ axis lent (number p controls) 0 (2 * points p))
-
   pub mirror-draws : (s : Shape) (controls lent : List ℤ) → draws s (mirror axis controls) (mirror axis lent) ≡ mirrorDrawn axis (draws s controls lent)
   unfolding draws
   mirror-draws s controls lent =
       let p = planOf s in
-      let rows = drawRows s controls lent in
-      ap (λ r. judge r (refuses Refused (mirror axis lent)) (accepts p (mirror axis controls) (mirror axis lent))) (drawRows-mirror axis s controls lent)
-      ∙ ap (λ l. judge rows (refuses Refused (mirror axis lent)) (outcome (Points (points p)) l)) (drawn-mirror p controls lent)
-      ∙ sym (judge-then (mirrorDrawn axis) rows (refuses Refused lent) (accepts p controls lent))
+      let there = accepts p (mirror axis controls) (mirror axis lent) in
+      ap (λ rows. judge rows (refuses Refused (mirror axis lent)) there) (drawRows-mirror axis s controls lent)
+      ∙ judge-mirror (mirrorDrawn axis) (drawRows s controls lent) (refuses Refused lent) (accepts p controls lent) there
+      (λ _. ap (outcome (Points (points p))) (mirrored-rule negℤ axis lent (number p controls) (number p (mirror axis controls)) 0 (2 * points p) (number-mirror nearest-minus axis p controls)))
 
   -- ---- in any other list as long
 
