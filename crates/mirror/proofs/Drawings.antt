@@ -1,5 +1,5 @@
 -- A drawing of mirrored controls is the mirrored drawing, refusals too; and since what was lent is not looked at, the same points come out in any other list as long.
-use mathlib.Core.Path.{_≡_, refl, sym, ap, _∙_, subst}
+use mathlib.Core.Path.{_≡_, sym, ap, _∙_, subst}
 use mathlib.Core.List.{List, _++_}
 use Prim.Native.Nat.{ℕ, _*_, _<_}
 use lib.IntN.{ℤ, pos, negℤ}

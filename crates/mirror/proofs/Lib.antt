@@ -1,3 +1,4 @@
 pub mod Lists
 pub mod Points
 pub mod Drawings
+pub mod Edits

@@ -10,7 +10,7 @@ use Rattle.curve.specs.declared.Basis.{Basis}
 use Rattle.curve.specs.declared.Basis.the-variants.{Bezier, BSpline, Cardinal, Hermite}
 use Rattle.curve.specs.Four.{four, dot}
 use Rattle.curve.specs.Published.{weights}
-use Rattle.curve.specs.Span.{coordinate, recordsFrom, records, sixfoldControls, weighted, divisor, point}
+use Rattle.curve.specs.Span.{coordinate, recordsFrom, records, sixfoldControls, weighted, point}
 use Rattle.curve.proofs.Reflect.{Fourᵉ, fourᵉ, num, p, i, h, values, weightedᵉ, sixfoldᵉ}
 use Rattle.shape.specs.declared.Plan.{Plan}
 use Rattle.spans.specs.Numbers.{number}
