@@ -1,4 +1,5 @@
--- A mirrored list: its length, its numbers, and that what is written into a list may be mirrored before or after.
+-- A mirrored list: its length, its numbers, and that what is written into a list may be mirrored before or after. And what the checks of every call see of mirrored controls:
+-- the same.
 use mathlib.Core.Path.{_≡_, refl, sym, ap, _∙_}
 use mathlib.Core.Bool.{Bool, true, false, cond}
 use mathlib.Core.Logic.{⊎-elim}
