@@ -1,0 +1,5 @@
+pub mod Lists
+pub mod Points
+pub mod Drawings
+pub mod Edits
+pub mod Sequences

@@ -1,0 +1,80 @@
+-- A drawing of mirrored controls is the mirrored drawing, refusals too; and since what was lent is not looked at, the same points come out in any other list as long.
+use mathlib.Core.Path.{_≡_, sym, ap, _∙_, subst}
+use mathlib.Core.List.{List, _++_}
+use Prim.Native.Nat.{ℕ, _*_, _<_}
+use lib.IntN.{ℤ, pos, negℤ}
+use lib.ListN.{getD, length}
+use Rattle.whole.specs.Nearest.{nearest}
+use Rattle.whole.specs.Outcome.{Outcome, outcome, refuses}
+use Rattle.shape.specs.declared.Shape.{Shape}
+use Rattle.shape.specs.Refusals.{NoRow, judge, shapeRows, pointRows, planOf}
+use Rattle.spans.specs.declared.run.Way.{Way}
+use Rattle.spans.specs.Numbers.{number}
+use Rattle.outline.specs.declared.Drawn.{Drawn}
+use Rattle.outline.specs.declared.Drawn.the-variants.{Points, Refused}
+use Rattle.outline.specs.Outline.{points, drawRows, drawn, accepts, draws}
+use Rattle.outline.proofs.Exactly.{points-none, none-drawn}
+use Rattle.outline.proofs.Held.{held-number}
+use Rattle.sequences.specs.Calls.{MeetsDrawing}
+use Rattle.sequences.proofs.Calls.{meets-draws}
+use Rattle.mirror.specs.Mirror.{Axis, across, mirror, mirrorDrawn}
+use Rattle.mirror.proofs.Lists.{length-mirrored, mirrored-rule, controlRows-mirror, judge-mirror}
+use Rattle.mirror.proofs.Points.{number-mirror}
+
+-- ---- the checks: they see how far a control is from zero, and how long the lists are
+
+pub drawRows-other : (axis : Axis) (s : Shape) (controls lent other : List ℤ) → length other ≡ length lent → drawRows s (mirror axis controls) other ≡ drawRows s controls lent
+drawRows-other axis s controls lent other long =
+    λ i. shapeRows s ++ (controlRows-mirror axis controls (s .count) (s .count) i ++ pointRows (points (planOf s)) (long i))
+
+pub drawRows-mirror : (axis : Axis) (s : Shape) (controls lent : List ℤ) → drawRows s (mirror axis controls) (mirror axis lent) ≡ drawRows s controls lent
+drawRows-mirror axis s controls lent = drawRows-other axis s controls lent (mirror axis lent) (length-mirrored negℤ axis lent)
+
+module _ (nearest-minus : (z : ℤ) (d : ℕ) → nearest (negℤ z) d ≡ negℤ (nearest z d)) (axis : Axis) where
+  -- ---- the mirrored drawing
+
+  pub mirror-draws : (s : Shape) (controls lent : List ℤ) → draws s (mirror axis controls) (mirror axis lent) ≡ mirrorDrawn axis (draws s controls lent)
+  unfolding draws
+  mirror-draws s controls lent =
+      let p = planOf s in
+      let there = accepts p (mirror axis controls) (mirror axis lent) in
+      ap (λ rows. judge rows (refuses Refused (mirror axis lent)) there) (drawRows-mirror axis s controls lent)
+      ∙ judge-mirror (mirrorDrawn axis) (drawRows s controls lent) (refuses Refused lent) (accepts p controls lent) there
+      (λ _. ap (outcome (Points (points p))) (mirrored-rule negℤ axis lent (number p controls) (number p (mirror axis controls)) 0 (2 * points p) (number-mirror nearest-minus axis p controls)))
+
+  -- ---- in any other list as long
+
+  pub mirror-points :
+      (s : Shape) (controls lent : List ℤ) (n : ℕ) (held : List ℤ)
+      → draws s controls lent ≡ outcome (Points n) held
+      → (other : List ℤ)
+      → length other ≡ length lent
+      → (held′ : List ℤ)
+      × (draws s (mirror axis controls) other ≡ outcome (Points n) held′)
+      × ((q : ℕ) → q < 2 * n → getD held′ q (pos 0) ≡ across negℤ axis q (getD held q (pos 0)))
+  mirror-points s controls lent n held answered other long =
+      let p = planOf s in
+      let none : NoRow (drawRows s controls lent) = points-none s controls lent n held answered in
+      let there = none-drawn s (mirror axis controls) other (subst NoRow (sym (drawRows-other axis s controls lent other long)) none) in
+      let count : points p ≡ n = same (λ i. (sym (none-drawn s controls lent none) ∙ answered) i .answer) in (
+        drawn p (mirror axis controls) other,
+        there ∙ ap (λ m. outcome (Points m) (drawn p (mirror axis controls) other)) count,
+        λ q h.
+            let h′ : q < 2 * points p = subst (λ m. q < 2 * m) (sym count) h in
+            held-number s (mirror axis controls) other (points p) (drawn p (mirror axis controls) other) there q h′
+            ∙ number-mirror nearest-minus axis p controls q
+            ∙ ap (across negℤ axis q) (sym (held-number s controls lent n held answered q h′)),
+      )
+    where
+      same : {m n : ℕ} → Points m ≡ Points n → m ≡ n
+      same e = cc
+
+  -- ---- by the contracts of the code, whichever way each drawing goes
+
+  pub code-mirror-draws :
+      (w v : Way) (s : Shape) (controls lent : List ℤ) (o u : Outcome Drawn (List ℤ))
+      → MeetsDrawing w (s, controls, lent) o
+      → MeetsDrawing v (s, mirror axis controls, mirror axis lent) u
+      → u ≡ mirrorDrawn axis o
+  code-mirror-draws w v s controls lent o u drawn mirrored =
+      sym (meets-draws v s (mirror axis controls) (mirror axis lent) u mirrored) ∙ mirror-draws s controls lent ∙ ap (mirrorDrawn axis) (meets-draws w s controls lent o drawn)
