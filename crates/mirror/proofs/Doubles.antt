@@ -6,7 +6,7 @@ use Prim.Native.Nat.{ℕ, zero, suc, _+_, _*_, _-_, _/_, _%_, _^_, _≤_, _<_, c
 use native.Mathlib.Nat.{mul-pos, lt-irrefl, lt-of-lt-of-le, le-of-eq, zero-mul, zero-lt-suc}
 use native.Mathlib.Omega.{arith}
 use borrow.Author.Tests.{ne-eqb}
-use lib.Dec.{leb, ltb}
+use lib.Dec.{eqb, leb, ltb}
 use lib.Pow.{pow-pos}
 use lib.IntN.{ℤ, pos, negsuc, negℤ, natAbs, negℤ-negℤ}
 use lib.Ieee.{Float, nan, inf, fin, Format, binary64, prec, emax, low, up, down, size, nearest, odd, units, round, neg}
@@ -18,7 +18,21 @@ use Rattle.doubles.specs.Exact.{signed, dyadic, Value}
 use Rattle.doubles.specs.Number.{thousand, within, measure}
 use Rattle.doubles.specs.declared.Measure.the-variants.{Outside, Micrometres}
 use Rattle.doubles.proofs.Exact.{dyadic-exact}
+use Rattle.mirror.specs.Mirror.{Axis, X, Y, mirrorX, mirrorY, across}
 use Rattle.mirror.specs.Steps.{minusMeasure, opposite}
+
+-- ---- numbers of two kinds
+
+-- what takes a number negated to its own negated does so across the mirror
+pub across-through :
+    {A B : Type 0} (minus : A → A) (minus′ : B → B) (f : A → B) (v : A) → f (minus v) ≡ minus′ (f v) → (axis : Axis) (q : ℕ) → f (across minus axis q v) ≡ across minus′ axis q (f v)
+across-through minus minus′ f v h axis q = go axis (eqb (q % 2) 0)
+  where
+    go : (axis : Axis) (t : Bool) → f (cond t (mirrorX minus axis v) (mirrorY minus axis v)) ≡ cond t (mirrorX minus′ axis (f v)) (mirrorY minus′ axis (f v))
+    go X true = h
+    go X false = refl
+    go Y true = refl
+    go Y false = h
 
 -- ---- a drawing number
 

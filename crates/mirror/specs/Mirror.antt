@@ -1,6 +1,9 @@
 -- What is mirrored (document 02, request 1: "negating all controls on an axis"): in lists of numbers, x then y, those on one axis are negated and those on the other stay. Shapes,
 -- places, counts and refusals stay too. Definitions only.
+use mathlib.Core.Bool.{cond}
 use mathlib.Core.List.{List, [], _∷_}
+use Prim.Native.Nat.{ℕ, _%_}
+use lib.Dec.{eqb}
 use lib.IntN.{ℤ, negℤ}
 use Rattle.whole.specs.Outcome.{Outcome, outcome}
 use Rattle.outline.specs.declared.Drawn.{Drawn}
@@ -24,7 +27,11 @@ abbrev pub mirrorY {ℓ} : {A : Type ℓ} → (A → A) → Axis → A → A
 mirrorY minus X y = y
 mirrorY minus Y y = minus y
 
--- A list of them, x then y.
+-- Number q of a list of them, x then y: an x where q is even.
+abbrev pub across {ℓ} : {A : Type ℓ} → (A → A) → Axis → ℕ → A → A
+across minus axis q v = cond (eqb (q % 2) 0) (mirrorX minus axis v) (mirrorY minus axis v)
+
+-- Such a list.
 unfoldable pub mirrored {ℓ} : {A : Type ℓ} → (A → A) → Axis → List A → List A
 mirrored minus axis [] = []
 mirrored minus axis (x ∷ []) = mirrorX minus axis x ∷ []

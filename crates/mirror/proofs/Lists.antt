@@ -1,0 +1,121 @@
+-- A mirrored list: its length, its numbers, and that what is written into a list may be mirrored before or after.
+use mathlib.Core.Path.{_≡_, refl, sym, ap, _∙_}
+use mathlib.Core.Bool.{Bool, true, false, cond}
+use mathlib.Core.List.{List, [], _∷_}
+use Prim.Native.Nat.{ℕ, zero, suc, _+_, _*_, _%_}
+use native.Mathlib.Omega.{arith}
+use lib.Dec.{ltb, eqb}
+use lib.IntN.{ℤ, pos, negsuc, negℤ, natAbs}
+use lib.ListN.{length, getD, set}
+use lib.Seq.{sets}
+use Rattle.curve.specs.Tab.{tab}
+use Rattle.curve.specs.Limits.{limit, beyond}
+use Rattle.curve.specs.Span.{coordinate}
+use Rattle.shape.specs.Refusals.{seek, outside, firstOutside, controlRows}
+use Rattle.mirror.specs.Mirror.{Axis, X, Y, mirrorX, mirrorY, across, mirrored, mirror}
+
+module _ {A : Type 0} (minus : A → A) (axis : Axis) where
+  -- ---- the numbers on an axis are two apart
+
+  pub across-same : (q r : ℕ) → q % 2 ≡ r % 2 → (v : A) → across minus axis q v ≡ across minus axis r v
+  across-same q r e v = rw e
+
+  pub across-next : (q : ℕ) (v : A) → across minus axis (suc (suc q)) v ≡ across minus axis q v
+  across-next q = across-same (suc (suc q)) q (omega arith)
+
+  pub across-x : (n : ℕ) (v : A) → across minus axis (2 * n) v ≡ mirrorX minus axis v
+  across-x n = across-same (2 * n) 0 (omega arith)
+
+  pub across-y : (n : ℕ) (v : A) → across minus axis (suc (2 * n)) v ≡ mirrorY minus axis v
+  across-y n = across-same (suc (2 * n)) 1 (omega arith)
+
+  -- a number in the mirror stays or is negated, whichever number it is
+  pub across-cases : (P : (A → A) → Type 0) → P (λ v. v) → P minus → (q : ℕ) → P (across minus axis q)
+  across-cases P stays negated q = go axis (eqb (q % 2) 0)
+    where
+      go : (axis : Axis) (t : Bool) → P (λ v. cond t (mirrorX minus axis v) (mirrorY minus axis v))
+      go X true = negated
+      go X false = stays
+      go Y true = stays
+      go Y false = negated
+
+  -- ---- length and numbers
+
+  pub length-mirrored : (l : List A) → length (mirrored minus axis l) ≡ length l
+  unfolding mirrored
+  length-mirrored [] = refl
+  length-mirrored (x ∷ []) = refl
+  length-mirrored (x ∷ y ∷ l) = ap (λ (n : ℕ). suc (suc n)) (length-mirrored l)
+
+  -- `d` is what stands past the end
+  pub getD-mirrored : (d : A) → minus d ≡ d → (l : List A) (q : ℕ) → getD (mirrored minus axis l) q d ≡ across minus axis q (getD l q d)
+  unfolding mirrored
+  getD-mirrored d kept [] q = across-cases (λ g. d ≡ g d) refl (sym kept) q
+  getD-mirrored d kept (x ∷ []) zero = refl
+  getD-mirrored d kept (x ∷ []) (suc q) = across-cases (λ g. d ≡ g d) refl (sym kept) (suc q)
+  getD-mirrored d kept (x ∷ y ∷ l) zero = refl
+  getD-mirrored d kept (x ∷ y ∷ l) (suc zero) = refl
+  getD-mirrored d kept (x ∷ y ∷ l) (suc (suc q)) = getD-mirrored d kept l q ∙ sym (across-next q (getD l q d))
+
+  -- ---- one number written
+
+  pub mirrored-set : (l : List A) (q : ℕ) (v : A) → mirrored minus axis (set l q v) ≡ set (mirrored minus axis l) q (across minus axis q v)
+  unfolding mirrored
+  mirrored-set [] q v = refl
+  mirrored-set (x ∷ []) zero v = refl
+  mirrored-set (x ∷ []) (suc q) v = refl
+  mirrored-set (x ∷ y ∷ l) zero v = refl
+  mirrored-set (x ∷ y ∷ l) (suc zero) v = refl
+  mirrored-set (x ∷ y ∷ l) (suc (suc q)) v =
+      ap (λ r. mirrorX minus axis x ∷ mirrorY minus axis y ∷ r) (mirrored-set l q v ∙ ap (set (mirrored minus axis l) q) (sym (across-next q v)))
+
+  -- ---- numbers written by a rule
+
+  pub mirrored-tab :
+      (l : List A) (f : ℕ → A) (i n : ℕ) → mirrored minus axis (sets l i (tab f i n)) ≡ sets (mirrored minus axis l) i (tab (λ q. across minus axis q (f q)) i n)
+  unfolding tab
+  mirrored-tab l f i zero = refl
+  mirrored-tab l f i (suc n) =
+      mirrored-tab (set l i (f i)) f (suc i) n ∙ ap (λ r. sets r (suc i) (tab (λ q. across minus axis q (f q)) (suc i) n)) (mirrored-set l i (f i))
+
+  -- ---- records written, from record n on
+
+  pub mirrored-record :
+      (l : List A) (n : ℕ) (x y : A)
+      → mirrored minus axis (set (set l (2 * n) x) (suc (2 * n)) y) ≡ set (set (mirrored minus axis l) (2 * n) (mirrorX minus axis x)) (suc (2 * n)) (mirrorY minus axis y)
+  mirrored-record l n x y = rw (mirrored-set, mirrored-set, across-x, across-y)
+
+  pub mirrored-sets : (l : List A) (n : ℕ) (vs : List A) → mirrored minus axis (sets l (2 * n) vs) ≡ sets (mirrored minus axis l) (2 * n) (mirrored minus axis vs)
+  unfolding mirrored
+  mirrored-sets l n [] = refl
+  mirrored-sets l n (x ∷ []) = rw (mirrored-set, across-x)
+  mirrored-sets l n (x ∷ y ∷ vs) =
+      let next : suc (suc (2 * n)) ≡ 2 * suc n = omega arith in
+      rw next (mirrored-sets (set (set l (2 * n) x) (suc (2 * n)) y) (suc n) vs ∙ ap (λ r. sets r (2 * suc n) (mirrored minus axis vs)) (mirrored-record l n x y))
+
+-- ---- controls: their coordinates, and the rows that look at them
+
+natAbs-minus : (z : ℤ) → natAbs (negℤ z) ≡ natAbs z
+natAbs-minus (pos zero) = refl
+natAbs-minus (pos (suc n)) = refl
+natAbs-minus (negsuc n) = refl
+
+module _ (axis : Axis) where
+  -- a number in the mirror is as far from zero
+  pub across-beyond : (q n : ℕ) (z : ℤ) → beyond n (across negℤ axis q z) ≡ beyond n z
+  across-beyond q n z = ap (ltb n) (across-cases negℤ axis (λ g. natAbs (g z) ≡ natAbs z) refl (natAbs-minus z) q)
+
+  module _ (controls : List ℤ) where
+    -- the coordinate that number q of a list is on the axis of
+    pub coordinate-mirror : (q r : ℕ) → coordinate (mirror axis controls) (q % 2) r ≡ across negℤ axis q (coordinate controls (q % 2) r)
+    unfolding coordinate
+    coordinate-mirror q r = getD-mirrored negℤ axis (pos 0) refl controls (2 * r + q % 2) ∙ across-same negℤ axis (2 * r + q % 2) q (omega arith) (getD controls (2 * r + q % 2) (pos 0))
+
+    outside-mirror : (r : ℕ) → outside (mirror axis controls) r ≡ outside controls r
+    unfolding outside
+    outside-mirror r = rw (coordinate-mirror 0 r, coordinate-mirror 1 r, across-beyond 0 limit, across-beyond 1 limit)
+
+    pub controlRows-mirror : (most n : ℕ) → controlRows most n (mirror axis controls) ≡ controlRows most n controls
+    controlRows-mirror most n =
+        let found : firstOutside (mirror axis controls) n ≡ firstOutside controls n = ap (λ test. seek test 0 n) (λ i r. outside-mirror r i) in
+        rw (length-mirrored, found)
