@@ -17,7 +17,6 @@ use Rattle.curve.specs.Limits.{limit}
 use Rattle.doubles.specs.Exact.{signed, dyadic, Value}
 use Rattle.doubles.specs.Number.{thousand, within, measure}
 use Rattle.doubles.specs.declared.Measure.the-variants.{Outside, Micrometres}
-use Rattle.doubles.proofs.Exact.{dyadic-exact}
 use Rattle.mirror.specs.Mirror.{Axis, X, Y, mirrorX, mirrorY, across}
 use Rattle.mirror.specs.Steps.{minusMeasure, opposite}
 
@@ -110,11 +109,9 @@ opposite-some (fin s zero e) z d h v =
     absurd (lt-irrefl 0 (lt-of-lt-of-le (mul-pos h (down-pos e)) (le-of-eq (sym (value-size s zero e z d v) ∙ ap (λ (n : ℕ). n * d) (zero-mul (up e)) ∙ zero-mul d))))
 opposite-some (fin s (suc m) e) z d h v = ap (λ b. cond b (fin s (suc m) e) (fin (not s) (suc m) e)) (ne-eqb (suc m) 0 (λ n. omega arith))
 
--- the double of -z / 2^k, where nothing of z / 2^k is lost
-pub minus-dyadic : (z : ℤ) (k : ℕ) → natAbs z ≤ 2 ^ 53 → k ≤ 1074 → dyadic (negℤ z) k ≡ opposite (dyadic z k)
+-- the double of -z / 2^k, where that of z / 2^k loses nothing
+pub minus-dyadic : (z : ℤ) (k : ℕ) → Value (dyadic z k) z (2 ^ k) → dyadic (negℤ z) k ≡ opposite (dyadic z k)
 unfolding dyadic
-minus-dyadic (pos zero) k hz hk = sym (opposite-zero (dyadic (pos 0) k) (2 ^ k) (pow-pos k) (dyadic-exact (pos 0) k hz hk))
-minus-dyadic (pos (suc n)) k hz hk =
-    round-neg binary64 false (suc n) (2 ^ k) ∙ sym (opposite-some (dyadic (pos (suc n)) k) (pos (suc n)) (2 ^ k) (zero-lt-suc n) (dyadic-exact (pos (suc n)) k hz hk))
-minus-dyadic (negsuc n) k hz hk =
-    round-neg binary64 true (suc n) (2 ^ k) ∙ sym (opposite-some (dyadic (negsuc n) k) (negsuc n) (2 ^ k) (zero-lt-suc n) (dyadic-exact (negsuc n) k hz hk))
+minus-dyadic (pos zero) k exact = sym (opposite-zero (dyadic (pos 0) k) (2 ^ k) (pow-pos k) exact)
+minus-dyadic (pos (suc n)) k exact = round-neg binary64 false (suc n) (2 ^ k) ∙ sym (opposite-some (dyadic (pos (suc n)) k) (pos (suc n)) (2 ^ k) (zero-lt-suc n) exact)
+minus-dyadic (negsuc n) k exact = round-neg binary64 true (suc n) (2 ^ k) ∙ sym (opposite-some (dyadic (negsuc n) k) (negsuc n) (2 ^ k) (zero-lt-suc n) exact)

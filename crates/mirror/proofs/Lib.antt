@@ -1,3 +1,4 @@
 pub mod Lists
 pub mod Doubles
 pub mod Steps
+pub mod Preview

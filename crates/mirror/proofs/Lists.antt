@@ -11,7 +11,8 @@ use lib.Seq.{sets}
 use Rattle.curve.specs.Tab.{tab}
 use Rattle.curve.specs.Limits.{limit, beyond}
 use Rattle.curve.specs.Span.{coordinate}
-use Rattle.shape.specs.Refusals.{seek, outside, firstOutside, controlRows}
+use Rattle.shape.specs.declared.Refusal.{Refusal}
+use Rattle.shape.specs.Refusals.{Row, judge, seek, outside, firstOutside, controlRows}
 use Rattle.mirror.specs.Mirror.{Axis, X, Y, mirrorX, mirrorY, across, mirrored, mirror}
 
 module _ {A : Type 0} (minus : A → A) (axis : Axis) where
@@ -119,3 +120,14 @@ module _ (axis : Axis) where
     controlRows-mirror most n =
         let found : firstOutside (mirror axis controls) n ≡ firstOutside controls n = ap (λ test. seek test 0 n) (λ i r. outside-mirror r i) in
         rw (length-mirrored, found)
+
+-- ---- what is made of a choice, and of a table's answer, is made of each side
+
+pub cond-then : {A B : Type 0} (g : A → B) (t : Bool) (x y : A) → g (cond t x y) ≡ cond t (g x) (g y)
+cond-then g true x y = refl
+cond-then g false x y = refl
+
+pub judge-then : {A B : Type 0} (g : A → B) (rows : List Row) (f : Refusal → A) (a : A) → g (judge rows f a) ≡ judge rows (λ r. g (f r)) (g a)
+unfolding judge
+judge-then g [] f a = refl
+judge-then g (r ∷ rows) f a = cond-then g (r .holds) (f (r .refusal)) (judge rows f a) ∙ ap (cond (r .holds) (g (f (r .refusal)))) (judge-then g rows f a)

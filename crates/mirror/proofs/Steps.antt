@@ -33,26 +33,13 @@ use Rattle.drawing.specs.Sequences.{Held, begin, after, drawn}
 use Rattle.drawing.proofs.Same.{is-equal, equal-is, is-unequal}
 use Rattle.mirror.specs.Mirror.{Axis, X, Y, mirrorX, mirrorY, across, mirrored, mirror}
 use Rattle.mirror.specs.Steps.{minusMeasure, mirrorStep, mirrorControl, mirrorDrawing, mirrorAnswer, mirrorStepped, mirrorHeld}
-use Rattle.mirror.proofs.Lists.{across-cases, length-mirrored, mirrored-sets}
+use Rattle.mirror.proofs.Lists.{across-cases, length-mirrored, mirrored-sets, across-beyond, cond-then, judge-then}
 use Rattle.mirror.proofs.Doubles.{across-through, minus-measure}
-
--- ---- any table: what is made of a call's outcome is made of each answer
-
-choice-made {ℓ} : {A B : Type ℓ} (g : A → B) (b : Bool) (x y : A) → g (cond b x y) ≡ cond b (g x) (g y)
-choice-made g true x y = refl
-choice-made g false x y = refl
-
-pub judge-made {ℓ} : {A B : Type ℓ} (g : A → B) (rows : List Row) (f : Refusal → A) (a : A) → g (judge rows f a) ≡ judge rows (λ r. g (f r)) (g a)
-unfolding judge
-judge-made g [] f a = refl
-judge-made g (x ∷ rows) f a = choice-made g (x .holds) (f (x .refusal)) (judge rows f a) ∙ ap (cond (x .holds) (g (f (x .refusal)))) (judge-made g rows f a)
 
 -- ---- controls
 
 mirror-strays : (axis : Axis) (c : Control) → strays (mirrorControl axis c) ≡ strays c
-mirror-strays axis c =
-    let size : (q : ℕ) (z : ℤ) → natAbs (across negℤ axis q z) ≡ natAbs z = λ q z. across-cases negℤ axis (λ g. natAbs (g z) ≡ natAbs z) refl (natAbs-neg z) q in
-    λ k. ltb limit (size 0 (c .x) k) || ltb limit (size 1 (c .y) k)
+mirror-strays axis c = λ k. across-beyond axis 0 limit (c .x) k || across-beyond axis 1 limit (c .y) k
 
 minus-equal : (a b : ℤ) → equal (negℤ a) (negℤ b) ≡ equal a b
 minus-equal a b =
@@ -147,7 +134,7 @@ module _ (nearest-minus : (z : ℤ) (d : ℕ) → nearest (negℤ z) d ≡ neg�
   mirror-added axis s (Cubic a b c d e f) = λ k. mirror-at axis a b k ∷ mirror-at axis c d k ∷ mirror-at axis e f k ∷ []
   mirror-added axis s Close =
       let lined = line (s .current) (s .start) in
-      ap (λ t. cond t [] (map (mirrorControl axis) lined)) (mirror-same axis (s .current) (s .start)) ∙ sym (choice-made (map (mirrorControl axis)) (same (s .current) (s .start)) [] lined)
+      ap (λ t. cond t [] (map (mirrorControl axis) lined)) (mirror-same axis (s .current) (s .start)) ∙ sym (cond-then (map (mirrorControl axis)) (same (s .current) (s .start)) [] lined)
 
   mirror-start : (axis : Axis) (s : State) (step : Step) → startAfter (mirrorDrawing axis s) (mirrorStep axis step) ≡ mirrorControl axis (startAfter s step)
   mirror-start axis s (Move x y) = mirror-at axis x y
@@ -180,7 +167,7 @@ module _ (nearest-minus : (z : ℤ) (d : ℕ) → nearest (negℤ z) d ≡ neg�
   unfolding stepped
   mirror-stepped axis s step l =
       (λ k. judge (mirror-rows axis s step l k) (refuses Refused (mirror axis l)) (mirror-accepts axis s step l k))
-      ∙ sym (judge-made (mirrorStepped axis) (rows s step l) (refuses Refused l) (accepts s step l))
+      ∙ sym (judge-then (mirrorStepped axis) (rows s step l) (refuses Refused l) (accepts s step l))
 
   -- ---- steps one after another
 
