@@ -2,7 +2,7 @@
 -- the rounding of doubles untouched, and zero stays +0.
 use mathlib.Core.Path.{_≡_, refl, sym, ap, _∙_}
 use mathlib.Core.Bool.{Bool, true, false, not, cond}
-use Prim.Native.Nat.{ℕ, zero, suc, _+_, _*_, _-_, _/_, _%_, _^_, _≤_, _<_, compare}
+use Prim.Native.Nat.{ℕ, zero, suc, _+_, _*_, _-_, _/_, _%_, _^_, _<_, compare}
 use native.Mathlib.Nat.{mul-pos, lt-irrefl, lt-of-lt-of-le, le-of-eq, zero-mul, zero-lt-suc}
 use native.Mathlib.Omega.{arith}
 use borrow.Author.Tests.{ne-eqb}
@@ -74,7 +74,7 @@ units-neg f s q k = go (ltb (q * 2 ^ k) (2 ^ (low f + suc (emax f))))
     go true = odd-neg (suc (prec f)) s q k (low f)
     go false = refl
 
-pub round-neg : (f : Format) (s : Bool) (n d : ℕ) → round f (not s) n d ≡ neg (round f s n d)
+round-neg : (f : Format) (s : Bool) (n d : ℕ) → round f (not s) n d ≡ neg (round f s n d)
 unfolding round
 round-neg f s n d =
     let m = n * 2 ^ low f in

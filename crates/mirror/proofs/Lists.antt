@@ -1,6 +1,7 @@
 -- A mirrored list: its length, its numbers, and that what is written into a list may be mirrored before or after.
 use mathlib.Core.Path.{_≡_, refl, sym, ap, _∙_}
 use mathlib.Core.Bool.{Bool, true, false, cond}
+use mathlib.Core.Logic.{⊎-elim}
 use mathlib.Core.List.{List, [], _∷_}
 use Prim.Native.Nat.{ℕ, zero, suc, _+_, _*_, _%_}
 use native.Mathlib.Omega.{arith}
@@ -12,7 +13,8 @@ use Rattle.curve.specs.Tab.{tab}
 use Rattle.curve.specs.Limits.{limit, beyond}
 use Rattle.curve.specs.Span.{coordinate}
 use Rattle.shape.specs.declared.Refusal.{Refusal}
-use Rattle.shape.specs.Refusals.{Row, judge, seek, outside, firstOutside, controlRows}
+use Rattle.shape.specs.Refusals.{Row, First, NoRow, judge, seek, outside, firstOutside, controlRows}
+use Rattle.shape.proofs.Refusals.{judge-first, judge-none, verdict}
 use Rattle.mirror.specs.Mirror.{Axis, X, Y, mirrorX, mirrorY, across, mirrored, mirror}
 
 module _ {A : Type 0} (minus : A → A) (axis : Axis) where
@@ -79,6 +81,13 @@ module _ {A : Type 0} (minus : A → A) (axis : Axis) where
   mirrored-tab l f i (suc n) =
       mirrored-tab (set l i (f i)) f (suc i) n ∙ ap (λ r. sets r (suc i) (tab (λ q. across minus axis q (f q)) (suc i) n)) (mirrored-set l i (f i))
 
+  -- where the second rule is the first in the mirror
+  pub mirrored-rule :
+      (l : List A) (f g : ℕ → A) (i n : ℕ)
+      → ((q : ℕ) → g q ≡ across minus axis q (f q))
+      → sets (mirrored minus axis l) i (tab g i n) ≡ mirrored minus axis (sets l i (tab f i n))
+  mirrored-rule l f g i n same = ap (λ h. sets (mirrored minus axis l) i (tab h i n)) (λ j q. same q j) ∙ sym (mirrored-tab l f i n)
+
   -- ---- records written, from record n on
 
   pub mirrored-record :
@@ -106,11 +115,14 @@ module _ (axis : Axis) where
   pub across-beyond : (q n : ℕ) (z : ℤ) → beyond n (across negℤ axis q z) ≡ beyond n z
   across-beyond q n z = ap (ltb n) (across-cases negℤ axis (λ g. natAbs (g z) ≡ natAbs z) refl (natAbs-minus z) q)
 
+  -- number i of a list, where q is on the same axis
+  pub mirror-at : (l : List ℤ) (i q : ℕ) → i % 2 ≡ q % 2 → getD (mirror axis l) i (pos 0) ≡ across negℤ axis q (getD l i (pos 0))
+  mirror-at l i q same = getD-mirrored negℤ axis (pos 0) refl l i ∙ across-same negℤ axis i q same (getD l i (pos 0))
+
   module _ (controls : List ℤ) where
-    -- the coordinate that number q of a list is on the axis of
     pub coordinate-mirror : (q r : ℕ) → coordinate (mirror axis controls) (q % 2) r ≡ across negℤ axis q (coordinate controls (q % 2) r)
     unfolding coordinate
-    coordinate-mirror q r = getD-mirrored negℤ axis (pos 0) refl controls (2 * r + q % 2) ∙ across-same negℤ axis (2 * r + q % 2) q (omega arith) (getD controls (2 * r + q % 2) (pos 0))
+    coordinate-mirror q r = mirror-at controls (2 * r + q % 2) q (omega arith)
 
     outside-mirror : (r : ℕ) → outside (mirror axis controls) r ≡ outside controls r
     unfolding outside
@@ -121,13 +133,13 @@ module _ (axis : Axis) where
         let found : firstOutside (mirror axis controls) n ≡ firstOutside controls n = ap (λ test. seek test 0 n) (λ i r. outside-mirror r i) in
         rw (length-mirrored, found)
 
--- ---- what is made of a choice, and of a table's answer, is made of each side
+-- ---- a table's answer in the mirror: the first row that holds says it, or else what is accepted does
 
-pub cond-then : {A B : Type 0} (g : A → B) (t : Bool) (x y : A) → g (cond t x y) ≡ cond t (g x) (g y)
-cond-then g true x y = refl
-cond-then g false x y = refl
-
-pub judge-then : {A B : Type 0} (g : A → B) (rows : List Row) (f : Refusal → A) (a : A) → g (judge rows f a) ≡ judge rows (λ r. g (f r)) (g a)
-unfolding judge
-judge-then g [] f a = refl
-judge-then g (r ∷ rows) f a = cond-then g (r .holds) (f (r .refusal)) (judge rows f a) ∙ ap (cond (r .holds) (g (f (r .refusal)))) (judge-then g rows f a)
+pub judge-mirror :
+    {A B : Type 0} (mirror : A → B) (rows : List Row) (f : Refusal → A) (a : A) (b : B)
+    → (NoRow rows → b ≡ mirror a)
+    → judge rows (λ r. mirror (f r)) b ≡ mirror (judge rows f a)
+judge-mirror mirror rows f a b same =
+    ⊎-elim (λ (v : (r : Refusal) × First rows r). judge-first rows (λ r. mirror (f r)) b (v .0) (v .1) ∙ ap mirror (sym (judge-first rows f a (v .0) (v .1))))
+    (λ none. judge-none rows (λ r. mirror (f r)) b none ∙ same none ∙ ap mirror (sym (judge-none rows f a none)))
+    (verdict rows)

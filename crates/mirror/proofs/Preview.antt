@@ -1,8 +1,7 @@
--- A preview of mirrored controls is the mirrored preview, refusals too, with zero as +0 in both; and since what was lent is not looked at, the same points come out in any other
--- list as long.
+-- A preview of mirrored controls is the mirrored preview, refusals too, with zero as +0 in both; and since what was lent is not looked at, its points are the mirrored ones in any
+-- other list as long.
 use mathlib.Core.Path.{_≡_, refl, sym, ap, _∙_, subst}
 use mathlib.Core.List.{List, _∷_, _++_}
-use mathlib.Core.Logic.{⊎-elim}
 use Prim.Native.Nat.{ℕ, _+_, _*_, _-_, _/_, _%_, _^_, min, _<_}
 use native.Mathlib.Nat.{zero-add}
 use native.Mathlib.Omega.{arith}
@@ -23,18 +22,17 @@ use Rattle.curve.proofs.Fills.{in-sets}
 use Rattle.curve.proofs.Reflect.{fourᵉ, num, p, i, h, values, weightedᵉ}
 use Rattle.curve.proofs.Tab.{length-tab, getD-tab, tab-same}
 use Rattle.doubles.specs.Exact.{dyadic, Value}
-use Rattle.shape.specs.declared.Refusal.{Refusal}
 use Rattle.shape.specs.declared.Shape.{Shape}
 use Rattle.shape.specs.Shape.{pointsOf}
-use Rattle.shape.specs.Refusals.{Row, First, NoRow, judge, shapeRows, pointRows, planOf}
-use Rattle.shape.proofs.Refusals.{judge-first, row-fails, verdict}
+use Rattle.shape.specs.Refusals.{NoRow, judge, shapeRows, pointRows, planOf}
+use Rattle.shape.proofs.Refusals.{row-fails}
 use Rattle.preview.specs.declared.Previewed.the-variants.{Drawn, Refused}
 use Rattle.preview.specs.Preview.{sum, value, bezierRow, previewRows, accepts, previewing}
 use Rattle.preview.proofs.Curve.{drawn-exact}
 use Rattle.preview.proofs.Exactly.{drawn-none, none-drawn}
 use Rattle.mirror.specs.Mirror.{Axis, across, mirrored, mirror}
 use Rattle.mirror.specs.Steps.{opposite, mirrorPreviewed}
-use Rattle.mirror.proofs.Lists.{across-cases, coordinate-mirror, length-mirrored, mirrored-tab, controlRows-mirror, judge-then}
+use Rattle.mirror.proofs.Lists.{across-cases, coordinate-mirror, length-mirrored, mirrored-tab, controlRows-mirror, judge-mirror}
 use Rattle.mirror.proofs.Doubles.{across-through, minus-dyadic}
 
 -- ---- a sum of negated records is the negated sum, where -z is written 0 - z
@@ -73,11 +71,6 @@ mirror-value axis k m controls q exact =
 mirror-rows : (axis : Axis) (s : Shape) (controls : List ℤ) (len : ℕ) → previewRows s (mirror axis controls) len ≡ previewRows s controls len
 mirror-rows axis s controls len =
     λ j. shapeRows s ++ bezierRow s ∷ (controlRows-mirror axis controls (s .count) (s .count) j ++ pointRows (pointsOf (planOf s .depth) (planOf s .spans)) len)
-
--- an accepted answer stands only where no row holds
-judge-accepted : {A : Type 0} (rows : List Row) (f : Refusal → A) (a b : A) → (NoRow rows → a ≡ b) → judge rows f a ≡ judge rows f b
-judge-accepted rows f a b same =
-    ⊎-elim (λ (v : (r : Refusal) × First rows r). judge-first rows f a (v .0) (v .1) ∙ sym (judge-first rows f b (v .0) (v .1))) (λ none. ap (judge rows f) (same none)) (verdict rows)
 
 -- ---- what is drawn where no row holds
 
@@ -124,13 +117,11 @@ module _ (axis : Axis) (s : Shape) (controls : List ℤ) (lent : List Float) whe
   pub mirror-previewing : previewing s (mirror axis controls) (mirrored opposite axis lent) ≡ mirrorPreviewed axis (previewing s controls lent)
   unfolding previewing
   mirror-previewing =
-      let rows = previewRows s controls (length lent) in
       let refused = refuses Refused (mirrored opposite axis lent) in
       let accepted = accepts (planOf s) (mirror axis controls) (mirrored opposite axis lent) in
       ap (λ (len : ℕ). judge (previewRows s (mirror axis controls) len) refused accepted) (length-mirrored opposite axis lent)
       ∙ ap (λ r. judge r refused accepted) (mirror-rows axis s controls (length lent))
-      ∙ judge-accepted rows refused accepted (mirrorPreviewed axis (accepts (planOf s) controls lent)) mirror-accepts
-      ∙ sym (judge-then (mirrorPreviewed axis) rows (refuses Refused lent) (accepts (planOf s) controls lent))
+      ∙ judge-mirror (mirrorPreviewed axis) (previewRows s controls (length lent)) (refuses Refused lent) (accepts (planOf s) controls lent) accepted mirror-accepts
 
   -- in any other list as long
   pub mirror-preview-points :

@@ -5,21 +5,19 @@ use mathlib.Core.List.{List, [], _∷_, _++_, map}
 use mathlib.Core.Logic.{⊎-elim}
 use Prim.Native.Nat.{ℕ, _+_, _*_, max}
 use lib.Dec.{eqb, ltb}
-use lib.IntN.{ℤ, negℤ, natAbs, negℤ-negℤ}
+use lib.IntN.{ℤ, negℤ, negℤ-negℤ}
 use lib.Ieee.{Float, neg}
 use lib.ListN.{length-map}
 use lib.Seq.{sets}
 use Rattle.whole.specs.Nearest.{nearest}
 use Rattle.whole.specs.Outcome.{outcome, refuses}
-use Rattle.whole.proofs.Fit.{natAbs-neg}
 use Rattle.curve.specs.Limits.{limit}
 use Rattle.curve.specs.Numbers.{equal}
 use Rattle.doubles.specs.Number.{measure, paper}
 use Rattle.doubles.specs.declared.Measure.{Measure}
 use Rattle.doubles.specs.declared.Measure.the-variants.{NotFinite, Outside, Micrometres}
 use Rattle.shape.specs.Shape.{mostRecords}
-use Rattle.shape.specs.declared.Refusal.{Refusal}
-use Rattle.shape.specs.Refusals.{Row, row, judge}
+use Rattle.shape.specs.Refusals.{row, judge}
 use Rattle.shape.proofs.Tests.{passes, true-is-not-false}
 use Rattle.drawing.specs.declared.Control.{Control}
 use Rattle.drawing.specs.declared.State.{State}
@@ -33,7 +31,7 @@ use Rattle.drawing.specs.Sequences.{Held, begin, after, drawn}
 use Rattle.drawing.proofs.Same.{is-equal, equal-is, is-unequal}
 use Rattle.mirror.specs.Mirror.{Axis, X, Y, mirrorX, mirrorY, across, mirrored, mirror}
 use Rattle.mirror.specs.Steps.{minusMeasure, mirrorStep, mirrorControl, mirrorDrawing, mirrorAnswer, mirrorStepped, mirrorHeld}
-use Rattle.mirror.proofs.Lists.{across-cases, length-mirrored, mirrored-sets, across-beyond, cond-then, judge-then}
+use Rattle.mirror.proofs.Lists.{across-cases, length-mirrored, mirrored-sets, across-beyond, judge-mirror}
 use Rattle.mirror.proofs.Doubles.{across-through, minus-measure}
 
 -- ---- controls
@@ -61,6 +59,10 @@ mirror-flat axis (c ∷ cs) = ap (λ l. mirrorX negℤ axis (c .x) ∷ mirrorY n
 mirror-last : (axis : Axis) (c : Control) (cs : List Control) → lastOf (mirrorControl axis c) (map (mirrorControl axis) cs) ≡ mirrorControl axis (lastOf c cs)
 mirror-last axis c [] = refl
 mirror-last axis c (a ∷ cs) = mirror-last axis a cs
+
+mirror-unless : (axis : Axis) (t : Bool) (cs : List Control) → cond t [] (map (mirrorControl axis) cs) ≡ map (mirrorControl axis) (cond t [] cs)
+mirror-unless axis true cs = refl
+mirror-unless axis false cs = refl
 
 -- ---- what no number is read for
 
@@ -119,8 +121,8 @@ module _ (nearest-minus : (z : ℤ) (d : ℕ) → nearest (negℤ z) d ≡ neg�
       λ k. mirror-row axis 0 0 a k ∷ mirror-row axis 1 1 b k ∷ mirror-row axis 0 2 c k ∷ mirror-row axis 1 3 d k ∷ mirror-row axis 0 4 e k ∷ mirror-row axis 1 5 f k ∷ []
   mirror-numbers axis Close = refl
 
-  mirror-at : (axis : Axis) (x y : Float) → at (mirrorX neg axis x) (mirrorY neg axis y) ≡ mirrorControl axis (at x y)
-  mirror-at axis x y =
+  mirror-control : (axis : Axis) (x y : Float) → at (mirrorX neg axis x) (mirrorY neg axis y) ≡ mirrorControl axis (at x y)
+  mirror-control axis x y =
       let meant : (q : ℕ) (v : Float) → paper (measure (across neg axis q v)) .1 ≡ across negℤ axis q (paper (measure v) .1) =
       λ q v. across-through neg negℤ (λ u. paper (measure u) .1) v (λ k. minus-number v k .1) axis q in
       λ k. record { x = meant 0 x k; y = meant 1 y k }
@@ -129,15 +131,15 @@ module _ (nearest-minus : (z : ℤ) (d : ℕ) → nearest (negℤ z) d ≡ neg�
 
   mirror-added : (axis : Axis) (s : State) (step : Step) → added (mirrorDrawing axis s) (mirrorStep axis step) ≡ map (mirrorControl axis) (added s step)
   unfolding added
-  mirror-added axis s (Move x y) = λ k. mirror-at axis x y k ∷ []
-  mirror-added axis s (Line x y) = λ k. line (mirrorControl axis (s .current)) (mirror-at axis x y k)
-  mirror-added axis s (Cubic a b c d e f) = λ k. mirror-at axis a b k ∷ mirror-at axis c d k ∷ mirror-at axis e f k ∷ []
+  mirror-added axis s (Move x y) = λ k. mirror-control axis x y k ∷ []
+  mirror-added axis s (Line x y) = λ k. line (mirrorControl axis (s .current)) (mirror-control axis x y k)
+  mirror-added axis s (Cubic a b c d e f) = λ k. mirror-control axis a b k ∷ mirror-control axis c d k ∷ mirror-control axis e f k ∷ []
   mirror-added axis s Close =
       let lined = line (s .current) (s .start) in
-      ap (λ t. cond t [] (map (mirrorControl axis) lined)) (mirror-same axis (s .current) (s .start)) ∙ sym (cond-then (map (mirrorControl axis)) (same (s .current) (s .start)) [] lined)
+      ap (λ t. cond t [] (map (mirrorControl axis) lined)) (mirror-same axis (s .current) (s .start)) ∙ mirror-unless axis (same (s .current) (s .start)) lined
 
   mirror-start : (axis : Axis) (s : State) (step : Step) → startAfter (mirrorDrawing axis s) (mirrorStep axis step) ≡ mirrorControl axis (startAfter s step)
-  mirror-start axis s (Move x y) = mirror-at axis x y
+  mirror-start axis s (Move x y) = mirror-control axis x y
   mirror-start axis s (Line x y) = refl
   mirror-start axis s (Cubic a b c d e f) = refl
   mirror-start axis s Close = refl
@@ -166,8 +168,9 @@ module _ (nearest-minus : (z : ℤ) (d : ℕ) → nearest (negℤ z) d ≡ neg�
   pub mirror-stepped : (axis : Axis) (s : State) (step : Step) (l : List ℤ) → stepped (mirrorDrawing axis s) (mirrorStep axis step) (mirror axis l) ≡ mirrorStepped axis (stepped s step l)
   unfolding stepped
   mirror-stepped axis s step l =
-      (λ k. judge (mirror-rows axis s step l k) (refuses Refused (mirror axis l)) (mirror-accepts axis s step l k))
-      ∙ sym (judge-then (mirrorStepped axis) (rows s step l) (refuses Refused l) (accepts s step l))
+      let accepted = accepts (mirrorDrawing axis s) (mirrorStep axis step) (mirror axis l) in
+      ap (λ r. judge r (refuses Refused (mirror axis l)) accepted) (mirror-rows axis s step l)
+      ∙ judge-mirror (mirrorStepped axis) (rows s step l) (refuses Refused l) (accepts s step l) accepted (λ none. mirror-accepts axis s step l)
 
   -- ---- steps one after another
 
