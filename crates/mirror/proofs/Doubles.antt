@@ -13,6 +13,7 @@ use lib.Ieee.{Float, nan, inf, fin, Format, binary64, prec, emax, low, up, down,
 use lib.Ieee.Fits.{up-pos, down-pos}
 use Rattle.whole.specs.Nearest as whole
 use Rattle.whole.proofs.Fit.{natAbs-neg, natAbs-mul}
+use Rattle.whole.proofs.Nearest.{nearest-minus}
 use Rattle.curve.specs.Limits.{limit}
 use Rattle.doubles.specs.Exact.{signed, dyadic, Value}
 use Rattle.doubles.specs.Number.{thousand, within, measure}
@@ -49,14 +50,13 @@ minus-within : (n : ℤ) → within (negℤ n) ≡ minusMeasure (within n)
 unfolding within
 minus-within n = ap (λ m. cond (leb m limit) (Micrometres (negℤ n)) Outside) (natAbs-neg n) ∙ minus-choice (leb (natAbs n) limit) n
 
-module _ (nearest-minus : (z : ℤ) (d : ℕ) → whole.nearest (negℤ z) d ≡ negℤ (whole.nearest z d)) where
-  pub minus-measure : (x : Float) → measure (neg x) ≡ minusMeasure (measure x)
-  unfolding measure neg
-  minus-measure nan = refl
-  minus-measure (inf s) = refl
-  minus-measure (fin s m e) =
-      let z = signed s (m * up e * thousand) in
-      ap (λ y. within (whole.nearest y (down e))) (minus-signed s (m * up e * thousand)) ∙ ap within (nearest-minus z (down e)) ∙ minus-within (whole.nearest z (down e))
+pub minus-measure : (x : Float) → measure (neg x) ≡ minusMeasure (measure x)
+unfolding measure neg
+minus-measure nan = refl
+minus-measure (inf s) = refl
+minus-measure (fin s m e) =
+    let z = signed s (m * up e * thousand) in
+    ap (λ y. within (whole.nearest y (down e))) (minus-signed s (m * up e * thousand)) ∙ ap within (nearest-minus z (down e)) ∙ minus-within (whole.nearest z (down e))
 
 -- ---- an exact double
 

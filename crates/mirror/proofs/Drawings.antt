@@ -4,7 +4,6 @@ use mathlib.Core.List.{List, _++_}
 use Prim.Native.Nat.{ℕ, _*_, _<_}
 use lib.IntN.{ℤ, pos, negℤ}
 use lib.ListN.{getD, length}
-use Rattle.whole.specs.Nearest.{nearest}
 use Rattle.whole.specs.Outcome.{Outcome, outcome, refuses}
 use Rattle.shape.specs.declared.Shape.{Shape}
 use Rattle.shape.specs.Refusals.{NoRow, judge, shapeRows, pointRows, planOf}
@@ -30,7 +29,7 @@ drawRows-other axis s controls lent other long =
 pub drawRows-mirror : (axis : Axis) (s : Shape) (controls lent : List ℤ) → drawRows s (mirror axis controls) (mirror axis lent) ≡ drawRows s controls lent
 drawRows-mirror axis s controls lent = drawRows-other axis s controls lent (mirror axis lent) (length-mirrored negℤ axis lent)
 
-module _ (nearest-minus : (z : ℤ) (d : ℕ) → nearest (negℤ z) d ≡ negℤ (nearest z d)) (axis : Axis) where
+module _ (axis : Axis) where
   -- ---- the mirrored drawing
 
   pub mirror-draws : (s : Shape) (controls lent : List ℤ) → draws s (mirror axis controls) (mirror axis lent) ≡ mirrorDrawn axis (draws s controls lent)
@@ -40,7 +39,7 @@ module _ (nearest-minus : (z : ℤ) (d : ℕ) → nearest (negℤ z) d ≡ neg�
       let there = accepts p (mirror axis controls) (mirror axis lent) in
       ap (λ rows. judge rows (refuses Refused (mirror axis lent)) there) (drawRows-mirror axis s controls lent)
       ∙ judge-mirror (mirrorDrawn axis) (drawRows s controls lent) (refuses Refused lent) (accepts p controls lent) there
-      (λ _. ap (outcome (Points (points p))) (mirrored-rule negℤ axis lent (number p controls) (number p (mirror axis controls)) 0 (2 * points p) (number-mirror nearest-minus axis p controls)))
+      (λ _. ap (outcome (Points (points p))) (mirrored-rule negℤ axis lent (number p controls) (number p (mirror axis controls)) 0 (2 * points p) (number-mirror axis p controls)))
 
   -- ---- in any other list as long
 
@@ -62,7 +61,7 @@ module _ (nearest-minus : (z : ℤ) (d : ℕ) → nearest (negℤ z) d ≡ neg�
         λ q h.
             let h′ : q < 2 * points p = subst (λ m. q < 2 * m) (sym count) h in
             held-number s (mirror axis controls) other (points p) (drawn p (mirror axis controls) other) there q h′
-            ∙ number-mirror nearest-minus axis p controls q
+            ∙ number-mirror axis p controls q
             ∙ ap (across negℤ axis q) (sym (held-number s controls lent n held answered q h′)),
       )
     where

@@ -11,7 +11,6 @@ use lib.Dec.{ltb, eqb}
 use lib.IntN.{ℤ, pos, negℤ}
 use lib.ListN.{getD}
 use lib.Pow.{pow-pos}
-use Rattle.whole.specs.Nearest.{nearest}
 use Rattle.whole.specs.Outcome.{outcome, refuses}
 use Rattle.curve.specs.declared.Basis.{Basis}
 use Rattle.curve.specs.Limits.{limit}
@@ -120,7 +119,6 @@ module _ (axis : Axis) where
       ap (λ (n : ℕ). filled (controlAt (mirrorEdit axis e) j (mirror axis controls)) 0 (2 * n) (mirror axis controls)) (λ i. same-shape e s i .count)
       ∙ mirrored-rule negℤ axis controls (controlAt e j controls) (controlAt (mirrorEdit axis e) j (mirror axis controls)) 0 (2 * countAfter e (s .count)) (control-mirror e j controls)
 
-module _ (nearest-minus : (z : ℤ) (d : ℕ) → nearest (negℤ z) d ≡ negℤ (nearest z d)) (axis : Axis) where
   -- ---- the points
 
   point-mirror : (e : Edit) (p : Plan) (j : ℕ) (controls lent : List ℤ) → 1 ≤ p .spans
@@ -131,11 +129,11 @@ module _ (nearest-minus : (z : ℤ) (d : ℕ) → nearest (negℤ z) d ≡ neg�
       let w = perSpan k in
       let before = ltb (min (q / w) (p .spans - 1)) j in
       (λ i.
-      cond (isFresh (same-run axis e p j i) k q) (number p (mirror axis controls) q)
-      (cond before (getD (mirror axis lent) q (pos 0)) (getD (mirror axis lent) (same-carried axis e w q i) (pos 0))))
-      ∙ cond-mirror axis q (isFresh (runOf e p j) k q) _ _ _ _ (λ _. number-mirror nearest-minus axis p controls q)
+      cond (isFresh (same-run e p j i) k q) (number p (mirror axis controls) q)
+      (cond before (getD (mirror axis lent) q (pos 0)) (getD (mirror axis lent) (same-carried e w q i) (pos 0))))
+      ∙ cond-mirror q (isFresh (runOf e p j) k q) _ _ _ _ (λ _. number-mirror axis p controls q)
       (λ stale.
-      cond-mirror axis q before _ _ _ _ (λ _. mirror-at axis lent q q refl) (λ from. mirror-at axis lent (carriedFrom e w q) q (carried-axis e p j q some stale from)))
+      cond-mirror q before _ _ _ _ (λ _. mirror-at axis lent q q refl) (λ from. mirror-at axis lent (carriedFrom e w q) q (carried-axis e p j q some stale from)))
 
   -- ---- the mirrored edit
 
@@ -145,10 +143,10 @@ module _ (nearest-minus : (z : ℤ) (d : ℕ) → nearest (negℤ z) d ≡ neg�
   accepts-mirror e s j controls lent some =
       let p = planOf (shapeAfter e s) in
       let new = controlsAfter e s j controls in
-      ap (λ r. accepts (mirrorEdit axis e) s (planOf r) j (mirror axis controls) (mirror axis lent)) (same-shape axis e s)
+      ap (λ r. accepts (mirrorEdit axis e) s (planOf r) j (mirror axis controls) (mirror axis lent)) (same-shape e s)
       ∙ (λ i.
-      outcome (Done (record { shape = same-shape axis e s i; first = same-run axis e p j i .first; fresh = same-run axis e p j i .count }))
-      (controls-mirror axis e s j controls i, filled (pointAt (mirrorEdit axis e) p j (controls-mirror axis e s j controls i) (mirror axis lent)) 0 (2 * points p) (mirror axis lent)))
+      outcome (Done (record { shape = same-shape e s i; first = same-run e p j i .first; fresh = same-run e p j i .count }))
+      (controls-mirror e s j controls i, filled (pointAt (mirrorEdit axis e) p j (controls-mirror e s j controls i) (mirror axis lent)) 0 (2 * points p) (mirror axis lent)))
       ∙ ap (λ l. outcome (Done (change e s p j)) (mirror axis new, l))
       (mirrored-rule negℤ axis lent (pointAt e p j new lent) (pointAt (mirrorEdit axis e) p j (mirror axis new) (mirror axis lent)) 0 (2 * points p) (point-mirror e p j new lent some))
 
@@ -158,6 +156,6 @@ module _ (nearest-minus : (z : ℤ) (d : ℕ) → nearest (negℤ z) d ≡ neg�
   unfolding edits
   mirror-edits e s j controls lent =
       let there = accepts (mirrorEdit axis e) s (planOf (shapeAfter (mirrorEdit axis e) s)) j (mirror axis controls) (mirror axis lent) in
-      ap (λ rows. judge rows (refuses Refused (mirror axis controls, mirror axis lent)) there) (editRows-mirror axis e s j controls lent)
+      ap (λ rows. judge rows (refuses Refused (mirror axis controls, mirror axis lent)) there) (editRows-mirror e s j controls lent)
       ∙ judge-mirror (mirrorEdited axis) (callRows e s j controls lent) (refuses Refused (controls, lent)) (accepts e s (planOf (shapeAfter e s)) j controls lent) there
       (λ none. accepts-mirror e s j controls lent (good-then e s j controls lent none .spans-least))

@@ -7,9 +7,10 @@ use mathlib.Core.List.{List, [], _∷_}
 use Prim.Native.Nat.{ℕ, zero, suc, _+_, _*_, _%_}
 use native.Mathlib.Omega.{arith}
 use lib.Dec.{ltb, eqb}
-use lib.IntN.{ℤ, pos, negsuc, negℤ, natAbs}
+use lib.IntN.{ℤ, pos, negℤ, natAbs}
 use lib.ListN.{length, getD, set}
 use lib.Seq.{sets}
+use Rattle.whole.proofs.Fit.{natAbs-neg}
 use Rattle.curve.specs.Tab.{tab}
 use Rattle.curve.specs.Limits.{limit, beyond}
 use Rattle.curve.specs.Span.{coordinate}
@@ -106,15 +107,10 @@ module _ {A : Type 0} (minus : A → A) (axis : Axis) where
 
 -- ---- controls: their coordinates, and the rows that look at them
 
-natAbs-minus : (z : ℤ) → natAbs (negℤ z) ≡ natAbs z
-natAbs-minus (pos zero) = refl
-natAbs-minus (pos (suc n)) = refl
-natAbs-minus (negsuc n) = refl
-
 module _ (axis : Axis) where
   -- a number in the mirror is as far from zero
   pub across-beyond : (q n : ℕ) (z : ℤ) → beyond n (across negℤ axis q z) ≡ beyond n z
-  across-beyond q n z = ap (ltb n) (across-cases negℤ axis (λ g. natAbs (g z) ≡ natAbs z) refl (natAbs-minus z) q)
+  across-beyond q n z = ap (ltb n) (across-cases negℤ axis (λ g. natAbs (g z) ≡ natAbs z) refl (natAbs-neg z) q)
 
   -- number i of a list, where q is on the same axis
   pub mirror-at : (l : List ℤ) (i q : ℕ) → i % 2 ≡ q % 2 → getD (mirror axis l) i (pos 0) ≡ across negℤ axis q (getD l i (pos 0))

@@ -6,20 +6,15 @@ use Prim.Native.Nat.{ℕ, _+_, _*_, _-_, _/_, _%_, _^_, min, _<_}
 use native.Mathlib.Nat.{zero-add}
 use native.Mathlib.Omega.{arith}
 use borrow.Author.Tests.{ltb-false}
-use lib.IntN.{ℤ, pos, negℤ, _-ℤ_, +ℤ-idl}
+use lib.IntN.{ℤ, pos, negℤ}
 use lib.Ieee.{Float, nan}
 use lib.ListN.{length, getD}
 use lib.Seq.{sets}
 use Rattle.whole.specs.Outcome.{outcome, refuses}
-use Rattle.whole.proofs.Ring.{_⊖_, solve}
-use Rattle.curve.specs.declared.Four.{Four}
 use Rattle.curve.specs.declared.Basis.the-variants.{Bezier}
-use Rattle.curve.specs.Four.{four, dot}
-use Rattle.curve.specs.Published.{weights}
 use Rattle.curve.specs.Span.{coordinate, recordsFrom, records, weighted}
 use Rattle.curve.specs.Tab.{tab}
 use Rattle.curve.proofs.Fills.{in-sets}
-use Rattle.curve.proofs.Reflect.{fourᵉ, num, p, i, h, values, weightedᵉ}
 use Rattle.curve.proofs.Tab.{length-tab, getD-tab, tab-same}
 use Rattle.doubles.specs.Exact.{dyadic, Value}
 use Rattle.shape.specs.declared.Shape.{Shape}
@@ -33,18 +28,10 @@ use Rattle.preview.proofs.Exactly.{drawn-none, none-drawn}
 use Rattle.mirror.specs.Mirror.{Axis, across, mirrored, mirror}
 use Rattle.mirror.specs.Steps.{opposite, mirrorPreviewed}
 use Rattle.mirror.proofs.Lists.{across-cases, coordinate-mirror, length-mirrored, mirrored-tab, controlRows-mirror, judge-mirror}
+use Rattle.mirror.proofs.Points.{plain-minus}
 use Rattle.mirror.proofs.Doubles.{across-through, minus-dyadic}
 
--- ---- a sum of negated records is the negated sum, where -z is written 0 - z
-
-from-zero : (q : Four) (x y : ℤ) → weighted (four (pos 0 -ℤ q .a) (pos 0 -ℤ q .b) (pos 0 -ℤ q .c) (pos 0 -ℤ q .d)) x y ≡ pos 0 -ℤ weighted q x y
-unfolding weighted weights dot
-from-zero q x y = solve (values q x y) (weightedᵉ (fourᵉ (num 0 ⊖ p .a) (num 0 ⊖ p .b) (num 0 ⊖ p .c) (num 0 ⊖ p .d)) i h) (num 0 ⊖ weightedᵉ p i h) tt
-
-minus-weighted : (q : Four) (x y : ℤ) → weighted (four (negℤ (q .a)) (negℤ (q .b)) (negℤ (q .c)) (negℤ (q .d))) x y ≡ negℤ (weighted q x y)
-minus-weighted q x y =
-    let minus : (z : ℤ) → negℤ z ≡ pos 0 -ℤ z = λ z. sym (+ℤ-idl (negℤ z)) in
-    (λ j. weighted (four (minus (q .a) j) (minus (q .b) j) (minus (q .c) j) (minus (q .d) j)) x y) ∙ from-zero q x y ∙ sym (minus (weighted q x y))
+-- ---- a sum, and its double
 
 mirror-sum : (axis : Axis) (k m : ℕ) (controls : List ℤ) (q : ℕ) → sum k m (mirror axis controls) q ≡ across negℤ axis q (sum k m controls q)
 unfolding sum recordsFrom
@@ -55,7 +42,7 @@ mirror-sum axis k m controls q =
     (λ j. weighted (records Bezier s (λ r. coordinate-mirror axis controls q r j)) step (pos (2 ^ k)))
     ∙ across-cases negℤ axis (λ g. weighted (records Bezier s (λ r. g (at r))) step (pos (2 ^ k)) ≡ g (weighted (records Bezier s at) step (pos (2 ^ k))))
     refl
-    (minus-weighted (records Bezier s at) step (pos (2 ^ k)))
+    (plain-minus (records Bezier s at) step (pos (2 ^ k)))
     q
 
 -- an exact value in the mirror

@@ -1,19 +1,16 @@
 -- Edits one after another, on a mirrored state and with their new records mirrored, leave the mirrored state.
 use mathlib.Core.Path.{_≡_, refl, sym, ap, _∙_}
 use mathlib.Core.List.{List, [], _∷_, map}
-use Prim.Native.Nat.{ℕ}
-use lib.IntN.{ℤ, negℤ}
-use Rattle.whole.specs.Nearest.{nearest}
 use Rattle.sequences.specs.Played.{State, Call, stateThen, called, played}
 use Rattle.sequences.specs.Calls.{Ends}
 use Rattle.sequences.proofs.Calls.{ends-played}
 use Rattle.mirror.specs.Mirror.{Axis, mirrorState, mirrorCall}
 use Rattle.mirror.proofs.Edits.{mirror-edits}
 
-module _ (nearest-minus : (z : ℤ) (d : ℕ) → nearest (negℤ z) d ≡ negℤ (nearest z d)) (axis : Axis) where
+module _ (axis : Axis) where
   pub mirror-called : (t : State) (c : Call) → called (mirrorState axis t) (mirrorCall axis c) ≡ mirrorState axis (called t c)
   unfolding called
-  mirror-called t c = ap (stateThen (t .shape)) (mirror-edits nearest-minus axis (c .edit) (t .shape) (c .place) (t .controls) (t .held))
+  mirror-called t c = ap (stateThen (t .shape)) (mirror-edits axis (c .edit) (t .shape) (c .place) (t .controls) (t .held))
 
   pub mirror-played : (t : State) (calls : List Call) → played (mirrorState axis t) (map (mirrorCall axis) calls) ≡ mirrorState axis (played t calls)
   unfolding played

@@ -9,7 +9,6 @@ use lib.IntN.{ℤ, negℤ, negℤ-negℤ}
 use lib.Ieee.{Float, neg}
 use lib.ListN.{length-map}
 use lib.Seq.{sets}
-use Rattle.whole.specs.Nearest.{nearest}
 use Rattle.whole.specs.Outcome.{outcome, refuses}
 use Rattle.curve.specs.Limits.{limit}
 use Rattle.curve.specs.Numbers.{equal}
@@ -107,84 +106,83 @@ minus-paper NotFinite = refl
 minus-paper Outside = refl
 minus-paper (Micrometres n) = refl
 
-module _ (nearest-minus : (z : ℤ) (d : ℕ) → nearest (negℤ z) d ≡ negℤ (nearest z d)) where
-  minus-number : (x : Float) → paper (measure (neg x)) ≡ (paper (measure x) .0, negℤ (paper (measure x) .1))
-  minus-number x = ap paper (minus-measure nearest-minus x) ∙ minus-paper (measure x)
+minus-number : (x : Float) → paper (measure (neg x)) ≡ (paper (measure x) .0, negℤ (paper (measure x) .1))
+minus-number x = ap paper (minus-measure x) ∙ minus-paper (measure x)
 
-  mirror-row : (axis : Axis) (q i : ℕ) (x : Float) → numberRow i (across neg axis q x) ≡ numberRow i x
-  mirror-row axis q i x = across-cases neg axis (λ g. numberRow i (g x) ≡ numberRow i x) refl (λ k. row (ltb 0 (minus-number x k .0)) (minus-number x k .0) i) q
+mirror-row : (axis : Axis) (q i : ℕ) (x : Float) → numberRow i (across neg axis q x) ≡ numberRow i x
+mirror-row axis q i x = across-cases neg axis (λ g. numberRow i (g x) ≡ numberRow i x) refl (λ k. row (ltb 0 (minus-number x k .0)) (minus-number x k .0) i) q
 
-  mirror-numbers : (axis : Axis) (step : Step) → numberRows 0 (numbers (mirrorStep axis step)) ≡ numberRows 0 (numbers step)
-  mirror-numbers axis (Move x y) = λ k. mirror-row axis 0 0 x k ∷ mirror-row axis 1 1 y k ∷ []
-  mirror-numbers axis (Line x y) = λ k. mirror-row axis 0 0 x k ∷ mirror-row axis 1 1 y k ∷ []
-  mirror-numbers axis (Cubic a b c d e f) =
-      λ k. mirror-row axis 0 0 a k ∷ mirror-row axis 1 1 b k ∷ mirror-row axis 0 2 c k ∷ mirror-row axis 1 3 d k ∷ mirror-row axis 0 4 e k ∷ mirror-row axis 1 5 f k ∷ []
-  mirror-numbers axis Close = refl
+mirror-numbers : (axis : Axis) (step : Step) → numberRows 0 (numbers (mirrorStep axis step)) ≡ numberRows 0 (numbers step)
+mirror-numbers axis (Move x y) = λ k. mirror-row axis 0 0 x k ∷ mirror-row axis 1 1 y k ∷ []
+mirror-numbers axis (Line x y) = λ k. mirror-row axis 0 0 x k ∷ mirror-row axis 1 1 y k ∷ []
+mirror-numbers axis (Cubic a b c d e f) =
+    λ k. mirror-row axis 0 0 a k ∷ mirror-row axis 1 1 b k ∷ mirror-row axis 0 2 c k ∷ mirror-row axis 1 3 d k ∷ mirror-row axis 0 4 e k ∷ mirror-row axis 1 5 f k ∷ []
+mirror-numbers axis Close = refl
 
-  mirror-control : (axis : Axis) (x y : Float) → at (mirrorX neg axis x) (mirrorY neg axis y) ≡ mirrorControl axis (at x y)
-  mirror-control axis x y =
-      let meant : (q : ℕ) (v : Float) → paper (measure (across neg axis q v)) .1 ≡ across negℤ axis q (paper (measure v) .1) =
-      λ q v. across-through neg negℤ (λ u. paper (measure u) .1) v (λ k. minus-number v k .1) axis q in
-      λ k. record { x = meant 0 x k; y = meant 1 y k }
+mirror-control : (axis : Axis) (x y : Float) → at (mirrorX neg axis x) (mirrorY neg axis y) ≡ mirrorControl axis (at x y)
+mirror-control axis x y =
+    let meant : (q : ℕ) (v : Float) → paper (measure (across neg axis q v)) .1 ≡ across negℤ axis q (paper (measure v) .1) =
+    λ q v. across-through neg negℤ (λ u. paper (measure u) .1) v (λ k. minus-number v k .1) axis q in
+    λ k. record { x = meant 0 x k; y = meant 1 y k }
 
-  -- ---- a step
+-- ---- a step
 
-  mirror-added : (axis : Axis) (s : State) (step : Step) → added (mirrorDrawing axis s) (mirrorStep axis step) ≡ map (mirrorControl axis) (added s step)
-  unfolding added
-  mirror-added axis s (Move x y) = λ k. mirror-control axis x y k ∷ []
-  mirror-added axis s (Line x y) = λ k. line (mirrorControl axis (s .current)) (mirror-control axis x y k)
-  mirror-added axis s (Cubic a b c d e f) = λ k. mirror-control axis a b k ∷ mirror-control axis c d k ∷ mirror-control axis e f k ∷ []
-  mirror-added axis s Close =
-      let lined = line (s .current) (s .start) in
-      ap (λ t. cond t [] (map (mirrorControl axis) lined)) (mirror-same axis (s .current) (s .start)) ∙ mirror-unless axis (same (s .current) (s .start)) lined
+mirror-added : (axis : Axis) (s : State) (step : Step) → added (mirrorDrawing axis s) (mirrorStep axis step) ≡ map (mirrorControl axis) (added s step)
+unfolding added
+mirror-added axis s (Move x y) = λ k. mirror-control axis x y k ∷ []
+mirror-added axis s (Line x y) = λ k. line (mirrorControl axis (s .current)) (mirror-control axis x y k)
+mirror-added axis s (Cubic a b c d e f) = λ k. mirror-control axis a b k ∷ mirror-control axis c d k ∷ mirror-control axis e f k ∷ []
+mirror-added axis s Close =
+    let lined = line (s .current) (s .start) in
+    ap (λ t. cond t [] (map (mirrorControl axis) lined)) (mirror-same axis (s .current) (s .start)) ∙ mirror-unless axis (same (s .current) (s .start)) lined
 
-  mirror-start : (axis : Axis) (s : State) (step : Step) → startAfter (mirrorDrawing axis s) (mirrorStep axis step) ≡ mirrorControl axis (startAfter s step)
-  mirror-start axis s (Move x y) = mirror-control axis x y
-  mirror-start axis s (Line x y) = refl
-  mirror-start axis s (Cubic a b c d e f) = refl
-  mirror-start axis s Close = refl
+mirror-start : (axis : Axis) (s : State) (step : Step) → startAfter (mirrorDrawing axis s) (mirrorStep axis step) ≡ mirrorControl axis (startAfter s step)
+mirror-start axis s (Move x y) = mirror-control axis x y
+mirror-start axis s (Line x y) = refl
+mirror-start axis s (Cubic a b c d e f) = refl
+mirror-start axis s Close = refl
 
-  mirror-next : (axis : Axis) (s : State) (step : Step) → next (mirrorDrawing axis s) (mirrorStep axis step) ≡ mirrorDrawing axis (next s step)
-  mirror-next axis s step =
-      (λ k. grown (mirrorDrawing axis s) (mirror-added axis s step k) (mirror-start axis s step k) (mirror-closed axis s step k))
-      ∙ (λ k.
-      record {
-        count = s .count + length-map (added s step) (mirrorControl axis) k;
-        start = mirrorControl axis (startAfter s step);
-        current = mirror-last axis (s .current) (added s step) k;
-        closed = closedAfter s step;
-      })
+mirror-next : (axis : Axis) (s : State) (step : Step) → next (mirrorDrawing axis s) (mirrorStep axis step) ≡ mirrorDrawing axis (next s step)
+mirror-next axis s step =
+    (λ k. grown (mirrorDrawing axis s) (mirror-added axis s step k) (mirror-start axis s step k) (mirror-closed axis s step k))
+    ∙ (λ k.
+    record {
+      count = s .count + length-map (added s step) (mirrorControl axis) k;
+      start = mirrorControl axis (startAfter s step);
+      current = mirror-last axis (s .current) (added s step) k;
+      closed = closedAfter s step;
+    })
 
-  mirror-rows : (axis : Axis) (s : State) (step : Step) (l : List ℤ) → rows (mirrorDrawing axis s) (mirrorStep axis step) (mirror axis l) ≡ rows s step l
-  mirror-rows axis s step l = λ k. mirror-state-rows axis s step k ++ mirror-numbers axis step k ++ mirror-space-rows axis (s .count) (mirror-next axis s step k .count) l k
+mirror-rows : (axis : Axis) (s : State) (step : Step) (l : List ℤ) → rows (mirrorDrawing axis s) (mirrorStep axis step) (mirror axis l) ≡ rows s step l
+mirror-rows axis s step l = λ k. mirror-state-rows axis s step k ++ mirror-numbers axis step k ++ mirror-space-rows axis (s .count) (mirror-next axis s step k .count) l k
 
-  mirror-accepts : (axis : Axis) (s : State) (step : Step) (l : List ℤ) → accepts (mirrorDrawing axis s) (mirrorStep axis step) (mirror axis l) ≡ mirrorStepped axis (accepts s step l)
-  mirror-accepts axis s step l =
-      let records = ap flat (mirror-added axis s step) ∙ mirror-flat axis (added s step) in
-      let written = ap (sets (mirror axis l) (2 * s .count)) records ∙ sym (mirrored-sets negℤ axis l (s .count) (flat (added s step))) in
-      λ k. outcome (Next (mirror-next axis s step k)) (written k)
+mirror-accepts : (axis : Axis) (s : State) (step : Step) (l : List ℤ) → accepts (mirrorDrawing axis s) (mirrorStep axis step) (mirror axis l) ≡ mirrorStepped axis (accepts s step l)
+mirror-accepts axis s step l =
+    let records = ap flat (mirror-added axis s step) ∙ mirror-flat axis (added s step) in
+    let written = ap (sets (mirror axis l) (2 * s .count)) records ∙ sym (mirrored-sets negℤ axis l (s .count) (flat (added s step))) in
+    λ k. outcome (Next (mirror-next axis s step k)) (written k)
 
-  -- for every state, step and list, refusals too
-  pub mirror-stepped : (axis : Axis) (s : State) (step : Step) (l : List ℤ) → stepped (mirrorDrawing axis s) (mirrorStep axis step) (mirror axis l) ≡ mirrorStepped axis (stepped s step l)
-  unfolding stepped
-  mirror-stepped axis s step l =
-      let accepted = accepts (mirrorDrawing axis s) (mirrorStep axis step) (mirror axis l) in
-      ap (λ r. judge r (refuses Refused (mirror axis l)) accepted) (mirror-rows axis s step l)
-      ∙ judge-mirror (mirrorStepped axis) (rows s step l) (refuses Refused l) (accepts s step l) accepted (λ none. mirror-accepts axis s step l)
+-- for every state, step and list, refusals too
+pub mirror-stepped : (axis : Axis) (s : State) (step : Step) (l : List ℤ) → stepped (mirrorDrawing axis s) (mirrorStep axis step) (mirror axis l) ≡ mirrorStepped axis (stepped s step l)
+unfolding stepped
+mirror-stepped axis s step l =
+    let accepted = accepts (mirrorDrawing axis s) (mirrorStep axis step) (mirror axis l) in
+    ap (λ r. judge r (refuses Refused (mirror axis l)) accepted) (mirror-rows axis s step l)
+    ∙ judge-mirror (mirrorStepped axis) (rows s step l) (refuses Refused l) (accepts s step l) accepted (λ none. mirror-accepts axis s step l)
 
-  -- ---- steps one after another
+-- ---- steps one after another
 
-  mirror-after : (axis : Axis) (h : Held) (step : Step) → after (mirrorHeld axis h) (mirrorStep axis step) ≡ mirrorHeld axis (after h step)
-  mirror-after axis h step =
-      let out = stepped (h .state) step (h .controls) in
-      ap (λ o. record { state = stateAfter (mirrorDrawing axis (h .state)) (o .answer); controls = o .held }) (mirror-stepped axis (h .state) step (h .controls))
-      ∙ (λ k. record { state = mirror-state-after axis (h .state) (out .answer) k; controls = mirror axis (out .held) })
+mirror-after : (axis : Axis) (h : Held) (step : Step) → after (mirrorHeld axis h) (mirrorStep axis step) ≡ mirrorHeld axis (after h step)
+mirror-after axis h step =
+    let out = stepped (h .state) step (h .controls) in
+    ap (λ o. record { state = stateAfter (mirrorDrawing axis (h .state)) (o .answer); controls = o .held }) (mirror-stepped axis (h .state) step (h .controls))
+    ∙ (λ k. record { state = mirror-state-after axis (h .state) (out .answer) k; controls = mirror axis (out .held) })
 
-  pub mirror-drawn : (axis : Axis) (h : Held) (steps : List Step) → drawn (mirrorHeld axis h) (map (mirrorStep axis) steps) ≡ mirrorHeld axis (drawn h steps)
-  unfolding drawn
-  mirror-drawn axis h [] = refl
-  mirror-drawn axis h (step ∷ steps) = ap (λ g. drawn g (map (mirrorStep axis) steps)) (mirror-after axis h step) ∙ mirror-drawn axis (after h step) steps
+pub mirror-drawn : (axis : Axis) (h : Held) (steps : List Step) → drawn (mirrorHeld axis h) (map (mirrorStep axis) steps) ≡ mirrorHeld axis (drawn h steps)
+unfolding drawn
+mirror-drawn axis h [] = refl
+mirror-drawn axis h (step ∷ steps) = ap (λ g. drawn g (map (mirrorStep axis) steps)) (mirror-after axis h step) ∙ mirror-drawn axis (after h step) steps
 
-  -- from the empty state, whatever the list of controls and the steps
-  pub mirror-begun : (axis : Axis) (l : List ℤ) (steps : List Step) → drawn (begin (mirror axis l)) (map (mirrorStep axis) steps) ≡ mirrorHeld axis (drawn (begin l) steps)
-  mirror-begun axis l steps = ap (λ h. drawn h (map (mirrorStep axis) steps)) (mirror-begin axis l) ∙ mirror-drawn axis (begin l) steps
+-- from the empty state, whatever the list of controls and the steps
+pub mirror-begun : (axis : Axis) (l : List ℤ) (steps : List Step) → drawn (begin (mirror axis l)) (map (mirrorStep axis) steps) ≡ mirrorHeld axis (drawn (begin l) steps)
+mirror-begun axis l steps = ap (λ h. drawn h (map (mirrorStep axis) steps)) (mirror-begin axis l) ∙ mirror-drawn axis (begin l) steps

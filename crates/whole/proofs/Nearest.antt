@@ -4,13 +4,13 @@ use mathlib.Core.List.{[], _∷_}
 use mathlib.Core.Logic.{_⊎_, inl, inr}
 use Prim.Native.Nat.{ℕ, zero, suc, _+_, _*_, _-_, _≤_, _<_}
 use native.Mathlib.Omega.{arith}
-use native.Mathlib.Nat.{div-eq-of-lt, zero-div, mul-zero, mul-suc, eq-or-lt-of-le}
+use native.Mathlib.Nat.{div-eq-of-lt, zero-div, mul-suc, eq-or-lt-of-le}
 use lib.Dec.{T, leb→le}
-use lib.IntN.{ℤ, pos, negsuc, negℤ, natAbs, _+ℤ_, _-ℤ_, _*ℤ_, negℤ-negℤ, *ℤ-zero}
+use lib.IntN.{ℤ, pos, negsuc, negℤ, natAbs, _+ℤ_, _-ℤ_, _*ℤ_, negℤ-negℤ}
 use lib.Signed.{_≤ℤ_, leZ}
 use Rattle.whole.specs.Nearest.{halfUp, nearest, Rounded}
 use Rattle.whole.proofs.Ring.{var, lit, _⊕_, _⊖_, _⊗_, solve, minus}
-use Rattle.whole.proofs.Order.{subℕ-ind, le-of, ≤ℤ-pos, size-above, size-below, size-between}
+use Rattle.whole.proofs.Order.{subℕ-ind, le-of, ≤ℤ-pos}
 use Rattle.whole.proofs.Fit.{natAbs-neg}
 use Rattle.whole.proofs.HalfUp.{half-low, half-high, half-unique, half-scale, half-whole, half-mono}
 

@@ -1,5 +1,5 @@
 -- The digits times a thousand stay below 2^63; then the size rounded and the sign put back, by their own contracts.
-use mathlib.Core.Path.{_≡_, sym, ap, _∙_}
+use mathlib.Core.Path.{sym, ap, _∙_}
 use Prim.Native.Nat.{ℕ, _*_, _^_}
 use borrow.Author.Needs.{needs}
 use Rattle.doubles.specs.Exact.{signed}
