@@ -9,6 +9,8 @@ pub mod Sequences
 pub mod View
 pub mod Preview
 pub mod Drawing
+-- Left and right doors (document 02, request 1):
+pub mod Mirror
 -- Record file, and its listing:
 pub mod Listings
 -- Refusal numbers:

@@ -42,11 +42,6 @@ natAbs-mul (pos a) (negsuc b) = natAbs-neg (pos (a * suc b))
 natAbs-mul (negsuc a) (pos b) = natAbs-neg (pos (suc a * b))
 natAbs-mul (negsuc a) (negsuc b) = refl
 
--- a natural number more adds at most itself to the magnitude
-pub mag-add-pos : (z : ℤ) (n : ℕ) → mag (z +ℤ pos n) ≤ mag z + n
-mag-add-pos (pos a) n = le-refl (a + n)
-mag-add-pos (negsuc a) n = subℕ-ind n (suc a) (λ z. mag z ≤ a + n) (λ m e. omega arith) (λ m e. omega arith)
-
 abbrev pub lookN : List ℕ → ℕ → ℕ
 lookN [] n = 0
 lookN (x ∷ r) zero = x

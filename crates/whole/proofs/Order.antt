@@ -2,12 +2,12 @@
 use mathlib.Core.Path.{_≡_, refl, sym, ap, _∙_, subst}
 use mathlib.Core.Bool.{true, false}
 use mathlib.Core.List.{[], _∷_}
-use Prim.Native.Nat.{ℕ, zero, suc, _+_, _*_, _-_, _≤_, _<_}
+use Prim.Native.Nat.{ℕ, suc, _+_, _*_, _-_, _≤_, _<_}
 use native.Mathlib.Omega.{arith}
 use borrow.Author.Tests.{ltb-true}
-use lib.Dec.{T, ltb, leb→le, le→leb, ltb→lt, lt→ltb, nltb→le}
-use lib.IntN.{ℤ, pos, negsuc, negℤ, subℕ, natAbs, _+ℤ_, _*ℤ_}
-use lib.Signed.{_≤ℤ_, _<ℤ_, leZ, ltZ}
+use lib.Dec.{T, ltb, leb→le, le→leb, ltb→lt, nltb→le}
+use lib.IntN.{ℤ, pos, negsuc, subℕ, natAbs, _+ℤ_, _*ℤ_}
+use lib.Signed.{_≤ℤ_, leZ, ltZ}
 use Rattle.whole.proofs.Ring.{var, _⊕_, _⊗_, solve, cond-ind}
 
 pub pos-injective : {m n : ℕ} → pos m ≡ pos n → m ≡ n
@@ -60,26 +60,6 @@ le-more (negsuc x) n = subℕ-ind n (suc x) (λ z. T (leZ (negsuc x) z)) (λ m e
 pub le-of : (n : ℕ) {a b : ℤ} → b ≡ a +ℤ pos n → a ≤ℤ b
 le-of n {a} {b} e = record { le = subst (λ z. T (leZ a z)) (sym e) (le-more a n) }
 
--- a < b says that a + 1 ≤ b
-pub lt-gap : {a b : ℤ} → a <ℤ b → (n : ℕ) × (b ≡ a +ℤ pos (suc n))
-lt-gap {a} {b} h = go a b (h .lt)
-  where
-    go : (a b : ℤ) → T (ltZ a b) → (n : ℕ) × (b ≡ a +ℤ pos (suc n))
-    go (pos x) (pos y) t = let h : x < y = ltb→lt x y t in let e : y ≡ x + suc (y - suc x) = omega arith in (y - suc x, ap pos e)
-    go (pos x) (negsuc y) t = absurd t
-    go (negsuc x) (pos y) t = let e : suc (y + x) ≡ y + suc x = omega arith in (y + x, sym (subℕ-pos (suc (y + x)) (suc x) y e))
-    go (negsuc x) (negsuc y) t =
-        let h : y < x = ltb→lt y x t in
-        let e : suc x ≡ suc y + suc (x - suc y) = omega arith in
-        (x - suc y, sym (subℕ-negsuc (suc (x - suc y)) (suc x) y e))
-
-lt-more : (a : ℤ) (n : ℕ) → T (ltZ a (a +ℤ pos (suc n)))
-lt-more (pos x) n = lt→ltb x (x + suc n) (omega arith)
-lt-more (negsuc x) n = subℕ-ind (suc n) (suc x) (λ z. T (ltZ (negsuc x) z)) (λ m e. lt→ltb m x (omega arith)) (λ m e. tt)
-
-pub lt-of : (n : ℕ) {a b : ℤ} → b ≡ a +ℤ pos (suc n) → a <ℤ b
-lt-of n {a} {b} e = record { lt = subst (λ z. T (ltZ a z)) (sym e) (lt-more a n) }
-
 -- ---- laws
 
 pub +-mono : {a b c d : ℤ} → a ≤ℤ b → c ≤ℤ d → (a +ℤ c) ≤ℤ (b +ℤ d)
@@ -96,31 +76,6 @@ pub *-mono : (w : ℕ) {a b : ℤ} → a ≤ℤ b → (pos w *ℤ a) ≤ℤ (pos
 
 pub ≤ℤ-pos : {m n : ℕ} → m ≤ n → pos m ≤ℤ pos n
 ≤ℤ-pos {m} {n} h = record { le = le→leb m n h }
-
--- a bound on the size is a bound from both sides
-pub size-above : {z : ℤ} {n : ℕ} → natAbs z ≤ n → z ≤ℤ pos n
-size-above {z} {n} h = record { le = go z h }
-  where
-    go : (z : ℤ) → natAbs z ≤ n → T (leZ z (pos n))
-    go (pos m) h = le→leb m n h
-    go (negsuc m) h = tt
-
-pub size-below : {z : ℤ} {n : ℕ} → natAbs z ≤ n → negℤ (pos n) ≤ℤ z
-size-below {z} {n} h = record { le = go z n h }
-  where
-    go : (z : ℤ) (n : ℕ) → natAbs z ≤ n → T (leZ (negℤ (pos n)) z)
-    go (pos m) zero h = le→leb 0 m (omega arith)
-    go (pos m) (suc n) h = tt
-    go (negsuc m) zero h = absurd (omega arith)
-    go (negsuc m) (suc n) h = le→leb m n (omega arith)
-
-pub size-between : {z : ℤ} {n : ℕ} → negℤ (pos n) ≤ℤ z → z ≤ℤ pos n → natAbs z ≤ n
-size-between {z} {n} h k = go z n (h .le) (k .le)
-  where
-    go : (z : ℤ) (n : ℕ) → T (leZ (negℤ (pos n)) z) → T (leZ z (pos n)) → natAbs z ≤ n
-    go (pos m) n h k = leb→le m n k
-    go (negsuc m) zero h k = absurd h
-    go (negsuc m) (suc n) h k = let b = leb→le m n h in omega arith
 
 -- what the test of a sign says
 pub below-zero : (z : ℤ) → ltZ z (pos 0) ≡ true → (n : ℕ) × (z ≡ negsuc n)
