@@ -23,6 +23,11 @@ def mirrored(records):
     return [(-x, y) for x, y in reversed(records)]
 
 
+def other_hand(basis, depth, records):
+    """The same piece on the other side of x = 0, record by record, so that like numbers name mirrored points."""
+    return basis, depth, [(-x, y) for x, y in records]
+
+
 def arched_door():
     """A door leaf, 826 mm by 2040 mm, under a half-round arch."""
     half, spring, top = 413, 1627, 2040
@@ -32,6 +37,26 @@ def arched_door():
     left_arch = mirrored([jamb, *right_arch])[1:]
     return BEZIER, 4, [(-half, 0), *line((-half, 0), foot), *line(foot, jamb), *right_arch, *left_arch,
                        *line((-half, spring), (-half, 0))]
+
+
+def left_door():
+    """The left-hand door of a pair, 726 mm by 2040 mm, under one basket arch.
+
+    x is from the middle line, with 3 mm between the two doors.  In x, points 4 and
+    12 of the foot and the middle points of both spans of the arch, 40 and 56, are
+    exact halves of a micrometre.  A half to the greater number would cut the two
+    doors a micrometre apart there; a half away from zero does not.
+    """
+    hinges, meeting, spring, top = -727.5, -1.5, 1620, 2040
+    start, foot, jamb, crown = (meeting, 0), (hinges, 0), (hinges, spring), (meeting, top)
+    arch = [(hinges, 1731.5), (-651.5, 1838), (-515, 1917),     # up from the jamb to the haunch
+            (-378.5, 1996), (-194.5, top), crown]               # and over to the middle
+    return BEZIER, 4, [start, *line(start, foot), *line(foot, jamb), *arch, *line(crown, start)]
+
+
+def right_door():
+    """The right-hand door of the pair: the left-hand one in the mirror."""
+    return other_hand(*left_door())
 
 
 def vase_splat():
@@ -95,6 +120,8 @@ PIECES = {
     "bracket": bracket,
     "cabriole-leg": cabriole_leg,
     "crest-rail": crest_rail,
+    "left-door": left_door,
+    "right-door": right_door,
     "scalloped-apron": scalloped_apron,
     "vase-splat": vase_splat,
 }

@@ -96,5 +96,9 @@ def span_cubics(shape: Shape, controls: Sequence[int], span: int) -> List[List[F
 
 
 def nearest(value: Fraction) -> int:
-    """The nearest whole number, an exact half to the greater (document 01)."""
-    return floor(value + Fraction(1, 2))
+    """The nearest whole number, an exact half away from zero (document 02, request 1).
+
+    The size is rounded, a half up, and the sign put back.
+    """
+    size = floor(abs(value) + Fraction(1, 2))
+    return -size if value < 0 else size

@@ -1,7 +1,8 @@
 """The program's own tests: `python3 selftest.py`.
 
-Document 01's sums stand here as they are printed there.  The curve is computed
-again by other published formulas, and the edits are read again point by point.
+Document 01's sums stand here as they are printed there, P2 and P12 as document 02's
+request 1 has them.  The curve is computed again by other published formulas, the
+edits are read again point by point, and every call is made again in the mirror.
 """
 
 import sys
@@ -13,11 +14,12 @@ sys.dont_write_bytecode = True
 
 import trials  # noqa: E402
 from checks import CONTROL_LIMIT  # noqa: E402
-from curve import cubic, nearest, powers, product  # noqa: E402
-from drawing import NOTHING_DRAWN, Step, micrometres, take  # noqa: E402
+from curve import cubic, exact_outline, nearest, powers, product  # noqa: E402
+from drawing import NOTHING_DRAWN, State, Step, micrometres, take  # noqa: E402
 from edits import BASES_THAT_GROW, insert, move, remove  # noqa: E402
 from make_trials import defects, drawings, edits, files  # noqa: E402
 from make_trials.dice import ALL_BASES, Dice  # noqa: E402
+from make_trials.halves import ALL_SIDES, AXES, mirrored, sides  # noqa: E402
 from make_trials.script import ACCEPTED, CALLS, Script, encode, file_of  # noqa: E402
 from outline import draw, formula_points, preview, view  # noqa: E402
 from record_file import listing, read  # noqa: E402
@@ -27,7 +29,7 @@ from sums import sums  # noqa: E402
 
 SUMS = """\
 P1 Bezier 0 0 0 4 depth 1: 0 1 4
-P2 Bezier 0 0 0 -4 depth 1: 0 0 -4
+P2 Bezier 0 0 0 -4 depth 1: 0 -1 -4
 P3 B-spline 0 6 12 18 depth 1: 6 9 12
 P4 B-spline 0 1 0 0 depth 1: 1 0 0
 P5 cardinal 0 1000 1000 0 depth 1: 1000 1125 1000
@@ -39,7 +41,7 @@ P9 insert 60 at 6: 10 20 30 40 50 first 3 count 1
 P10 remove at 0: 20 30 40 first 0 count 0 fourth 40
 P11 move 3 to 33: 10 20 33 40 first 0 count 3
 P12 0.0625 mm: 63
-P12 -0.0625 mm: -62
+P12 -0.0625 mm: -63
 P12 4000.00048828125 mm: 4000000
 P12 4000.0009765625 mm: refused 11 0
 Bezier 0 0 0 4 depth 6: drawn 65
@@ -117,9 +119,9 @@ class Curve(unittest.TestCase):
             self.assertEqual(end, cubic(basis, records[stride:stride + 4])[3])
 
     def test_rounding(self):
-        halves = {Fraction(1, 2): 1, Fraction(-1, 2): 0, Fraction(-3, 2): -1, Fraction(5, 2): 3, Fraction(-7, 4): -2}
-        for value, whole in halves.items():
-            self.assertEqual(nearest(value), whole)
+        for quarters, whole in ((0, 0), (1, 0), (2, 1), (5, 1), (6, 2), (7, 2), (10, 3)):
+            size = Fraction(quarters, 4)
+            self.assertEqual((nearest(size), nearest(-size)), (whole, -whole))
 
     def test_boxes_and_bounds(self):
         """No point of basis 1 or 2 leaves its controls' box; none of 3 or 4 passes the bound."""
@@ -237,7 +239,7 @@ class Edits(unittest.TestCase):
 class Drawing(unittest.TestCase):
     def test_numbers(self):
         for number, whole in ((0.0005, 1), (-0.0005, -1), (0.0, 0), (-0.0, 0), (5e-324, 0), (-5e-324, 0),
-                              (3999.9375, 3999938), (-3999.9375, -3999937), (4000.0, 4000000)):
+                              (3999.9375, 3999938), (-3999.9375, -3999938), (4000.0, 4000000)):
             self.assertEqual(micrometres(number, 0), whole)
 
     def test_line_and_close(self):
@@ -253,6 +255,98 @@ class Drawing(unittest.TestCase):
         controls = [JUNK] * 2
         state = take(NOTHING_DRAWN, Step.MOVE, (1.0, 1.0), controls)
         self.assertEqual(take(state, Step.CLOSE, (), controls), (1, (1000, 1000), (1000, 1000), True))
+
+
+def answer(call, *arguments):
+    """What a call answers, or its refusal."""
+    try:
+        return call(*arguments)
+    except Refusal as refused:
+        return str(refused)
+
+
+def mirrored_state(state, axis):
+    """A drawing state in the mirror, or a refusal as it is."""
+    if isinstance(state, str):
+        return state
+    start, current = (tuple(mirrored(record, axis)) for record in (state.start, state.current))
+    return State(state.count, start, current, state.closed)
+
+
+class Mirror(unittest.TestCase):
+    """Document 02, request 1: what goes in mirrored on an axis comes out so, and is refused alike."""
+
+    def setUp(self):
+        self.dice = Dice(SEED)
+
+    def numbers(self, count):
+        """Good records, in two of three cases so small that many points are exact halves."""
+        return [self.dice.between(-9, 9) for _ in range(2 * count)] if self.dice.below(3) else self.dice.numbers(count)
+
+    def test_outlines(self):
+        for basis in ALL_BASES:
+            seen = set()
+            for _ in range(60):
+                shape = self.dice.shape((basis,), 3, 10)
+                controls = self.numbers(shape.count)
+                outline = formula_points(shape, controls)
+                for axis in AXES:
+                    self.assertEqual(formula_points(shape, mirrored(controls, axis)), mirrored(outline, axis))
+                seen |= sides(exact_outline(shape, controls))
+            self.assertEqual(seen, ALL_SIDES)
+
+    def test_edits(self):
+        """Runs of edits, refused ones among them, over any contents."""
+        for basis in ALL_BASES:
+            for axis in AXES:
+                shape = self.dice.shape((basis,), 2, 10)
+                controls = self.numbers(12)
+                points = [self.dice.junk() for _ in range(2 * point_count(shape._replace(count=13)))]
+                others = mirrored(controls, axis), mirrored(points, axis)
+                for _ in range(40):
+                    shape = self.one_edit(shape, (controls, points), others, axis)
+
+    def one_edit(self, shape, lists, others, axis):
+        edit, place = self.dice.pick((move, insert, remove)), self.dice.place(shape.count)
+        record = self.dice.bad_record() if self.dice.one_in(10) else self.numbers(1)
+        records = ([], []) if edit is remove else ([record], [mirrored(record, axis)])
+        told, in_mirror = (answer(edit, shape, *held, place, *new) for held, new in zip((lists, others), records))
+        self.assertEqual(in_mirror, told)
+        self.assertEqual(others, tuple(mirrored(numbers, axis) for numbers in lists))
+        return shape if isinstance(told, str) else told.shape
+
+    def test_drawings(self):
+        """Steps in any order, some with bad numbers: the states and the controls."""
+        for _ in range(60):
+            for axis in AXES:
+                controls = [self.dice.junk() for _ in range(40)]
+                other = mirrored(controls, axis)
+                state = NOTHING_DRAWN
+                for step in (Step.MOVE, *(self.dice.pick(list(Step)) for _ in range(8))):
+                    numbers = [self.millimetres() for _ in range(trials.NUMBERS[step])]
+                    in_mirror = answer(take, mirrored_state(state, axis), step, mirrored(numbers, axis), other)
+                    told = answer(take, state, step, numbers, controls)
+                    self.assertEqual((in_mirror, other), (mirrored_state(told, axis), mirrored(controls, axis)))
+                    state = state if isinstance(told, str) else told
+
+    def millimetres(self):
+        return self.dice.pick((0.0, 4000.00048828125, 4000.0009765625, float("nan"), float("inf"))
+                              if self.dice.one_in(8) else (self.dice.millimetres(),))
+
+    def test_previews(self):
+        """Bit by bit, so that zero is positive zero on both sides."""
+        zeros = 0
+        for _ in range(60):
+            shape = self.dice.shape((BEZIER,), 3, 10)
+            controls = self.numbers(shape.count)
+            doubles, others = ([float(JUNK)] * (2 * point_count(shape)) for _ in range(2))
+            preview(shape, controls, doubles)
+            for axis in AXES:
+                preview(shape, mirrored(controls, axis), others)
+                wanted = [number + 0.0 for number in mirrored(doubles, axis)]
+                self.assertEqual([*map(trials.pattern, others)], [*map(trials.pattern, wanted)])
+            zeros += doubles.count(0.0)
+        self.assertGreater(zeros, 0)
 
 
 class RecordFile(unittest.TestCase):
