@@ -13,20 +13,15 @@ pub fn half_up(size: u64, multiple: u32, bits: u32) -> u64
     ((size >> bits) + (multiple / 2) as u64) / multiple as u64
 }
 
-// How far a sum is from zero.
-fn size_of(sum: i64) -> u64
-    requires { ⌜ natAbs sum < 2 ^ 63 ⌝ }
-    ensures { λ r. ⌜ r ≡ natAbs sum ⌝ }
-{
-    if sum < 0 { -sum as u64 } else { sum as u64 }
-}
-
 // The whole number nearest to sum / (multiple · 2^bits), an exact half away from zero: the size is rounded and the sign put back.
 pub fn round_over(sum: i64, multiple: u32, bits: u32) -> i64
     requires { ⌜ (natAbs sum < 2 ^ 63) × (bits < 64) ⌝ }
     requires { ⌜ (0 < multiple) × (multiple % 2 ≡ 0) ⌝ }
     ensures { λ r. ⌜ r ≡ nearest sum (multiple * 2 ^ bits) ⌝ }
 {
-    let size = half_up(size_of(sum), multiple, bits) as i64;
-    if sum < 0 { -size } else { size }
+    if sum < 0 {
+        -(half_up(-sum as u64, multiple, bits) as i64)
+    } else {
+        half_up(sum as u64, multiple, bits) as i64
+    }
 }
