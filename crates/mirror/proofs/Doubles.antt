@@ -18,21 +18,8 @@ use Rattle.curve.specs.Limits.{limit}
 use Rattle.doubles.specs.Exact.{signed, dyadic, Value}
 use Rattle.doubles.specs.Number.{thousand, within, measure}
 use Rattle.doubles.specs.declared.Measure.the-variants.{Outside, Micrometres}
-use Rattle.mirror.specs.Mirror.{Axis, X, Y, mirrorX, mirrorY, across}
+use Rattle.doubles.proofs.Rounding.{size-signed}
 use Rattle.mirror.specs.Steps.{minusMeasure, opposite}
-
--- ---- numbers of two kinds
-
--- what takes a number negated to its own negated does so across the mirror
-pub across-through :
-    {A B : Type 0} (minus : A → A) (minus′ : B → B) (f : A → B) (v : A) → f (minus v) ≡ minus′ (f v) → (axis : Axis) (q : ℕ) → f (across minus axis q v) ≡ across minus′ axis q (f v)
-across-through minus minus′ f v h axis q = go axis (eqb (q % 2) 0)
-  where
-    go : (axis : Axis) (t : Bool) → f (cond t (mirrorX minus axis v) (mirrorY minus axis v)) ≡ cond t (mirrorX minus′ axis (f v)) (mirrorY minus′ axis (f v))
-    go X true = h
-    go X false = refl
-    go Y true = refl
-    go Y false = h
 
 -- ---- a drawing number
 
@@ -83,10 +70,6 @@ round-neg f s n d =
     units-neg f s (nearest (m / u) (compare (m % u * 2) u)) k
 
 -- the size of an exact value, both fractions multiplied out
-size-signed : (s : Bool) (n : ℕ) → natAbs (signed s n) ≡ n
-size-signed false n = refl
-size-signed true n = natAbs-neg (pos n)
-
 value-size : (s : Bool) (m : ℕ) (e z : ℤ) (d : ℕ) → Value (fin s m e) z d → m * up e * d ≡ natAbs z * down e
 unfolding Value
 value-size s m e z d v =

@@ -105,6 +105,18 @@ module _ {A : Type 0} (minus : A → A) (axis : Axis) where
       let next : suc (suc (2 * n)) ≡ 2 * suc n = omega arith in
       rw next (mirrored-sets (set (set l (2 * n) x) (suc (2 * n)) y) (suc n) vs ∙ ap (λ r. sets r (2 * suc n) (mirrored minus axis vs)) (mirrored-record l n x y))
 
+-- ---- numbers of two kinds: what takes a number negated to its own negated does so across the mirror
+
+pub across-through :
+    {A B : Type 0} (minus : A → A) (minus′ : B → B) (f : A → B) (v : A) → f (minus v) ≡ minus′ (f v) → (axis : Axis) (q : ℕ) → f (across minus axis q v) ≡ across minus′ axis q (f v)
+across-through minus minus′ f v h axis q = go axis (eqb (q % 2) 0)
+  where
+    go : (axis : Axis) (t : Bool) → f (cond t (mirrorX minus axis v) (mirrorY minus axis v)) ≡ cond t (mirrorX minus′ axis (f v)) (mirrorY minus′ axis (f v))
+    go X true = h
+    go X false = refl
+    go Y true = refl
+    go Y false = h
+
 -- ---- controls: their coordinates, and the rows that look at them
 
 module _ (axis : Axis) where

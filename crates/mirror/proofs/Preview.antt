@@ -27,9 +27,9 @@ use Rattle.preview.proofs.Curve.{drawn-exact}
 use Rattle.preview.proofs.Exactly.{drawn-none, none-drawn}
 use Rattle.mirror.specs.Mirror.{Axis, across, mirrored, mirror}
 use Rattle.mirror.specs.Steps.{opposite, mirrorPreviewed}
-use Rattle.mirror.proofs.Lists.{across-cases, coordinate-mirror, length-mirrored, mirrored-tab, controlRows-mirror, judge-mirror}
+use Rattle.mirror.proofs.Lists.{across-cases, across-through, coordinate-mirror, length-mirrored, mirrored-tab, controlRows-mirror, judge-mirror}
 use Rattle.mirror.proofs.Points.{plain-minus}
-use Rattle.mirror.proofs.Doubles.{across-through, minus-dyadic}
+use Rattle.mirror.proofs.Doubles.{minus-dyadic}
 
 -- ---- a sum, and its double
 

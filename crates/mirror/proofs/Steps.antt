@@ -30,8 +30,8 @@ use Rattle.drawing.specs.Sequences.{Held, begin, after, drawn}
 use Rattle.drawing.proofs.Same.{is-equal, equal-is, is-unequal}
 use Rattle.mirror.specs.Mirror.{Axis, X, Y, mirrorX, mirrorY, across, mirrored, mirror}
 use Rattle.mirror.specs.Steps.{minusMeasure, mirrorStep, mirrorControl, mirrorDrawing, mirrorAnswer, mirrorStepped, mirrorHeld}
-use Rattle.mirror.proofs.Lists.{across-cases, length-mirrored, mirrored-sets, across-beyond, judge-mirror}
-use Rattle.mirror.proofs.Doubles.{across-through, minus-measure}
+use Rattle.mirror.proofs.Lists.{across-cases, across-through, length-mirrored, mirrored-sets, across-beyond, judge-mirror}
+use Rattle.mirror.proofs.Doubles.{minus-measure}
 
 -- ---- controls
 
