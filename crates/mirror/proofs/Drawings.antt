@@ -1,23 +1,31 @@
--- A drawing of mirrored controls is the mirrored drawing, refusals too; and since what was lent is not looked at, the same points come out in any other list as long.
-use mathlib.Core.Path.{_≡_, sym, ap, _∙_, subst}
+-- A drawing of mirrored controls is the mirrored drawing, refusals too; and since what was lent is not looked at, the same points come out in any other list as long. A view of mirrored
+-- points is the mirrored view.
+use mathlib.Core.Path.{_≡_, refl, sym, ap, _∙_, subst}
+use mathlib.Core.Bool.{Bool, true, false, cond}
+use mathlib.Core.Logic.{⊎-elim}
 use mathlib.Core.List.{List, _++_}
-use Prim.Native.Nat.{ℕ, _*_, _<_}
+use Prim.Native.Nat.{ℕ, _*_, _^_, _<_}
+use native.Mathlib.Nat.{mul-left-comm}
 use lib.IntN.{ℤ, pos, negℤ}
-use lib.ListN.{getD, length}
+use lib.ListN.{getD, length, take, drop}
 use Rattle.whole.specs.Outcome.{Outcome, outcome, refuses}
 use Rattle.shape.specs.declared.Shape.{Shape}
-use Rattle.shape.specs.Refusals.{NoRow, judge, shapeRows, pointRows, planOf}
+use Rattle.shape.specs.declared.Refusal.{Refusal}
+use Rattle.shape.specs.Refusals.{First, NoRow, judge, shapeRows, pointRows, planOf}
+use Rattle.shape.proofs.Refusals.{judge-first, judge-none, verdict}
 use Rattle.spans.specs.declared.run.Way.{Way}
 use Rattle.spans.specs.Numbers.{number}
 use Rattle.outline.specs.declared.Drawn.{Drawn}
 use Rattle.outline.specs.declared.Drawn.the-variants.{Points, Refused}
 use Rattle.outline.specs.Outline.{points, drawRows, drawn, accepts, draws}
+use Rattle.outline.specs.View.{emptyPart, outOfSight, partOf, viewed}
+use Rattle.outline.proofs.Views.{spanPart}
 use Rattle.outline.proofs.Exactly.{points-none, none-drawn}
 use Rattle.outline.proofs.Held.{held-number}
 use Rattle.sequences.specs.Calls.{MeetsDrawing}
 use Rattle.sequences.proofs.Calls.{meets-draws}
 use Rattle.mirror.specs.Mirror.{Axis, across, mirror, mirrorDrawn}
-use Rattle.mirror.proofs.Lists.{length-mirrored, mirrored-rule, controlRows-mirror, judge-mirror}
+use Rattle.mirror.proofs.Lists.{length-mirrored, mirrored-rule, mirrored-take, mirrored-drop, controlRows-mirror, judge-mirror}
 use Rattle.mirror.proofs.Points.{number-mirror}
 
 -- ---- the checks: they see how far a control is from zero, and how long the lists are
@@ -77,3 +85,32 @@ module _ (axis : Axis) where
       → u ≡ mirrorDrawn axis o
   code-mirror-draws w v s controls lent o u drawn mirrored =
       sym (meets-draws v s (mirror axis controls) (mirror axis lent) u mirrored) ∙ mirror-draws s controls lent ∙ ap (mirrorDrawn axis) (meets-draws w s controls lent o drawn)
+
+-- ---- the view of a span: where it lies hangs on the list's length alone, and whole points stand before it
+
+same-part : (axis : Axis) (s : Shape) (t : ℕ) (l : List ℤ) → partOf s t (mirror axis l) ≡ partOf s t l
+unfolding partOf
+same-part axis s t l = rw (length-mirrored negℤ axis l)
+
+points-before : (s : Shape) (t : ℕ) (l : List ℤ) → (n : ℕ) × (partOf s t l .start ≡ 2 * n)
+unfolding partOf
+points-before s t l =
+    let rows = shapeRows s in
+    ⊎-elim (λ (v : (r : Refusal) × First rows r). (0, ap (λ p. p .start) (judge-first rows (λ r. emptyPart) _ (v .0) (v .1))))
+    (λ none. let (n, is) = there (outOfSight (planOf s) t l) in (n, ap (λ p. p .start) (judge-none rows (λ r. emptyPart) _ none) ∙ is))
+    (verdict rows)
+  where
+    there : (b : Bool) → (n : ℕ) × (cond b emptyPart (spanPart (planOf s) t) .start ≡ 2 * n)
+    there true = (0, refl)
+    there false = (t * 2 ^ planOf s .depth, mul-left-comm t 2 (2 ^ planOf s .depth))
+
+pub mirror-view : (axis : Axis) (s : Shape) (t : ℕ) (l : List ℤ) → viewed (partOf s t (mirror axis l)) (mirror axis l) ≡ mirror axis (viewed (partOf s t l) l)
+unfolding viewed
+mirror-view axis s t l =
+    let v = partOf s t l in
+    let (n, is) = points-before s t l in
+    ap (λ p. take (p .size) (drop (p .start) (mirror axis l))) (same-part axis s t l)
+    ∙ ap (λ (m : ℕ). take (v .size) (drop m (mirror axis l))) is
+    ∙ ap (take (v .size)) (sym (mirrored-drop negℤ axis n l))
+    ∙ sym (mirrored-take negℤ axis (v .size) (drop (2 * n) l))
+    ∙ ap (λ (m : ℕ). mirror axis (take (v .size) (drop m l))) (sym is)

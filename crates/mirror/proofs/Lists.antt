@@ -8,7 +8,7 @@ use Prim.Native.Nat.{ℕ, zero, suc, _+_, _*_, _%_}
 use native.Mathlib.Omega.{arith}
 use lib.Dec.{ltb, eqb}
 use lib.IntN.{ℤ, pos, negℤ, natAbs}
-use lib.ListN.{length, getD, set}
+use lib.ListN.{length, getD, set, take, drop}
 use lib.Seq.{sets}
 use Rattle.whole.proofs.Fit.{natAbs-neg}
 use Rattle.curve.specs.Tab.{tab}
@@ -18,6 +18,10 @@ use Rattle.shape.specs.declared.Refusal.{Refusal}
 use Rattle.shape.specs.Refusals.{Row, First, NoRow, judge, seek, outside, firstOutside, controlRows}
 use Rattle.shape.proofs.Refusals.{judge-first, judge-none, verdict}
 use Rattle.mirror.specs.Mirror.{Axis, X, Y, mirrorX, mirrorY, across, mirrored, mirror}
+
+-- a record or a point more
+one-more : (n : ℕ) → 2 * suc n ≡ suc (suc (2 * n))
+one-more n = omega arith
 
 module _ {A : Type 0} (minus : A → A) (axis : Axis) where
   -- ---- the numbers on an axis are two apart
@@ -102,8 +106,26 @@ module _ {A : Type 0} (minus : A → A) (axis : Axis) where
   mirrored-sets l n [] = refl
   mirrored-sets l n (x ∷ []) = rw (mirrored-set, across-x)
   mirrored-sets l n (x ∷ y ∷ vs) =
-      let next : suc (suc (2 * n)) ≡ 2 * suc n = omega arith in
-      rw next (mirrored-sets (set (set l (2 * n) x) (suc (2 * n)) y) (suc n) vs ∙ ap (λ r. sets r (2 * suc n) (mirrored minus axis vs)) (mirrored-record l n x y))
+      rw (sym (one-more n)) (mirrored-sets (set (set l (2 * n) x) (suc (2 * n)) y) (suc n) vs ∙ ap (λ r. sets r (2 * suc n) (mirrored minus axis vs)) (mirrored-record l n x y))
+
+-- ---- parts of a list: its front, and what follows n whole records or points
+
+module _ {A : Type 0} (minus : A → A) (axis : Axis) where
+  pub mirrored-take : (n : ℕ) (l : List A) → mirrored minus axis (take n l) ≡ take n (mirrored minus axis l)
+  unfolding mirrored
+  mirrored-take zero l = refl
+  mirrored-take (suc n) [] = refl
+  mirrored-take (suc zero) (x ∷ []) = refl
+  mirrored-take (suc zero) (x ∷ y ∷ l) = refl
+  mirrored-take (suc (suc n)) (x ∷ []) = refl
+  mirrored-take (suc (suc n)) (x ∷ y ∷ l) = ap (λ r. mirrorX minus axis x ∷ mirrorY minus axis y ∷ r) (mirrored-take n l)
+
+  pub mirrored-drop : (n : ℕ) (l : List A) → mirrored minus axis (drop (2 * n) l) ≡ drop (2 * n) (mirrored minus axis l)
+  unfolding mirrored
+  mirrored-drop zero l = refl
+  mirrored-drop (suc n) [] = rw (one-more n) refl
+  mirrored-drop (suc n) (x ∷ []) = rw (one-more n) refl
+  mirrored-drop (suc n) (x ∷ y ∷ l) = rw (one-more n) (mirrored-drop n l)
 
 -- ---- numbers of two kinds: what takes a number negated to its own negated does so across the mirror
 

@@ -1,5 +1,5 @@
--- Left and right doors mirror (document 02, request 1): every call on mirrored numbers comes to the mirror of what it came to, refusals too. Mirrored are the numbers on one axis, x or
--- y, which are negated; `mirror` has lists of them, x then y.
+-- Left and right doors mirror (document 02, request 1): drawing, viewing, editing, drawing steps and previews of mirrored numbers come to the mirror of what they came to, refusals too.
+-- Mirrored are the numbers on one axis, x or y, which are negated; `mirror` has lists of them, x then y.
 use mathlib.Core.Path.{_≡_, ap}
 use mathlib.Core.List.{List, map}
 use Prim.Native.Nat.{ℕ, _*_, _<_}
@@ -12,6 +12,7 @@ use Rattle.spans.specs.declared.run.Way.{Way}
 use Rattle.outline.specs.declared.Drawn.{Drawn}
 use Rattle.outline.specs.declared.Drawn.the-variants.{Points}
 use Rattle.outline.specs.Outline.{draws}
+use Rattle.outline.specs.View.{partOf, viewed}
 use Rattle.asked.specs.declared.Edit.{Edit}
 use Rattle.edit.specs.Reading.{edits}
 use Rattle.sequences.specs.Played.{State, Call, played}
@@ -60,6 +61,10 @@ pub code-mirror-draws :
     → MeetsDrawing v (s, mirror axis controls, mirror axis lent) u
     → u ≡ mirrorDrawn axis o
 code-mirror-draws = drawings.code-mirror-draws
+
+-- the view of a span of mirrored points is the mirrored view
+pub mirror-view : (axis : Axis) (s : Shape) (t : ℕ) (l : List ℤ) → viewed (partOf s t (mirror axis l)) (mirror axis l) ≡ mirror axis (viewed (partOf s t l) l)
+mirror-view = drawings.mirror-view
 
 -- ---- editing
 
