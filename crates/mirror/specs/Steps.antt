@@ -1,4 +1,4 @@
--- What is mirrored of a drawing's steps and of the preview, whose numbers are doubles. Definitions only.
+-- What is mirrored of a drawing's steps and of the preview, whose numbers are doubles (document 02, request 1; document 01, "Preview and drawing": zero is positive zero). Definitions only.
 use mathlib.Core.Bool.{not, cond}
 use mathlib.Core.List.{List}
 use lib.Dec.{eqb}

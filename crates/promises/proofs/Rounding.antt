@@ -14,7 +14,7 @@ nearest-rounds = whole.nearest-rounded
 pub no-other : (z : ℤ) (d : ℕ) (n : ℤ) → 0 < d → Rounded z d n → n ≡ nearest z d
 no-other = whole.rounded-nearest
 
--- n and a half goes to n + 1, and minus n and a half to minus n + 1
+-- n and a half goes to n + 1, and its negative to the negative of n + 1
 pub half-away : (z d n : ℕ) → 0 < d → 2 * z ≡ d * (2 * n + 1) → (nearest (pos z) d ≡ pos (n + 1)) × (nearest (negℤ (pos z)) d ≡ negℤ (pos (n + 1)))
 half-away = whole.half-away
 

@@ -167,7 +167,7 @@ widened z f = ap (kept w64) (kept-is w32 z f) ∙ kept-is w64 z (wider z f)
 pub size-fits : (w : Width) (z : ℤ) → natAbs z < 2 ^ hbits w → SFits w z
 size-fits w z h = record { sfits = lt-of-le-of-lt (mag-le z) h }
 
-pub turned : (w : Width) (z : ℤ) → natAbs z < 2 ^ hbits w → pos 0 -ℤ kept w z ≡ negℤ z
+turned : (w : Width) (z : ℤ) → natAbs z < 2 ^ hbits w → pos 0 -ℤ kept w z ≡ negℤ z
 turned w z h = ap (λ x. pos 0 -ℤ x) (kept-is w z (size-fits w z h)) ∙ +ℤ-idl (negℤ z)
 
 pub turned-fits : (w : Width) (z : ℤ) → natAbs z < 2 ^ hbits w → SFits w (pos 0 -ℤ kept w z)

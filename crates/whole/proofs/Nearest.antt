@@ -95,7 +95,7 @@ pub rounded-nearest : (z : ℤ) (d : ℕ) (n : ℤ) → 0 < d → Rounded z d n 
 rounded-nearest (pos a) d n h r = rounded-size a d n h r
 rounded-nearest (negsuc a) d n h r = sym (negℤ-negℤ n) ∙ ap negℤ (rounded-size (suc a) d (negℤ n) h (rounded-minus r)) ∙ sym (nearest-minus (pos (suc a)) d)
 
--- n and a half goes to n + 1, and minus n and a half to minus n + 1
+-- n and a half goes to n + 1, and its negative to the negative of n + 1
 pub half-away : (z d n : ℕ) → 0 < d → 2 * z ≡ d * (2 * n + 1) → (nearest (pos z) d ≡ pos (n + 1)) × (nearest (negℤ (pos z)) d ≡ negℤ (pos (n + 1)))
 unfolding nearest
 half-away z d n h half =

@@ -29,7 +29,7 @@ returns c =
     let d = 2 ^ c .args .bits in
     let even : 2 * (multiple / 2) ≡ multiple = omega (arith, c .pre .1) in
     ap (λ (m : ℕ). (size / d + multiple / 2) / m) (sym even)
-    ∙ sym (half-by-steps size (multiple / 2) d (omega (arith, c .pre .1)) (pow-pos (c .args .bits)))
+    ∙ sym (half-by-steps size (multiple / 2) d (pow-pos (c .args .bits)))
     ∙ ap (λ (m : ℕ). halfUp size (m * d)) even
 
 pub half-up-spec : {M : Type 1} → statement M
