@@ -1,7 +1,7 @@
 -- Quarters and halves on both sides of zero, computed: from -5/2 to 5/2, and from -7/4 to 7/4.
 use mathlib.Core.Path.{_≡_, refl}
-use mathlib.Core.List.{List, [], _∷_, map}
-use lib.IntN.{ℤ, pos, negsuc}
+use mathlib.Core.List.{[], _∷_, map}
+use lib.IntN.{pos, negsuc}
 use Rattle.whole.specs.Nearest.{halfUp, nearest}
 
 -- -5, -3, -1, 0, 1, 3, 5 halves are -3, -2, -1, 0, 1, 2, 3
