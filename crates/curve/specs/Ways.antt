@@ -1,6 +1,8 @@
 -- Three ways to the points of a span at depth k, from the four sixfold controls of an axis: each lists the 2^k + 1 exact sums, all over the divisor 6 · 2^(3k).
+use mathlib.Core.Bool.{cond}
 use mathlib.Core.List.{List, [], _∷_, _++_}
-use Prim.Native.Nat.{ℕ, zero, suc, _*_, _-_, _/_, _%_, _^_}
+use Prim.Native.Nat.{ℕ, zero, suc, _+_, _*_, _-_, _/_, _%_, _^_}
+use lib.Dec.{ltb}
 use lib.IntN.{ℤ, pos, _+ℤ_, _*ℤ_}
 use Rattle.curve.specs.declared.Four.{Four}
 use Rattle.curve.specs.declared.Differences.{Differences}
@@ -14,7 +16,6 @@ use Rattle.curve.specs.Span.{weighted}
 unfoldable pub byWeights : ℕ → Four → List ℤ
 byWeights k q = tab (λ i. weighted q (pos i) (pos (2 ^ k))) 0 (suc (2 ^ k))
 
--- Document 01's table has the weights at depth 6; depth k uses row i · 2^(6-k).
 abbrev pub deepest : ℕ
 deepest = 6
 
@@ -22,21 +23,34 @@ deepest = 6
 abbrev pub mostBits : ℕ
 mostBits = 3 * deepest
 
+-- The table has the weights at depth 6 alone; depth k uses every 2^(6-k)-th row of it, row i · 2^(6-k) for its step i.
+abbrev pub apart : ℕ → ℕ
+apart k = 2 ^ (deepest - k)
+
 unfoldable pub row : ℕ → ℕ → ℕ
-row k i = i * 2 ^ (deepest - k)
+row k i = i * apart k
 
--- Four weights for each i from 0 to 64: 260 in all. Entry e is of row e / 4, and there weight number e % 4.
-abbrev pub tableSize : ℕ
-tableSize = 4 * suc (2 ^ deepest)
-
+-- One of four numbers, counted from 0.
 unfoldable pub nth : Four → ℕ → ℤ
 nth w zero = w .a
 nth w (suc zero) = w .b
 nth w (suc (suc zero)) = w .c
 nth w (suc (suc (suc r))) = w .d
 
+-- Document 02, request 4: weight r at i is weight 3 - r at 64 - i, so that two weights for each i from 0 to 64, those numbered 0 and 1, are enough: 130 in all.
+-- Entry e is of row e / 2, and there weight number e % 2.
+abbrev pub tableSize : ℕ
+tableSize = 2 * suc (2 ^ deepest)
+
 unfoldable pub tableEntry : ℕ → ℤ
-tableEntry e = nth (weights (pos (e / 4)) (pos (2 ^ deepest))) (e % 4)
+tableEntry e = nth (weights (pos (e / 2)) (pos (2 ^ deepest))) (e % 2)
+
+unfoldable pub weightTable : List ℤ
+weightTable = tab tableEntry 0 tableSize
+
+-- Where weight r of row i is read: 0 and 1 in the row itself, 2 and 3 as weight 3 - r of row 64 - i.
+unfoldable pub entryOf : ℕ → ℕ → ℕ
+entryOf i r = cond (ltb r 2) (2 * i + r) (2 * (2 ^ deepest - i) + (3 - r))
 
 -- ---- halving by midpoints: 000 chapter 2 (5), (6) and the splitting matrices H1, H2; 003 "Efficient Form". A midpoint is a half of a sum, so with each level
 -- eight times as large all stays whole: sums of neighbours are twice, sums of those four times, and the last sum eight times a point.

@@ -37,3 +37,5 @@ pub const SIXFOLD: u32 = 6;
 pub const LIMIT: i32 = 4_000_000;
 // The deepest outline: a span has at most 2^6 steps.
 pub const DEEPEST: usize = 6;
+// The steps of a span at that depth.
+pub const MOST_STEPS: usize = 1 << DEEPEST;

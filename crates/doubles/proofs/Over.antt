@@ -13,6 +13,7 @@ use lib.Ieee.{Float, nan, inf, fin, binary64, unlike, up, down, round, sum, add,
 use lib.Ieee.Fits.{up-pos, down-pos}
 use lib.Ieee.Scale.{round-same}
 use Rattle.whole.proofs.Ring.{var, lit, _⊕_, _⊖_, _⊗_, solve, cond-ind, minus}
+use Rattle.whole.proofs.Order.{pos-less}
 use Rattle.whole.proofs.Fit.{natAbs-mul}
 use Rattle.doubles.specs.Exact.{signed, Value, minusZero}
 use Rattle.doubles.specs.Midpoint.{two}
@@ -57,11 +58,6 @@ less a b h =
     ∙ solve (pos (b - a) ∷ pos a ∷ []) (lit (pos 0) ⊖ var 0) (var 1 ⊖ (var 0 ⊕ var 1)) tt
     ∙ ap (λ x. pos a -ℤ pos x) (sym e)
 
-more : (a b : ℕ) → b ≤ a → pos (a - b) ≡ pos a -ℤ pos b
-more a b h =
-    let e : a ≡ a - b + b = omega arith in
-    solve (pos (a - b) ∷ pos b ∷ []) (var 0) (var 0 ⊕ var 1 ⊖ var 1) tt ∙ ap (λ x. pos x -ℤ pos b) (sym e)
-
 both : (a b : ℕ) → negℤ (pos (a + b)) ≡ negℤ (pos a) +ℤ negℤ (pos b)
 both a b =
     minus (pos (a + b))
@@ -79,13 +75,13 @@ sum-over true a true b c h k = round-over true (a + b) c (λ e. positive (h refl
 sum-over false a true b c h k =
     cond-ind (ltb a b) (round binary64 true (b - a) c) (round binary64 false (a - b) c) (λ x. x ≡ over (pos a -ℤ pos b) c)
     (λ q. round-over true (b - a) c (λ e. left (ltb→lt a b q)) ∙ ap (λ z. over z c) (less a b (ltb→lt a b q)))
-    (λ q. round-over false (a - b) c (λ e. absurd (clash e)) ∙ ap (λ z. over z c) (more a b (nltb→le a b q)))
+    (λ q. round-over false (a - b) c (λ e. absurd (clash e)) ∙ ap (λ z. over z c) (pos-less a b (nltb→le a b q)))
   where
     left : a < b → 0 < b - a
     left g = omega arith
 sum-over true a false b c h k =
     cond-ind (ltb a b) (round binary64 false (b - a) c) (round binary64 (ltb b a) (a - b) c) (λ x. x ≡ over (negℤ (pos a) +ℤ pos b) c)
-    (λ q. round-over false (b - a) c (λ e. absurd (clash e)) ∙ ap (λ z. over z c) (more b a (below (ltb→lt a b q)) ∙ +ℤ-comm (pos b) (negℤ (pos a))))
+    (λ q. round-over false (b - a) c (λ e. absurd (clash e)) ∙ ap (λ z. over z c) (pos-less b a (below (ltb→lt a b q)) ∙ +ℤ-comm (pos b) (negℤ (pos a))))
     (λ q. go (ltb b a) (ltb-true b a) (ltb-false b a) (nltb→le a b q))
   where
     below : a < b → a ≤ b
@@ -99,7 +95,7 @@ sum-over true a false b c h k =
     go false f g l = round-over false (a - b) c (λ e. absurd (clash e)) ∙ ap (λ z. over z c) (level (g refl) l)
       where
         level : a ≤ b → b ≤ a → pos (a - b) ≡ negℤ (pos a) +ℤ pos b
-        level i j = let e : a - b ≡ b - a = omega arith in ap pos e ∙ more b a i ∙ +ℤ-comm (pos b) (negℤ (pos a))
+        level i j = let e : a - b ≡ b - a = omega arith in ap pos e ∙ pos-less b a i ∙ +ℤ-comm (pos b) (negℤ (pos a))
 
 -- a negative double that is not -0 has a magnitude above 0
 sized : (s : Bool) (m : ℕ) {a b : ℕ} → 0 < a → 0 < b → T (not (s && eqb m 0)) → s ≡ true → 0 < m * a * b

@@ -14,8 +14,7 @@ use asked::Edit;
 use asked::counts::first_fresh;
 use asked::counts::past_fresh;
 use shape::Plan;
-use spans::run::Way;
-use spans::run::fill_spans;
+use spans::run::fill_by_weights;
 
 // The spans from `first` up to, and not with, `past`, where there are any.
 fn rework(points: &mut [i32], controls: &[i32], plan: Plan, first: usize, past: usize)
@@ -26,7 +25,7 @@ fn rework(points: &mut [i32], controls: &[i32], plan: Plan, first: usize, past: 
     if past <= first {
         return;
     }
-    fill_spans(Way::Weights, points, controls, plan, first, past);
+    fill_by_weights(points, controls, plan, first, past);
 }
 
 // All points of the outline that an edit asks for, from the points it was given: `plan` and `controls` are the new ones.

@@ -4,24 +4,29 @@ use mathlib.Core.Bool.{cond}
 use mathlib.Core.List.{List, [], _∷_, _++_}
 use mathlib.Core.Logic.{⊎-elim}
 use Prim.Native.Nat.{ℕ, zero, suc, _+_, _*_, _-_, _/_, _%_, _^_, min, _≤_, _<_}
-use native.Mathlib.Nat.{zero-add, mul-left-comm, suc-mul, zero-mul, sub-self, mod-lt, min-eq-left, min-eq-right}
+use native.Mathlib.Nat.{zero-add, mul-left-comm, suc-mul, zero-mul, sub-self, mod-lt, mod-eq-of-lt, mul-le-mul, le-refl, lt-of-le-of-lt, min-eq-left, min-eq-right}
 use native.Mathlib.Numerals.{add-one}
 use native.Mathlib.Omega.{arith}
 use lib.Arith.{digits-div}
 use lib.Dec.{eqb, lit<}
 use lib.IntN.{ℤ, pos}
-use lib.Pow.{pow-pos}
+use lib.Pow.{pow-pos, pow-mono}
 use Rattle.whole.specs.Nearest.{nearest}
 use Rattle.curve.specs.declared.Four.{Four}
 use Rattle.curve.specs.declared.Basis.{Basis}
 use Rattle.curve.specs.Tab.{tab}
 use Rattle.curve.specs.Span.{coordinate, records, sixfoldControls, weighted, divisor, point}
+use Rattle.curve.specs.Ways.{deepest}
 use Rattle.curve.proofs.Span.{joint}
 use Rattle.curve.proofs.Tab.{tab-append, tab-same}
 use Rattle.shape.specs.declared.Plan.{Plan}
 use Rattle.shape.proofs.Tests.{either}
 use Rattle.spans.specs.Numbers.{number, perSpan}
 use Rattle.spans.specs.Inner.{paired, onAxis, ending}
+
+-- 2 shifted left by the depth is a span's numbers
+pub stride-is : (k : ℕ) → k ≤ deepest → 2 * 2 ^ k % 2 ^ 64 ≡ perSpan k
+stride-is k h = mod-eq-of-lt (lt-of-le-of-lt (mul-le-mul (le-refl 2) (pow-mono {i = k} {j = deepest} h)) (lit< tt))
 
 -- the sixfold controls of span s on an axis
 abbrev pub spanControls : Basis → List ℤ → ℕ → ℕ → Four

@@ -18,6 +18,10 @@ tab-pair : {A : Type 0} (f : ℕ → A) (i n : ℕ) → tab f i (suc (suc n)) �
 unfolding tab
 tab-pair f i n = refl
 
+-- before the first step all pairs are still to be written
+pub pair-none : {A : Type 0} (f : ℕ → A) (l : List A) (j i n : ℕ) → i ≡ 0 → sets l j (tab f (2 * i) (2 * (n - i))) ≡ sets l j (tab f 0 (2 * n))
+pair-none f l j i n e = let all : 2 * (n - 0) ≡ 2 * n = omega arith in ap (λ (m : ℕ). sets l j (tab f (2 * m) (2 * (n - m)))) e ∙ ap (λ (m : ℕ). sets l j (tab f 0 m)) all
+
 pub pair-step : {A : Type 0} (f : ℕ → A) (l : List A) (j i n : ℕ) → i < n
     → sets l j (tab f (2 * i) (2 * (n - i))) ≡ sets (set (set l j (f (2 * i))) (j + 1) (f (2 * i + 1))) (j + 2) (tab f (2 * (i + 1)) (2 * (n - (i + 1))))
 pair-step f l j i n h =

@@ -1,5 +1,6 @@
 -- For contracts inside the project alone: no public contract uses what is here.
 -- One span by each of the three ways, and the controls that it can be drawn from.
+use mathlib.Core.Path.{_≡_}
 use mathlib.Core.Bool.{cond}
 use mathlib.Core.List.{List, [], _∷_}
 use Prim.Native.Nat.{ℕ, zero, suc, _*_, _-_, _/_, _%_, _^_, _+_, _≤_, _<_}
@@ -10,11 +11,13 @@ use Rattle.whole.specs.Nearest.{nearest}
 use Rattle.curve.specs.declared.Four.{Four}
 use Rattle.curve.specs.declared.Differences.{Differences}
 use Rattle.curve.specs.Span.{coordinate, records, weighted, firstRecord}
-use Rattle.curve.specs.Ways.{advance, deepest}
+use Rattle.curve.specs.Ways.{advance, deepest, weightTable}
 use Rattle.curve.specs.Limits.{Inside, limit, reach}
 use Rattle.curve.specs.Inner.{Small, widest}
 use Rattle.shape.specs.declared.Plan.{Plan}
 use Rattle.shape.specs.Shape.{mostRecords}
+use Rattle.spans.specs.declared.run.Way.{Way}
+use Rattle.spans.specs.declared.run.Way.the-variants.{Weights, Halving, Differences as ByDifferences}
 
 -- ---- one span, from its two axes' controls: number j is step j / 2 on axis j % 2, at `left` more halvings and over the divisor d
 
@@ -38,6 +41,12 @@ unfoldable pub stepped : ℕ → Differences → Differences → ℕ → ℤ
 stepped d x y j = nearest (after (j / 2) (cond (eqb (j % 2) 0) x y) .value) d
 
 -- ---- what it can be drawn from
+
+-- What is lent to a way beside its lists: to the weights' way the table. The others read none.
+abbrev pub Lent : Way → List ℤ → Type 0
+Lent Weights table = table ≡ weightTable
+Lent Halving table = Unit {0}
+Lent ByDifferences table = Unit {0}
 
 -- Controls of one axis that a span can be drawn from: sixfold controls of records inside the limits, so that each sum, of 2^k steps, is within its divisor d times 5,000,000.
 pub record Ready (k d : ℕ) (q : Four) : Type 0 where

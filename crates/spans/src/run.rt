@@ -11,7 +11,7 @@ ghost use Rattle.curve.specs.Span.{coordinate, divisorOf, records, sixfoldContr
 ghost use Rattle.curve.specs.Ways.{deepest, mostBits};
 ghost use Rattle.spans.specs.Numbers.{number, perSpan};
 ghost use Rattle.spans.specs.Filled.{filled};
-ghost use Rattle.spans.specs.Inner.{ending, paired, Drawable, Ready};
+ghost use Rattle.spans.specs.Inner.{ending, paired, Drawable, Lent, Ready};
 use crate::halving;
 use crate::point::put_point;
 use crate::stepping;
@@ -20,6 +20,7 @@ use curve::Four;
 use curve::records::first_record;
 use curve::records::four_records;
 use curve::records::sixfold_controls;
+use curve::weights::weight_table;
 use shape::Plan;
 
 // The three ways of document 01.
@@ -41,14 +42,24 @@ fn span_controls(controls: &[i32], plan: Plan, span: usize, axis: usize) -> Four
 }
 
 // The 2^depth points of a span but its end, by a way.
-fn fill_span(way: Way, points: &mut [i32], at: usize, depth: usize, bits: u32, x: Four, y: Four)
+fn fill_span(
+    way: Way,
+    table: &[i32],
+    points: &mut [i32],
+    at: usize,
+    depth: usize,
+    bits: u32,
+    x: Four,
+    y: Four,
+)
     requires { ⌜ (depth ≤ deepest) × (bits ≤ mostBits) ⌝ }
     requires { ⌜ Ready depth (divisorOf bits) x × Ready depth (divisorOf bits) y ⌝ }
     requires { ⌜ at + perSpan depth ≤ length (now points) ⌝ }
+    requires { ⌜ Lent way (now table) ⌝ }
     ensures { λ _. ⌜ now (points .exit) ≡ sets (now (points .entry)) at (tab (paired depth (divisorOf bits) x y) 0 (perSpan depth)) ⌝ }
 {
     match way {
-        Way::Weights => weights::fill_span(points, at, depth, bits, x, y),
+        Way::Weights => weights::fill_span(table, points, at, depth, bits, x, y),
         Way::Halving => halving::fill_span(points, at, depth, bits, x, y),
         Way::Differences => stepping::fill_span(points, at, depth, bits, x, y),
     }
@@ -74,7 +85,52 @@ fn put_end(points: &mut [i32], at: usize, depth: usize, bits: u32, x: Four, y: F
     put_point(points, at, bits, end_sum(x, depth), end_sum(y, depth));
 }
 
-// The spans from `from` up to, and not with, `to`, and the end of the last of them.
+// The spans from `from` up to, and not with, `to`, and the end of the last of them, where the table is lent to the way that reads it.
+fn fill_run(
+    way: Way,
+    table: &[i32],
+    points: &mut [i32],
+    controls: &[i32],
+    plan: Plan,
+    from: usize,
+    to: usize,
+)
+    requires { ⌜ (plan .depth ≤ deepest) × (from < to) × (to ≤ plan .spans) ⌝ }
+    requires { ⌜ Drawable plan (now controls) ⌝ }
+    requires { ⌜ to * perSpan (plan .depth) + 2 ≤ length (now points) ⌝ }
+    requires { ⌜ Lent way (now table) ⌝ }
+    ensures { λ _. ⌜ now (points .exit) ≡ filled (number plan (now (controls .entry))) (from * perSpan (plan .depth)) ((to - from) * perSpan (plan .depth) + 2) (now (points .entry)) ⌝ }
+{
+    let depth = plan.depth;
+    // The divisor is 6 · 2^bits.
+    let bits = (3 * depth) as u32;
+    let stride: usize = 2 << depth;
+    let mut span = from;
+    let mut at = from * stride;
+    while span < to {
+        let x = span_controls(controls, plan, span, 0);
+        let y = span_controls(controls, plan, span, 1);
+        fill_span(way, table, points, at, depth, bits, x, y);
+        span += 1;
+        at += stride;
+    }
+    let x = span_controls(controls, plan, to - 1, 0);
+    let y = span_controls(controls, plan, to - 1, 1);
+    put_end(points, at, depth, bits, x, y);
+}
+
+// The same by weights. Here and nowhere else the table is bound: once a call, for drawing and for edits.
+pub fn fill_by_weights(points: &mut [i32], controls: &[i32], plan: Plan, from: usize, to: usize)
+    requires { ⌜ (plan .depth ≤ deepest) × (from < to) × (to ≤ plan .spans) ⌝ }
+    requires { ⌜ Drawable plan (now controls) ⌝ }
+    requires { ⌜ to * perSpan (plan .depth) + 2 ≤ length (now points) ⌝ }
+    ensures { λ _. ⌜ now (points .exit) ≡ filled (number plan (now (controls .entry))) (from * perSpan (plan .depth)) ((to - from) * perSpan (plan .depth) + 2) (now (points .entry)) ⌝ }
+{
+    let table = weight_table();
+    fill_run(Way::Weights, &table, points, controls, plan, from, to);
+}
+
+// The same by any way.
 pub fn fill_spans(
     way: Way,
     points: &mut [i32],
@@ -88,20 +144,9 @@ pub fn fill_spans(
     requires { ⌜ to * perSpan (plan .depth) + 2 ≤ length (now points) ⌝ }
     ensures { λ _. ⌜ now (points .exit) ≡ filled (number plan (now (controls .entry))) (from * perSpan (plan .depth)) ((to - from) * perSpan (plan .depth) + 2) (now (points .entry)) ⌝ }
 {
-    let depth = plan.depth;
-    // The divisor is 6 · 2^bits.
-    let bits = (3 * depth) as u32;
-    let stride: usize = 2 << depth;
-    let mut span = from;
-    let mut at = from * stride;
-    while span < to {
-        let x = span_controls(controls, plan, span, 0);
-        let y = span_controls(controls, plan, span, 1);
-        fill_span(way, points, at, depth, bits, x, y);
-        span += 1;
-        at += stride;
+    match way {
+        Way::Weights => fill_by_weights(points, controls, plan, from, to),
+        Way::Halving => fill_run(Way::Halving, &[], points, controls, plan, from, to),
+        Way::Differences => fill_run(Way::Differences, &[], points, controls, plan, from, to),
     }
-    let x = span_controls(controls, plan, to - 1, 0);
-    let y = span_controls(controls, plan, to - 1, 1);
-    put_end(points, at, depth, bits, x, y);
 }

@@ -1,6 +1,6 @@
 // By weights: each point is a sum by a row of the table.
 ghost use mathlib.Core.Path.{_≡_};
-ghost use Prim.Native.Nat.{_+_, _≤_, _^_};
+ghost use Prim.Native.Nat.{_+_, _/_, _%_, _≤_, _^_};
 ghost use lib.IntN.{pos};
 ghost use lib.ListN.{length};
 ghost use lib.Seq.{sets};
@@ -8,43 +8,52 @@ ghost use Rattle.curve.specs.Limits.{Inside};
 ghost use Rattle.curve.specs.Inner.{widest};
 ghost use Rattle.curve.specs.Tab.{tab};
 ghost use Rattle.curve.specs.Span.{weighted, divisorOf};
-ghost use Rattle.curve.specs.Ways.{deepest, mostBits};
+ghost use Rattle.curve.specs.Ways.{apart, deepest, mostBits, weightTable};
 ghost use Rattle.spans.specs.Numbers.{perSpan};
 ghost use Rattle.spans.specs.Inner.{paired, Ready};
 use crate::point::put_point;
 use curve::DEEPEST;
 use curve::Four;
+use curve::MOST_STEPS;
 use curve::weights::weighted_sum;
 
-// The sum at a step of a span: row step · 2^(6 - depth) of the table gives it 2^(3(6 - depth)) times as large, so that nothing is lost by the shift.
-fn table_sum(q: Four, depth: usize, step: usize) -> i64
-    requires { ⌜ (depth ≤ deepest) × (step ≤ 2 ^ depth) ⌝ }
-    requires { ⌜ Inside widest q ⌝ }
-    ensures { λ r. ⌜ r ≡ weighted q (pos step) (pos (2 ^ depth)) ⌝ }
+// The sum of a span at a row of the table that its depth uses: the row gives it 2^(3(6 - depth)) times as large, so that nothing is lost by the shift.
+fn table_sum(table: &[i32], q: Four, depth: usize, row: usize) -> i64
+    requires { ⌜ (now table ≡ weightTable) × Inside widest q ⌝ }
+    requires { ⌜ (depth ≤ deepest) × (row ≤ 2 ^ deepest) × (row % apart depth ≡ 0) ⌝ }
+    ensures { λ r. ⌜ r ≡ weighted q (pos (row / apart depth)) (pos (2 ^ depth)) ⌝ }
 {
-    let finer = DEEPEST - depth;
-    weighted_sum(q, step << finer) >> (3 * finer)
+    weighted_sum(table, q, row) >> (3 * (DEEPEST - depth))
 }
 
-// The 2^depth points of a span but its end, from number `at` on.
-pub(crate) fn fill_span(points: &mut [i32], at: usize, depth: usize, bits: u32, x: Four, y: Four)
+// The 2^depth points of a span but its end, from number `at` on: the rows that its depth uses, one after the other.
+pub(crate) fn fill_span(
+    table: &[i32],
+    points: &mut [i32],
+    at: usize,
+    depth: usize,
+    bits: u32,
+    x: Four,
+    y: Four,
+)
     requires { ⌜ (depth ≤ deepest) × (bits ≤ mostBits) ⌝ }
     requires { ⌜ Ready depth (divisorOf bits) x × Ready depth (divisorOf bits) y ⌝ }
     requires { ⌜ at + perSpan depth ≤ length (now points) ⌝ }
+    requires { ⌜ now table ≡ weightTable ⌝ }
     ensures { λ _. ⌜ now (points .exit) ≡ sets (now (points .entry)) at (tab (paired depth (divisorOf bits) x y) 0 (perSpan depth)) ⌝ }
 {
-    let steps: usize = 1 << depth;
-    let mut i = 0;
+    let apart: usize = 1 << (DEEPEST - depth);
+    let mut row = 0;
     let mut j = at;
-    while i < steps {
+    while row < MOST_STEPS {
         put_point(
             points,
             j,
             bits,
-            table_sum(x, depth, i),
-            table_sum(y, depth, i),
+            table_sum(table, x, depth, row),
+            table_sum(table, y, depth, row),
         );
-        i += 1;
+        row += apart;
         j += 2;
     }
 }

@@ -6,9 +6,9 @@ use Prim.Native.Nat.{ℕ, suc, _+_, _*_, _-_, _≤_, _<_}
 use native.Mathlib.Omega.{arith}
 use borrow.Author.Tests.{ltb-true}
 use lib.Dec.{T, ltb, leb→le, le→leb, ltb→lt, nltb→le}
-use lib.IntN.{ℤ, pos, negsuc, subℕ, natAbs, _+ℤ_, _*ℤ_}
+use lib.IntN.{ℤ, pos, negsuc, subℕ, natAbs, _+ℤ_, _-ℤ_, _*ℤ_}
 use lib.Signed.{_≤ℤ_, leZ, ltZ}
-use Rattle.whole.proofs.Ring.{var, _⊕_, _⊗_, solve, cond-ind}
+use Rattle.whole.proofs.Ring.{var, _⊕_, _⊖_, _⊗_, solve, cond-ind}
 
 pub pos-injective : {m n : ℕ} → pos m ≡ pos n → m ≡ n
 pos-injective e = ap natAbs e
@@ -91,3 +91,9 @@ not-below-zero (negsuc n) e = absurd (clash e)
   where
     clash : true ≡ false → ⊥
     clash e = let z : _≡_ {A = ℕ} 0 1 = cc in omega arith
+
+-- a natural number less another that is not above it
+pub pos-less : (a b : ℕ) → b ≤ a → pos (a - b) ≡ pos a -ℤ pos b
+pos-less a b h =
+    let e : a ≡ a - b + b = omega arith in
+    solve (pos (a - b) ∷ pos b ∷ []) (var 0) (var 0 ⊕ var 1 ⊖ var 1) tt ∙ ap (λ x. pos x -ℤ pos b) (sym e)

@@ -1,10 +1,10 @@
--- The four entries of a row are the definition's weights there (4·row + r has row as its quotient and r as its remainder by 4), and the sum fits by the bounds of weights and controls.
+-- The four entries read are the definition's weights of the row (`row-entry`), and the sum fits by the bounds of weights and controls.
 use mathlib.Core.Path.{_≡_, refl, sym, ap, _∙_, subst}
 use mathlib.Core.List.{List, [], _∷_}
 use Prim.Native.Nat.{ℕ, _+_, _*_, _^_, _≤_, _<_}
 use native.Mathlib.Omega.{arith}
 use borrow.Author.Needs.{needs}
-use lib.Dec.{T, lit<}
+use lib.Dec.{T, lit≤}
 use lib.IntN.{ℤ, pos, natAbs, _+ℤ_, _*ℤ_}
 use mir.Syntax.{w64}
 use Rattle.whole.proofs.Ring.{Ex, var, _⊕_, _⊗_}
@@ -13,13 +13,19 @@ use Rattle.curve.specs.Four.{dot}
 use Rattle.curve.specs.Published.{weights}
 use Rattle.curve.specs.Inner.{widest}
 use Rattle.curve.specs.Span.{weighted}
-use Rattle.curve.specs.Ways.{deepest, tableEntry, nth}
+use Rattle.curve.specs.Ways.{deepest, tableEntry, entryOf, nth}
 use Rattle.curve.proofs.Table.{row-entry, heaviest, weight-size}
 use Rattle.curve.proofs.weights.weighted_sum.Statement.{statement}
 use Rattle.curve.proofs.weights.weighted_sum.Tie as tie
 
 mul-at : tie.Need-mul-at
 mul-at c = search needs
+
+sub-mirrored : tie.Need-sub-mirrored
+sub-mirrored c = search needs
+
+mul-mirrored : tie.Need-mul-mirrored
+mul-mirrored c = search needs
 
 weight-requires : tie.Need-weight-requires
 weight-requires c κs = search needs
@@ -35,9 +41,6 @@ add-weight-2 c = search needs
 
 weight-requires-3 : tie.Need-weight-requires-3
 weight-requires-3 c κs = search needs
-
-add-weight-3 : tie.Need-add-weight-3
-add-weight-3 c = search needs
 
 weight-requires-4 : tie.Need-weight-requires-4
 weight-requires-4 c κs = search needs
@@ -55,24 +58,28 @@ row : tie.After-weight4 → ℕ
 row c = c .before .before .before .before .args .row
 
 -- what was read, as the definition has it
-read : (m r : ℕ) → r < 4 → {e : ℕ} → e ≡ 4 * m + r → {x : ℤ} → x ≡ tableEntry e → x ≡ nth (weights (pos m) (pos (2 ^ deepest))) r
-read m r k f g = g ∙ ap tableEntry f ∙ row-entry m r k
+read : (m r : ℕ) → m ≤ 2 ^ deepest → r ≤ 3 → {e : ℕ} → e ≡ entryOf m r → {x : ℤ} → x ≡ tableEntry e → x ≡ nth (weights (pos m) (pos (2 ^ deepest))) r
+read m r b k f g = g ∙ ap tableEntry f ∙ row-entry m r b k
+
+within : (c : tie.After-weight4) → row c ≤ 2 ^ deepest
+unfolding row
+within c = c .before .before .before .before .pre .1 .1
 
 first : (c : tie.After-weight4) → c .before .before .before .weight .result ≡ nth (weights (pos (row c)) (pos (2 ^ deepest))) 0
-unfolding row
-first c = read (row c) 0 (lit< tt) (omega arith) (c .before .before .before .weight .ensures)
+unfolding row entryOf
+first c = read (row c) 0 (within c) (lit≤ tt) (omega arith) (c .before .before .before .weight .ensures)
 
 second : (c : tie.After-weight4) → c .before .before .weight2 .result ≡ nth (weights (pos (row c)) (pos (2 ^ deepest))) 1
-unfolding row
-second c = read (row c) 1 (lit< tt) refl (c .before .before .weight2 .ensures)
+unfolding row entryOf
+second c = read (row c) 1 (within c) (lit≤ tt) refl (c .before .before .weight2 .ensures)
 
 third : (c : tie.After-weight4) → c .before .weight3 .result ≡ nth (weights (pos (row c)) (pos (2 ^ deepest))) 2
-unfolding row
-third c = read (row c) 2 (lit< tt) refl (c .before .weight3 .ensures)
+unfolding row entryOf
+third c = read (row c) 2 (within c) (lit≤ tt) refl (c .before .weight3 .ensures)
 
 fourth : (c : tie.After-weight4) → c .weight4 .result ≡ nth (weights (pos (row c)) (pos (2 ^ deepest))) 3
-unfolding row
-fourth c = read (row c) 3 (lit< tt) refl (c .weight4 .ensures)
+unfolding row entryOf
+fourth c = read (row c) 3 (within c) (lit≤ tt) (omega arith) (c .weight4 .ensures)
 
 small : (m r : ℕ) → m ≤ 2 ^ deepest → {x : ℤ} → x ≡ nth (weights (pos m) (pos (2 ^ deepest))) r → natAbs x ≤ heaviest
 small m r k e = subst (λ z. natAbs z ≤ heaviest) (sym e) (weight-size m r k)
@@ -81,10 +88,9 @@ bounded : (c : tie.After-weight4) → Bounded (values c) bounds
 unfolding values bounds row
 bounded c =
     let m = row c in
-    let within = c .before .before .before .before .pre .1 in
-    let inside = c .before .before .before .before .pre .0 in (
-      small m 0 within (first c),
-      (small m 1 within (second c), (small m 2 within (third c), (small m 3 within (fourth c), (inside .a, (inside .b, (inside .c, (inside .d, tt))))))),
+    let inside = c .before .before .before .before .pre .1 .0 in (
+      small m 0 (within c) (first c),
+      (small m 1 (within c) (second c), (small m 2 (within c) (third c), (small m 3 (within c) (fourth c), (inside .a, (inside .b, (inside .c, (inside .d, tt))))))),
     )
 
 fits : (c : tie.After-weight4) (e : Ex) → T (safe w64 bounds e) → Need w64 (values c) e
@@ -144,4 +150,4 @@ returns c =
 pub weighted-sum-spec : {M : Type 1} → statement M
 weighted-sum-spec =
     tie.close
-    (tie.spec mul-at weight-requires add-weight weight-requires-2 add-weight-2 weight-requires-3 add-weight-3 weight-requires-4 mul-result mul-result-2 add-result mul-result-3 add-result-2 mul-result-4 add-result-3 returns)
+    (tie.spec mul-at sub-mirrored mul-mirrored weight-requires add-weight weight-requires-2 add-weight-2 weight-requires-3 weight-requires-4 mul-result mul-result-2 add-result mul-result-3 add-result-2 mul-result-4 add-result-3 returns)

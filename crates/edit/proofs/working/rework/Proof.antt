@@ -17,8 +17,8 @@ returns c =
     let w = perSpan (a .plan .depth) in
     sym (none-filled (number (a .plan) (a .controls .now)) (a .first * w) (runLength (a .first) (a .past) w) (a .points .now) (run-none (a .first) (a .past) w (c .if1 .taken)))
 
-fill-spans-requires : tie.Need-fill-spans-requires
-fill-spans-requires c κs = search needs
+fill-by-weights-requires : tie.Need-fill-by-weights-requires
+fill-by-weights-requires c κs = search needs
 
 same-length : tie.Need-same-length
 same-length c = search needs
@@ -28,8 +28,8 @@ returns-2 c =
     let s = c .before .before .before in
     let a = s .before .args in
     let w = perSpan (a .plan .depth) in
-    c .before .fill-spans .ensures
+    c .before .fill-by-weights .ensures
     ∙ ap (λ (n : ℕ). filled (number (a .plan) (a .controls .now)) (a .first * w) n (a .points .now)) (sym (run-some (a .first) (a .past) w (omega (arith, s))))
 
 pub rework-spec : {M : Type 1} → statement M
-rework-spec = tie.close (tie.spec returns fill-spans-requires same-length returns-2)
+rework-spec = tie.close (tie.spec returns fill-by-weights-requires same-length returns-2)

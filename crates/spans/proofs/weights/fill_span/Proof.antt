@@ -1,10 +1,12 @@
--- At each turn the pairs still to be written, written to the present list, make the whole; a turn writes the next pair.
+-- The row at each turn is that of a step; the pairs still to be written, written to the present list, make the whole, and a turn writes the next pair.
 use mathlib.Core.Path.{_≡_, refl, sym, ap, _∙_, subst}
 use mathlib.Core.List.{List}
-use Prim.Native.Nat.{ℕ, _+_, _*_, _-_, _^_, _≤_, _<_}
+use Prim.Native.Nat.{ℕ, _+_, _*_, _-_, _/_, _%_, _^_, _≤_, _<_}
+use native.Mathlib.Nat.{zero-div, zero-mod}
 use native.Mathlib.Omega.{arith}
 use lib.IntN.{ℤ, pos, natAbs}
 use lib.ListN.{length, set}
+use lib.Pow.{pow-pos}
 use lib.Seq.{sets}
 use mir.Syntax.{w64}
 use Rattle.whole.specs.Nearest.{nearest}
@@ -12,44 +14,60 @@ use Rattle.whole.proofs.Fit.{kept, kept-is}
 use Rattle.curve.specs.Limits.{reach}
 use Rattle.curve.specs.Tab.{tab}
 use Rattle.curve.specs.Span.{weighted, divisorOf}
+use Rattle.curve.specs.Ways.{deepest, apart}
 use Rattle.spans.specs.Numbers.{perSpan}
 use Rattle.spans.specs.Inner.{paired}
-use Rattle.spans.proofs.Pairs.{pair-step, pair-done, paired-x, paired-y}
+use Rattle.spans.proofs.Pairs.{pair-none, pair-step, pair-done, paired-x, paired-y}
 use Rattle.curve.proofs.Powers.{shift-one}
+use Rattle.curve.proofs.Table.{step-below, last-step, next-row, next-whole, next-step}
 use Rattle.spans.proofs.weights.fill_span.Statement.{statement}
 use Rattle.spans.proofs.weights.fill_span.Tie as tie
 
 abbrev Inv-loop : tie.InvT-loop
-Inv-loop points₀ at depth bits x y steps i₀ j₀ points i j =
-    (steps ≡ 2 ^ depth)
-    × (i ≤ steps)
-    × (j ≡ at + 2 * i)
+Inv-loop table points₀ at depth bits x y between row₀ j₀ points row j =
+    (between ≡ apart depth)
+    × (row % apart depth ≡ 0)
+    × (row ≤ 2 ^ deepest)
+    × (j ≡ at + 2 * (row / apart depth))
     × (length points ≡ length points₀)
-    × (sets points j (tab (paired depth (divisorOf bits) x y) (2 * i) (2 * (2 ^ depth - i))) ≡ sets points₀ at (tab (paired depth (divisorOf bits) x y) 0 (perSpan depth)))
+    × (sets points j (tab (paired depth (divisorOf bits) x y) (2 * (row / apart depth)) (2 * (2 ^ depth - row / apart depth))) ≡ sets points₀ at (tab (paired depth (divisorOf bits) x y) 0 (perSpan depth)))
 
 abbrev μ-loop : tie.MeasureT-loop
-μ-loop points₀ at depth bits x y steps i₀ j₀ points i j = steps - i
+μ-loop table points₀ at depth bits x y between row₀ j₀ points row j = 2 ^ deepest - row
 
-shl-steps : tie.Need-shl-steps Inv-loop μ-loop
-shl-steps c = omega arith
+-- 1 shifted left is how far apart the rows are
+apart-is : (k : ℕ) → k ≤ deepest → 1 * 2 ^ (deepest - k) % 2 ^ 64 ≡ apart k
+apart-is k h = shift-one (deepest - k) (omega arith)
+
+sub-apart : tie.Need-sub-apart Inv-loop μ-loop
+sub-apart c = omega arith
+
+shl-apart : tie.Need-shl-apart Inv-loop μ-loop
+shl-apart c = omega arith
 
 loop-holds : tie.Need-loop-holds Inv-loop μ-loop
 loop-holds c =
-    let k = c .args .depth in
-    let e = shift-one k (omega arith) in
-    (e, omega arith, omega arith, refl, ap (λ (n : ℕ). sets (c .args .points .now) (c .args .at) (tab (paired k (divisorOf (c .args .bits)) (c .args .x) (c .args .y)) 0 n)) (omega arith))
+    let a = c .args in
+    let k = a .depth in
+    let none : 0 / apart k ≡ 0 = zero-div (apart k) in
+    (apart-is k (c .pre .0 .0), zero-mod (apart k), omega arith, omega (arith, none), refl, pair-none (paired k (divisorOf (a .bits)) (a .x) (a .y)) (a .points .now) (a .at) (0 / apart k) (2 ^ k) none)
 
 table-sum-requires : tie.Need-table-sum-requires Inv-loop μ-loop
-table-sum-requires c κs = let p = c .before .before .before .pre in ((p .0 .0, omega arith), p .1 .0 .0 .inside)
+table-sum-requires c κs =
+    let p = c .before .before .before .pre in
+    let l = c .before .before .loop in
+    ((p .1 .1 .1, p .1 .0 .0 .inside), (p .0 .0, l .inv .2, l .inv .1))
 
 table-sum-requires-2 : tie.Need-table-sum-requires-2 Inv-loop μ-loop
-table-sum-requires-2 c κs = let p = c .before .before .before .before .pre in ((p .0 .0, omega arith), p .1 .0 .1 .inside)
+table-sum-requires-2 c κs = let r = table-sum-requires (c .before) κs in ((r .0 .0, c .before .before .before .before .pre .1 .0 .1 .inside), r .1)
 
 -- the sums of a turn, as the machine keeps them
-sum-x : (c : tie.After-table-sum Inv-loop μ-loop) → kept w64 (c .table-sum .result) ≡ weighted (c .before .before .before .before .args .x) (pos (c .before .before .before .loop .i)) (pos (2 ^ c .before .before .before .before .args .depth))
+sum-x : (c : tie.After-table-sum Inv-loop μ-loop) → kept w64 (c .table-sum .result)
+    ≡ weighted (c .before .before .before .before .args .x) (pos (c .before .before .before .loop .row / apart (c .before .before .before .before .args .depth))) (pos (2 ^ c .before .before .before .before .args .depth))
 sum-x c = kept-is w64 (c .table-sum .result) (record { sfits = c .table-sum .ok }) ∙ c .table-sum .ensures
 
-sum-y : (c : tie.After-table-sum2 Inv-loop μ-loop) → kept w64 (c .table-sum2 .result) ≡ weighted (c .before .before .before .before .before .args .y) (pos (c .before .before .before .before .loop .i)) (pos (2 ^ c .before .before .before .before .before .args .depth))
+sum-y : (c : tie.After-table-sum2 Inv-loop μ-loop) → kept w64 (c .table-sum2 .result)
+    ≡ weighted (c .before .before .before .before .before .args .y) (pos (c .before .before .before .before .loop .row / apart (c .before .before .before .before .before .args .depth))) (pos (2 ^ c .before .before .before .before .before .args .depth))
 sum-y c = kept-is w64 (c .table-sum2 .result) (record { sfits = c .table-sum2 .ok }) ∙ c .table-sum2 .ensures
 
 put-point-requires : tie.Need-put-point-requires Inv-loop μ-loop
@@ -58,49 +76,70 @@ put-point-requires c κs =
     let l = c .before .before .before .before .loop in
     let n = divisorOf (s .args .bits) * reach in
     let p = s .pre in
-    let within : l .i ≤ 2 ^ s .args .depth = omega arith in
-    (p .0 .1, ((subst (λ z. natAbs z ≤ n) (sym (sum-x (c .before))) (p .1 .0 .0 .near (l .i) within), subst (λ z. natAbs z ≤ n) (sym (sum-y c)) (p .1 .0 .1 .near (l .i) within)), omega arith))
+    let i = l .row / apart (s .args .depth) in
+    let below : i < 2 ^ s .args .depth = step-below (s .args .depth) (l .row) (p .0 .0) (omega arith) in
+    let within : i ≤ 2 ^ s .args .depth = omega arith in
+    (p .0 .1, ((subst (λ z. natAbs z ≤ n) (sym (sum-x (c .before))) (p .1 .0 .0 .near i within), subst (λ z. natAbs z ≤ n) (sym (sum-y c)) (p .1 .0 .1 .near i within)), omega arith))
 
-add-i : tie.Need-add-i Inv-loop μ-loop
-add-i c = omega arith
+add-row : tie.Need-add-row Inv-loop μ-loop
+add-row c =
+    let t = c .before .before .before .before .before .before in
+    let k = t .before .args .depth in
+    let p = t .before .pre .0 .0 in
+    omega (arith, apart-is k p, next-row k (t .loop .row) p (t .loop .inv .1) (omega arith))
 
 add-j : tie.Need-add-j Inv-loop μ-loop
-add-j c = omega arith
+add-j c =
+    let t = c .before .before .before .before .before .before in
+    let k = t .before .args .depth in
+    omega (arith, step-below k (t .loop .row) (t .before .pre .0 .0) (omega arith))
 
 loop-less : tie.Need-loop-less Inv-loop μ-loop
-loop-less c = omega arith
+loop-less c =
+    let t = c .before .before .before .before .before .before in
+    let k = t .before .args .depth in
+    let p = t .before .pre .0 .0 in
+    omega (arith, apart-is k p, pow-pos (deepest - k), next-row k (t .loop .row) p (t .loop .inv .1) (omega arith))
 
 loop-again : tie.Need-loop-again Inv-loop μ-loop
 loop-again c =
     let t = c .before .before in
     let l = t .before .before .before .before .loop in
-    let a = t .before .before .before .before .before .args in
+    let s = t .before .before .before .before .before in
+    let a = s .args in
+    let k = a .depth in
     let d = divisorOf (a .bits) in
-    let f = paired (a .depth) d (a .x) (a .y) in
-    let here : l .i < 2 ^ a .depth = omega arith in
-    let rest : List ℤ → List ℤ = λ v. sets v (l .j + 2) (tab f (2 * (l .i + 1)) (2 * (2 ^ a .depth - (l .i + 1)))) in (
+    let i = l .row / apart k in
+    let f = paired k d (a .x) (a .y) in
+    let e = apart-is k (s .pre .0 .0) in
+    let before : l .row < 2 ^ deepest = omega arith in
+    let next : (l .row + 1 * 2 ^ (deepest - k) % 2 ^ 64) / apart k ≡ i + 1 = ap (λ (n : ℕ). (l .row + n) / apart k) e ∙ next-step k (l .row) in
+    let rest : List ℤ → List ℤ = λ v. sets v (l .j + 2) (tab f (2 * (i + 1)) (2 * (2 ^ k - (i + 1)))) in (
       l .inv .0,
-      omega arith,
-      omega arith,
-      c .before .put-point .kept .0 ∙ l .inv .3,
-      ap rest
+      ap (λ (n : ℕ). (l .row + n) % apart k) e ∙ next-whole k (l .row) (l .inv .1),
+      omega (arith, e, next-row k (l .row) (s .pre .0 .0) (l .inv .1) before),
+      omega (arith, next),
+      c .before .put-point .kept .0 ∙ l .inv .4,
+      ap (λ (m : ℕ). sets (c .before .put-point .last .0) (l .j + 2) (tab f (2 * m) (2 * (2 ^ k - m)))) next
+          ∙ ap rest
           (c .before .put-point .ensures
-          ∙ ap (λ z. set (set (l .points) (l .j) z) (l .j + 1) (nearest (kept w64 (t .table-sum2 .result)) d)) (ap (λ z. nearest z d) (sum-x (t .before)) ∙ sym (paired-x (a .depth) d (a .x) (a .y) (l .i)))
-          ∙ ap (λ z. set (set (l .points) (l .j) (f (2 * l .i))) (l .j + 1) z) (ap (λ z. nearest z d) (sum-y t) ∙ sym (paired-y (a .depth) d (a .x) (a .y) (l .i))))
-          ∙ sym (pair-step f (l .points) (l .j) (l .i) (2 ^ a .depth) here)
-          ∙ l .inv .4,
+          ∙ ap (λ z. set (set (l .points) (l .j) z) (l .j + 1) (nearest (kept w64 (t .table-sum2 .result)) d)) (ap (λ z. nearest z d) (sum-x (t .before)) ∙ sym (paired-x k d (a .x) (a .y) i))
+          ∙ ap (λ z. set (set (l .points) (l .j) (f (2 * i))) (l .j + 1) z) (ap (λ z. nearest z d) (sum-y t) ∙ sym (paired-y k d (a .x) (a .y) i)))
+          ∙ sym (pair-step f (l .points) (l .j) i (2 ^ k) (step-below k (l .row) (s .pre .0 .0) before))
+          ∙ l .inv .5,
     )
 
 same-length : tie.Need-same-length Inv-loop μ-loop
-same-length c = c .before .loop .inv .3
+same-length c = c .before .loop .inv .4
 
 returns : tie.Need-returns Inv-loop μ-loop
 returns c =
     let l = c .before .loop in
     let a = c .before .before .args in
-    sym (pair-done (paired (a .depth) (divisorOf (a .bits)) (a .x) (a .y)) (l .points) (l .j) (l .i) (2 ^ a .depth) (omega arith)) ∙ l .inv .4
+    let k = a .depth in
+    let last : l .row ≡ 2 ^ deepest = omega arith in
+    let all : l .row / apart k ≡ 2 ^ k = ap (λ (n : ℕ). n / apart k) last ∙ last-step k (c .before .before .pre .0 .0) in
+    sym (pair-done (paired k (divisorOf (a .bits)) (a .x) (a .y)) (l .points) (l .j) (l .row / apart k) (2 ^ k) (omega (arith, all))) ∙ l .inv .5
 
 pub fill-span-spec : {M : Type 1} → statement M
-fill-span-spec =
-    tie.close
-    (tie.spec Inv-loop μ-loop shl-steps loop-holds table-sum-requires table-sum-requires-2 put-point-requires add-i add-j loop-less loop-again same-length returns)
+fill-span-spec = tie.close (tie.spec Inv-loop μ-loop sub-apart shl-apart loop-holds table-sum-requires table-sum-requires-2 put-point-requires add-row add-j loop-less loop-again same-length returns)

@@ -2,7 +2,7 @@
 use mathlib.Core.Path.{_≡_, refl, sym, ap, _∙_, subst}
 use mathlib.Core.List.{List}
 use Prim.Native.Nat.{ℕ, suc, _+_, _*_, _-_, _%_, _^_, _≤_, _<_}
-use native.Mathlib.Nat.{mul-le-mul, mul-le-mul-right, le-refl, mod-eq-of-lt, lt-of-le-of-lt, suc-mul}
+use native.Mathlib.Nat.{mul-le-mul, mul-le-mul-right, le-refl, suc-mul}
 use native.Mathlib.Numerals.{add-one}
 use native.Mathlib.Omega.{arith}
 use lib.Dec.{lit<}
@@ -20,13 +20,13 @@ use Rattle.spans.specs.Numbers.{number, perSpan}
 use Rattle.spans.specs.Filled.{filled}
 use Rattle.spans.specs.Inner.{paired, ending, Ready}
 use Rattle.whole.proofs.Writes.{sets-append}
-use Rattle.spans.proofs.Numbers.{spanControls, span-numbers, next-span, last-two}
+use Rattle.spans.proofs.Numbers.{stride-is, spanControls, span-numbers, next-span, last-two}
 use Rattle.spans.proofs.Drawables.{span-ready}
-use Rattle.spans.proofs.run.fill_spans.Statement.{statement}
-use Rattle.spans.proofs.run.fill_spans.Tie as tie
+use Rattle.spans.proofs.run.fill_run.Statement.{statement}
+use Rattle.spans.proofs.run.fill_run.Tie as tie
 
 abbrev Inv-loop : tie.InvT-loop
-Inv-loop way points₀ controls plan from to depth bits stride span₀ at₀ points span at =
+Inv-loop way table points₀ controls plan from to depth bits stride span₀ at₀ points span at =
     (stride ≡ perSpan (plan .depth))
     × (span ≤ to)
     × (at ≡ span * perSpan (plan .depth))
@@ -35,11 +35,7 @@ Inv-loop way points₀ controls plan from to depth bits stride span₀ at₀ poi
     ≡ filled (number plan controls) (from * perSpan (plan .depth)) ((to - from) * perSpan (plan .depth) + 2) points₀)
 
 abbrev μ-loop : tie.MeasureT-loop
-μ-loop way points₀ controls plan from to depth bits stride span₀ at₀ points span at = to - span
-
--- 2 shifted left by the depth is a span's numbers
-stride-is : (k : ℕ) → k ≤ deepest → 2 * 2 ^ k % 2 ^ 64 ≡ perSpan k
-stride-is k h = mod-eq-of-lt (lt-of-le-of-lt (mul-le-mul (le-refl 2) (pow-mono {i = k} {j = deepest} h)) (lit< tt))
+μ-loop way table points₀ controls plan from to depth bits stride span₀ at₀ points span at = to - span
 
 -- the divisor's bits
 bits-small : (k : ℕ) → k ≤ deepest → 3 * k ≤ mostBits
@@ -103,7 +99,7 @@ fill-span-requires c κs =
           subst (Ready (a .plan .depth) (divisor (a .plan .basis) (a .plan .depth))) (sym (c .before .before .span-controls .ensures)) (span-ready (a .plan) (a .controls .now) d (l .span) 0 here (lit< tt)),
           subst (Ready (a .plan .depth) (divisor (a .plan .basis) (a .plan .depth))) (sym (c .before .span-controls2 .ensures)) (span-ready (a .plan) (a .controls .now) d (l .span) 1 here (lit< tt)),
         ),
-        omega (arith, room (a .plan .depth) (l .span) (a .to) (length (a .points .now)) (omega arith) (s .pre .1 .1)),
+        (omega (arith, room (a .plan .depth) (l .span) (a .to) (length (a .points .now)) (omega arith) (s .pre .1 .1 .0)), s .pre .1 .1 .1),
       ),
     )
 
@@ -122,7 +118,7 @@ loop-less : tie.Need-loop-less Inv-loop μ-loop
 loop-less c = let t = c .before .before .before .before .before in omega (arith, t)
 
 -- a turn writes the next span's numbers
-wrote : (c : tie.After-fill-span Inv-loop μ-loop) → c .fill-span .last .1 .0
+wrote : (c : tie.After-fill-span Inv-loop μ-loop) → c .fill-span .last .1 .1 .0
     ≡ sets (c .before .before .before .before .before .loop .points) (c .before .before .before .before .before .loop .at)
     (tab (number (c .before .before .before .before .before .before .args .plan) (c .before .before .before .before .before .before .args .controls .now)) (c .before .before .before .before .before .loop .span * perSpan (c .before .before .before .before .before .before .args .plan .depth)) (perSpan (c .before .before .before .before .before .before .args .plan .depth)))
 wrote c =
@@ -152,7 +148,7 @@ loop-again c =
       l .inv .0,
       omega (arith, t),
       on,
-      c .before .fill-span .kept .1 .0 ∙ l .inv .3,
+      c .before .fill-span .kept .1 .1 .0 ∙ l .inv .3,
       ap (λ v. sets v (l .at + (2 * 2 ^ k) % 2 ^ 64) (tab f ((l .span + 1) * w) left)) (wrote (c .before))
           ∙ ap (λ (n : ℕ). sets (sets (l .points) (l .at) numbers) (l .at + n) (tab f ((l .span + 1) * w) left)) (stride-is k (t .before .before .pre .0 .0) ∙ sym (length-tab f (l .span * w) w))
           ∙ sym (sets-append (l .points) (l .at) numbers (tab f ((l .span + 1) * w) left))
@@ -217,5 +213,5 @@ returns c =
     ∙ ap (λ (n : ℕ). sets (l .points) (l .at) (tab f (n * w) ((a .to - n) * w + 2))) (sym done)
     ∙ l .inv .4
 
-pub fill-spans-spec : {M : Type 1} → statement M
-fill-spans-spec = tie.close (tie.spec Inv-loop μ-loop mul-bits cast-bits shl-stride mul-at loop-holds span-controls-requires span-controls-requires-2 fill-span-requires add-span add-at loop-less loop-again sub-span-controls span-controls-requires-3 sub-span-controls-2 span-controls-requires-4 put-end-requires same-length returns)
+pub fill-run-spec : {M : Type 1} → statement M
+fill-run-spec = tie.close (tie.spec Inv-loop μ-loop mul-bits cast-bits shl-stride mul-at loop-holds span-controls-requires span-controls-requires-2 fill-span-requires add-span add-at loop-less loop-again sub-span-controls span-controls-requires-3 sub-span-controls-2 span-controls-requires-4 put-end-requires same-length returns)
