@@ -26,16 +26,14 @@ fn fill_steps(
     requires { ⌜ at + perSpan depth ≤ length (now points) ⌝ }
     ensures { λ _. ⌜ now (points .exit) ≡ sets (now (points .entry)) at (tab (stepped (divisorOf bits) x y) 0 (perSpan depth)) ⌝ }
 {
-    let steps: usize = 1 << depth;
+    let end = at + (2 << depth);
     let mut on_x = x;
     let mut on_y = y;
-    let mut i = 0;
     let mut j = at;
-    while i < steps {
+    while j < end {
         put_point(points, j, bits, on_x.value, on_y.value);
         on_x = on_x.next();
         on_y = on_y.next();
-        i += 1;
         j += 2;
     }
 }

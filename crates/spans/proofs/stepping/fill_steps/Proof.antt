@@ -1,6 +1,6 @@
 -- At each turn the states are those after i steps, and the pairs still to be written, written to the present list, make the whole.
 use mathlib.Core.Path.{_≡_, refl, sym, ap, _∙_, subst}
-use Prim.Native.Nat.{ℕ, _+_, _*_, _-_, _^_, _≤_, _<_}
+use Prim.Native.Nat.{ℕ, _+_, _*_, _-_, _/_, _^_, _≤_, _<_}
 use native.Mathlib.Omega.{arith}
 use lib.IntN.{natAbs}
 use lib.ListN.{length, set}
@@ -16,33 +16,49 @@ use Rattle.curve.specs.Span.{divisorOf}
 use Rattle.curve.specs.Ways.{advance}
 use Rattle.spans.specs.Numbers.{perSpan}
 use Rattle.spans.specs.Inner.{after, stepped, Steady}
-use Rattle.spans.proofs.Pairs.{pair-step, pair-done}
-use Rattle.curve.proofs.Powers.{shift-one}
+use Rattle.spans.proofs.Numbers.{stride-is}
+use Rattle.spans.proofs.Pairs.{pair-none, pair-step, pair-done}
 use Rattle.spans.proofs.Steps.{stepped-x, stepped-y, value-fits, after-suc}
 use Rattle.spans.proofs.stepping.fill_steps.Statement.{statement}
 use Rattle.spans.proofs.stepping.fill_steps.Tie as tie
 
+-- the steps taken, by the place in the list
+abbrev taken : ℕ → ℕ → ℕ
+taken at j = (j - at) / 2
+
 abbrev Inv-loop : tie.InvT-loop
-Inv-loop points₀ at depth bits steps on-x₀ on-y₀ i₀ j₀ points on-x on-y i j =
-    (steps ≡ 2 ^ depth)
-    × (i ≤ steps)
-    × (j ≡ at + 2 * i)
+Inv-loop points₀ at depth bits end on-x₀ on-y₀ j₀ points on-x on-y j =
+    (end ≡ at + perSpan depth)
+    × (taken at j ≤ 2 ^ depth)
+    × (j ≡ at + 2 * taken at j)
     × (length points ≡ length points₀)
-    × (on-x ≡ after i on-x₀)
-    × (on-y ≡ after i on-y₀)
-    × (sets points j (tab (stepped (divisorOf bits) on-x₀ on-y₀) (2 * i) (2 * (2 ^ depth - i))) ≡ sets points₀ at (tab (stepped (divisorOf bits) on-x₀ on-y₀) 0 (perSpan depth)))
+    × (on-x ≡ after (taken at j) on-x₀)
+    × (on-y ≡ after (taken at j) on-y₀)
+    × (sets points j (tab (stepped (divisorOf bits) on-x₀ on-y₀) (2 * taken at j) (2 * (2 ^ depth - taken at j))) ≡ sets points₀ at (tab (stepped (divisorOf bits) on-x₀ on-y₀) 0 (perSpan depth)))
 
 abbrev μ-loop : tie.MeasureT-loop
-μ-loop points₀ at depth bits steps on-x₀ on-y₀ i₀ j₀ points on-x on-y i j = steps - i
+μ-loop points₀ at depth bits end on-x₀ on-y₀ j₀ points on-x on-y j = end - j
 
-shl-steps : tie.Need-shl-steps Inv-loop μ-loop
-shl-steps c = omega arith
+shl-end : tie.Need-shl-end Inv-loop μ-loop
+shl-end c = omega arith
+
+add-end : tie.Need-add-end Inv-loop μ-loop
+add-end c = omega (arith, stride-is (c .args .depth) (c .pre .0 .0))
 
 loop-holds : tie.Need-loop-holds Inv-loop μ-loop
 unfolding after
 loop-holds c =
-    let k = c .args .depth in
-    (shift-one k (omega arith), omega arith, omega arith, refl, refl, refl, ap (λ (n : ℕ). sets (c .args .points .now) (c .args .at) (tab (stepped (divisorOf (c .args .bits)) (c .args .x) (c .args .y)) 0 n)) (omega arith))
+    let a = c .args in
+    let k = a .depth in
+    let none : taken (a .at) (a .at) ≡ 0 = omega arith in (
+      ap (λ (n : ℕ). a .at + n) (stride-is k (c .pre .0 .0)),
+      omega (arith, none),
+      omega (arith, none),
+      refl,
+      sym (ap (λ (n : ℕ). after n (a .x)) none),
+      sym (ap (λ (n : ℕ). after n (a .y)) none),
+      pair-none (stepped (divisorOf (a .bits)) (a .x) (a .y)) (a .points .now) (a .at) (taken (a .at) (a .at)) (2 ^ k) none,
+    )
 
 -- a state of the loop is one of the steady run
 steady : (k d i : ℕ) (s t : Differences) → i < 2 ^ k → t ≡ after i s → Steady k d s → Small t × (natAbs (kept w64 (t .value)) ≤ d * reach)
@@ -55,13 +71,13 @@ turn-x : (c : tie.In-loop Inv-loop μ-loop) → Small (c .before .loop .on-x) ×
 turn-x c =
     let s = c .before .before in
     let l = c .before .loop in
-    steady (s .args .depth) (divisorOf (s .args .bits)) (l .i) (s .args .x) (l .on-x) (omega arith) (l .inv .4) (s .pre .1 .0 .0)
+    steady (s .args .depth) (divisorOf (s .args .bits)) (taken (s .args .at) (l .j)) (s .args .x) (l .on-x) (omega arith) (l .inv .4) (s .pre .1 .0 .0)
 
 turn-y : (c : tie.In-loop Inv-loop μ-loop) → Small (c .before .loop .on-y) × (natAbs (kept w64 (c .before .loop .on-y .value)) ≤ divisorOf (c .before .before .args .bits) * reach)
 turn-y c =
     let s = c .before .before in
     let l = c .before .loop in
-    steady (s .args .depth) (divisorOf (s .args .bits)) (l .i) (s .args .y) (l .on-y) (omega arith) (l .inv .5) (s .pre .1 .0 .1)
+    steady (s .args .depth) (divisorOf (s .args .bits)) (taken (s .args .at) (l .j)) (s .args .y) (l .on-y) (omega arith) (l .inv .5) (s .pre .1 .0 .1)
 
 put-point-requires : tie.Need-put-point-requires Inv-loop μ-loop
 put-point-requires c κs = let t = c .before .before .before in (t .before .before .pre .0 .1, ((turn-x t .1, turn-y t .1), omega arith))
@@ -71,9 +87,6 @@ next-requires c κs = turn-x (c .before .before .before .before .before) .0
 
 next-requires-2 : tie.Need-next-requires-2 Inv-loop μ-loop
 next-requires-2 c κs = turn-y (c .before .before .before .before .before .before) .0
-
-add-i : tie.Need-add-i Inv-loop μ-loop
-add-i c = omega (arith, c .before .before .before .before .before .before .before)
 
 add-j : tie.Need-add-j Inv-loop μ-loop
 add-j c = omega (arith, c .before .before .before .before .before .before .before)
@@ -87,18 +100,19 @@ number d i s t e small = ap (λ z. nearest z d) (kept-is w64 (t .value) (value-f
 
 -- what a turn writes is the rule's next pair
 wrote : (c : tie.After-put-point Inv-loop μ-loop) → c .put-point .last .0
-    ≡ set (set (c .before .before .before .before .before .loop .points) (c .before .before .before .before .before .loop .j) (stepped (divisorOf (c .before .before .before .before .before .before .args .bits)) (c .before .before .before .before .before .before .args .x) (c .before .before .before .before .before .before .args .y) (2 * c .before .before .before .before .before .loop .i)))
+    ≡ set (set (c .before .before .before .before .before .loop .points) (c .before .before .before .before .before .loop .j) (stepped (divisorOf (c .before .before .before .before .before .before .args .bits)) (c .before .before .before .before .before .before .args .x) (c .before .before .before .before .before .before .args .y) (2 * taken (c .before .before .before .before .before .before .args .at) (c .before .before .before .before .before .loop .j))))
     (c .before .before .before .before .before .loop .j + 1)
-    (stepped (divisorOf (c .before .before .before .before .before .before .args .bits)) (c .before .before .before .before .before .before .args .x) (c .before .before .before .before .before .before .args .y) (2 * c .before .before .before .before .before .loop .i + 1))
+    (stepped (divisorOf (c .before .before .before .before .before .before .args .bits)) (c .before .before .before .before .before .before .args .x) (c .before .before .before .before .before .before .args .y) (2 * taken (c .before .before .before .before .before .before .args .at) (c .before .before .before .before .before .loop .j) + 1))
 wrote c =
     let t = c .before .before .before .before in
     let l = t .before .loop in
     let a = t .before .before .args in
     let d = divisorOf (a .bits) in
+    let i = taken (a .at) (l .j) in
     let y = nearest (kept w64 (l .on-y .value)) d in
     c .put-point .ensures
-    ∙ ap (λ z. set (set (l .points) (l .j) z) (l .j + 1) y) (number d (l .i) (a .x) (l .on-x) (l .inv .4) (turn-x t .0) ∙ sym (stepped-x d (a .x) (a .y) (l .i)))
-    ∙ ap (λ z. set (set (l .points) (l .j) (stepped d (a .x) (a .y) (2 * l .i))) (l .j + 1) z) (number d (l .i) (a .y) (l .on-y) (l .inv .5) (turn-y t .0) ∙ sym (stepped-y d (a .x) (a .y) (l .i)))
+    ∙ ap (λ z. set (set (l .points) (l .j) z) (l .j + 1) y) (number d i (a .x) (l .on-x) (l .inv .4) (turn-x t .0) ∙ sym (stepped-x d (a .x) (a .y) i))
+    ∙ ap (λ z. set (set (l .points) (l .j) (stepped d (a .x) (a .y) (2 * i))) (l .j + 1) z) (number d i (a .y) (l .on-y) (l .inv .5) (turn-y t .0) ∙ sym (stepped-y d (a .x) (a .y) i))
 
 loop-again : tie.Need-loop-again Inv-loop μ-loop
 loop-again c =
@@ -106,15 +120,20 @@ loop-again c =
     let l = t .before .loop in
     let a = t .before .before .args in
     let k = a .depth in
+    let i = taken (a .at) (l .j) in
     let f = stepped (divisorOf (a .bits)) (a .x) (a .y) in
-    let here : l .i < 2 ^ k = omega (arith, t) in (
+    let next : taken (a .at) (l .j + 2) ≡ i + 1 = omega (arith, t) in
+    let here : i < 2 ^ k = omega (arith, t) in (
       l .inv .0,
       omega (arith, t),
       omega (arith, t),
       c .before .before .before .put-point .kept .0 ∙ l .inv .3,
-      c .before .next .ensures ∙ ap advance (l .inv .4) ∙ after-suc (l .i) (a .x),
-      c .next2 .ensures ∙ ap advance (l .inv .5) ∙ after-suc (l .i) (a .y),
-      ap (λ v. sets v (l .j + 2) (tab f (2 * (l .i + 1)) (2 * (2 ^ k - (l .i + 1))))) (wrote (c .before .before .before)) ∙ sym (pair-step f (l .points) (l .j) (l .i) (2 ^ k) here) ∙ l .inv .6,
+      c .before .next .ensures ∙ ap advance (l .inv .4) ∙ after-suc i (a .x) ∙ ap (λ (n : ℕ). after n (a .x)) (sym next),
+      c .next2 .ensures ∙ ap advance (l .inv .5) ∙ after-suc i (a .y) ∙ ap (λ (n : ℕ). after n (a .y)) (sym next),
+      ap (λ (n : ℕ). sets (c .before .before .before .put-point .last .0) (l .j + 2) (tab f (2 * n) (2 * (2 ^ k - n)))) next
+          ∙ ap (λ v. sets v (l .j + 2) (tab f (2 * (i + 1)) (2 * (2 ^ k - (i + 1))))) (wrote (c .before .before .before))
+          ∙ sym (pair-step f (l .points) (l .j) i (2 ^ k) here)
+          ∙ l .inv .6,
     )
 
 same-length : tie.Need-same-length Inv-loop μ-loop
@@ -124,7 +143,7 @@ returns : tie.Need-returns Inv-loop μ-loop
 returns c =
     let l = c .before .loop in
     let a = c .before .before .args in
-    sym (pair-done (stepped (divisorOf (a .bits)) (a .x) (a .y)) (l .points) (l .j) (l .i) (2 ^ a .depth) (omega arith)) ∙ l .inv .6
+    sym (pair-done (stepped (divisorOf (a .bits)) (a .x) (a .y)) (l .points) (l .j) (taken (a .at) (l .j)) (2 ^ a .depth) (omega arith)) ∙ l .inv .6
 
 pub fill-steps-spec : {M : Type 1} → statement M
-fill-steps-spec = tie.close (tie.spec Inv-loop μ-loop shl-steps loop-holds put-point-requires next-requires next-requires-2 add-i add-j loop-less loop-again same-length returns)
+fill-steps-spec = tie.close (tie.spec Inv-loop μ-loop shl-end add-end loop-holds put-point-requires next-requires next-requires-2 add-j loop-less loop-again same-length returns)
