@@ -16,6 +16,7 @@ use Rattle.curve.specs.Limits.{Inside, limit, reach}
 use Rattle.curve.specs.Inner.{Small, widest}
 use Rattle.shape.specs.declared.Plan.{Plan}
 use Rattle.shape.specs.Shape.{mostRecords}
+use Rattle.spans.specs.Numbers.{perSpan}
 use Rattle.spans.specs.declared.run.Way.{Way}
 use Rattle.spans.specs.declared.run.Way.the-variants.{Weights, Halving, Differences as ByDifferences}
 
@@ -42,12 +43,6 @@ stepped d x y j = nearest (after (j / 2) (cond (eqb (j % 2) 0) x y) .value) d
 
 -- ---- what it can be drawn from
 
--- What is lent to a way beside its lists: to the weights' way the table. The others read none.
-abbrev pub Lent : Way → List ℤ → Type 0
-Lent Weights table = table ≡ weightTable
-Lent Halving table = Unit {0}
-Lent ByDifferences table = Unit {0}
-
 -- Controls of one axis that a span can be drawn from: sixfold controls of records inside the limits, so that each sum, of 2^k steps, is within its divisor d times 5,000,000.
 pub record Ready (k d : ℕ) (q : Four) : Type 0 where
   pub inside : Inside widest q
@@ -68,3 +63,17 @@ pub record Drawable (p : Plan) (controls : List ℤ) : Type 0 where
   pub few : p .spans ≤ mostRecords
   pub held : (s : ℕ) → s < p .spans → 2 * firstRecord (p .basis) s + 8 ≤ length controls
   pub inside : (s axis : ℕ) → s < p .spans → axis < 2 → Inside limit (records (p .basis) s (coordinate controls axis))
+
+-- A run of spans, from one up to, and not with, another, that can be drawn into a list of n numbers.
+pub record Fillable (p : Plan) (from to : ℕ) (controls : List ℤ) (n : ℕ) : Type 0 where
+  pub deep : p .depth ≤ deepest
+  pub some : from < to
+  pub there : to ≤ p .spans
+  pub drawable : Drawable p controls
+  pub room : to * perSpan (p .depth) + 2 ≤ n
+
+-- What a way has lent to it beside its lists: the weights' way the table, the others anything.
+abbrev pub TableFor : Way → List ℤ → Type 0
+TableFor Weights table = table ≡ weightTable
+TableFor Halving table = Unit {0}
+TableFor ByDifferences table = Unit {0}

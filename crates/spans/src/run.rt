@@ -1,6 +1,6 @@
 // A run of spans: from the start of one to the end of another.
 ghost use mathlib.Core.Path.{_≡_};
-ghost use Prim.Native.Nat.{_+_, _*_, _-_, _^_, _≤_, _<_};
+ghost use Prim.Native.Nat.{_+_, _^_, _≤_, _<_};
 ghost use lib.IntN.{pos};
 ghost use lib.ListN.{length};
 ghost use lib.Seq.{sets};
@@ -9,9 +9,9 @@ ghost use Rattle.curve.specs.Inner.{widest};
 ghost use Rattle.curve.specs.Tab.{tab};
 ghost use Rattle.curve.specs.Span.{coordinate, divisorOf, records, sixfoldControls, weighted};
 ghost use Rattle.curve.specs.Ways.{deepest, mostBits};
-ghost use Rattle.spans.specs.Numbers.{number, perSpan};
-ghost use Rattle.spans.specs.Filled.{filled};
-ghost use Rattle.spans.specs.Inner.{ending, paired, Drawable, Lent, Ready};
+ghost use Rattle.spans.specs.Numbers.{perSpan};
+ghost use Rattle.spans.specs.Filled.{filledRun};
+ghost use Rattle.spans.specs.Inner.{ending, paired, Drawable, Fillable, Ready, TableFor};
 use crate::halving;
 use crate::point::put_point;
 use crate::stepping;
@@ -55,7 +55,7 @@ fn fill_span(
     requires { ⌜ (depth ≤ deepest) × (bits ≤ mostBits) ⌝ }
     requires { ⌜ Ready depth (divisorOf bits) x × Ready depth (divisorOf bits) y ⌝ }
     requires { ⌜ at + perSpan depth ≤ length (now points) ⌝ }
-    requires { ⌜ Lent way (now table) ⌝ }
+    requires { ⌜ TableFor way (now table) ⌝ }
     ensures { λ _. ⌜ now (points .exit) ≡ sets (now (points .entry)) at (tab (paired depth (divisorOf bits) x y) 0 (perSpan depth)) ⌝ }
 {
     match way {
@@ -95,11 +95,9 @@ fn fill_run(
     from: usize,
     to: usize,
 )
-    requires { ⌜ (plan .depth ≤ deepest) × (from < to) × (to ≤ plan .spans) ⌝ }
-    requires { ⌜ Drawable plan (now controls) ⌝ }
-    requires { ⌜ to * perSpan (plan .depth) + 2 ≤ length (now points) ⌝ }
-    requires { ⌜ Lent way (now table) ⌝ }
-    ensures { λ _. ⌜ now (points .exit) ≡ filled (number plan (now (controls .entry))) (from * perSpan (plan .depth)) ((to - from) * perSpan (plan .depth) + 2) (now (points .entry)) ⌝ }
+    requires { ⌜ Fillable plan from to (now controls) (length (now points)) ⌝ }
+    requires { ⌜ TableFor way (now table) ⌝ }
+    ensures { λ _. ⌜ now (points .exit) ≡ filledRun plan from to (now (controls .entry)) (now (points .entry)) ⌝ }
 {
     let depth = plan.depth;
     // The divisor is 6 · 2^bits.
@@ -121,10 +119,8 @@ fn fill_run(
 
 // The same by weights. Here and nowhere else the table is bound: once a call, for drawing and for edits.
 pub fn fill_by_weights(points: &mut [i32], controls: &[i32], plan: Plan, from: usize, to: usize)
-    requires { ⌜ (plan .depth ≤ deepest) × (from < to) × (to ≤ plan .spans) ⌝ }
-    requires { ⌜ Drawable plan (now controls) ⌝ }
-    requires { ⌜ to * perSpan (plan .depth) + 2 ≤ length (now points) ⌝ }
-    ensures { λ _. ⌜ now (points .exit) ≡ filled (number plan (now (controls .entry))) (from * perSpan (plan .depth)) ((to - from) * perSpan (plan .depth) + 2) (now (points .entry)) ⌝ }
+    requires { ⌜ Fillable plan from to (now controls) (length (now points)) ⌝ }
+    ensures { λ _. ⌜ now (points .exit) ≡ filledRun plan from to (now (controls .entry)) (now (points .entry)) ⌝ }
 {
     let table = weight_table();
     fill_run(Way::Weights, &table, points, controls, plan, from, to);
@@ -139,10 +135,8 @@ pub fn fill_spans(
     from: usize,
     to: usize,
 )
-    requires { ⌜ (plan .depth ≤ deepest) × (from < to) × (to ≤ plan .spans) ⌝ }
-    requires { ⌜ Drawable plan (now controls) ⌝ }
-    requires { ⌜ to * perSpan (plan .depth) + 2 ≤ length (now points) ⌝ }
-    ensures { λ _. ⌜ now (points .exit) ≡ filled (number plan (now (controls .entry))) (from * perSpan (plan .depth)) ((to - from) * perSpan (plan .depth) + 2) (now (points .entry)) ⌝ }
+    requires { ⌜ Fillable plan from to (now controls) (length (now points)) ⌝ }
+    ensures { λ _. ⌜ now (points .exit) ≡ filledRun plan from to (now (controls .entry)) (now (points .entry)) ⌝ }
 {
     match way {
         Way::Weights => fill_by_weights(points, controls, plan, from, to),

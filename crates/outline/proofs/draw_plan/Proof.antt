@@ -16,7 +16,7 @@ use Rattle.shape.specs.Inner.{Lent}
 use Rattle.shape.proofs.Refusals.{fine-facts}
 use Rattle.shape.proofs.Spans.{points-at-most}
 use Rattle.spans.specs.Numbers.{number, perSpan}
-use Rattle.spans.specs.Filled.{filled}
+use Rattle.spans.specs.Filled.{filled, filledRun}
 use Rattle.spans.specs.Inner.{Drawable}
 use Rattle.outline.specs.declared.Drawn.the-variants.{Points}
 use Rattle.outline.specs.Outline.{points, drawn}
@@ -66,13 +66,19 @@ fill-spans-requires c κs =
     let t = c .before in
     let s = t .before .before .before .before in
     let p = s .args .plan in
-    ((s .pre .depth-most, omega (arith, s .pre .spans-least), le-refl (p .spans)), (spans-drawable t, omega (arith, all-numbers (p .depth) (p .spans), lent t .points-room)))
+    record {
+      deep = s .pre .depth-most;
+      some = omega (arith, s .pre .spans-least);
+      there = le-refl (p .spans);
+      drawable = spans-drawable t;
+      room = omega (arith, all-numbers (p .depth) (p .spans), lent t .points-room);
+    }
 
 same-length : tie.Need-same-length
 same-length c = search needs
 
 -- the run from span 0 on is the whole outline
-whole-run : (p : Plan) (controls l : List ℤ) → filled (number p controls) (0 * perSpan (p .depth)) ((p .spans - 0) * perSpan (p .depth) + 2) l ≡ drawn p controls l
+whole-run : (p : Plan) (controls l : List ℤ) → filledRun p 0 (p .spans) controls l ≡ drawn p controls l
 whole-run p controls l =
     let all : p .spans - 0 ≡ p .spans = omega arith in
     ap (λ (n : ℕ). filled (number p controls) n ((p .spans - 0) * perSpan (p .depth) + 2) l) (zero-mul (perSpan (p .depth)))

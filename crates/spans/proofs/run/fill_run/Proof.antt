@@ -17,7 +17,7 @@ use Rattle.curve.specs.Ways.{deepest, mostBits}
 use Rattle.curve.proofs.Tab.{length-tab}
 use Rattle.shape.specs.Shape.{mostRecords}
 use Rattle.spans.specs.Numbers.{number, perSpan}
-use Rattle.spans.specs.Filled.{filled}
+use Rattle.spans.specs.Filled.{filledRun}
 use Rattle.spans.specs.Inner.{paired, ending, Ready}
 use Rattle.whole.proofs.Writes.{sets-append}
 use Rattle.spans.proofs.Numbers.{stride-is, spanControls, span-numbers, next-span, last-two}
@@ -32,7 +32,7 @@ Inv-loop way table points₀ controls plan from to depth bits stride span₀ at�
     × (at ≡ span * perSpan (plan .depth))
     × (length points ≡ length points₀)
     × (sets points at (tab (number plan controls) (span * perSpan (plan .depth)) ((to - span) * perSpan (plan .depth) + 2))
-    ≡ filled (number plan controls) (from * perSpan (plan .depth)) ((to - from) * perSpan (plan .depth) + 2) points₀)
+    ≡ filledRun plan from to controls points₀)
 
 abbrev μ-loop : tie.MeasureT-loop
 μ-loop way table points₀ controls plan from to depth bits stride span₀ at₀ points span at = to - span
@@ -58,12 +58,12 @@ mul-at : tie.Need-mul-at Inv-loop μ-loop
 mul-at c =
     let a = c .args in
     let k = a .plan .depth in
-    omega (arith, ap (λ (n : ℕ). a .from * n) (stride-is k (c .pre .0 .0)), place-small k (a .from) (c .pre .0 .0) (omega arith))
+    omega (arith, ap (λ (n : ℕ). a .from * n) (stride-is k (c .pre .0 .deep)), place-small k (a .from) (c .pre .0 .deep) (omega arith))
 
 loop-holds : tie.Need-loop-holds Inv-loop μ-loop
 loop-holds c =
     let a = c .args in
-    let e = stride-is (a .plan .depth) (c .pre .0 .0) in
+    let e = stride-is (a .plan .depth) (c .pre .0 .deep) in
     let at = ap (λ (n : ℕ). a .from * n) e in (
       e,
       omega arith,
@@ -76,7 +76,7 @@ span-controls-requires : tie.Need-span-controls-requires Inv-loop μ-loop
 span-controls-requires c κs =
     let s = c .before .before in
     let a = s .args in
-    ((omega arith, lit< tt), s .pre .1 .0)
+    ((omega arith, lit< tt), s .pre .0 .drawable)
 
 span-controls-requires-2 : tie.Need-span-controls-requires-2 Inv-loop μ-loop
 span-controls-requires-2 c κs = let r = span-controls-requires (c .before) κs in ((r .0 .0, lit< tt), r .1)
@@ -92,19 +92,19 @@ fill-span-requires c κs =
     let a = s .args in
     let l = t .before .loop in
     let here : l .span < a .plan .spans = omega arith in
-    let d = s .pre .1 .0 in (
-      (s .pre .0 .0, bits-small (a .plan .depth) (s .pre .0 .0)),
+    let d = s .pre .0 .drawable in (
+      (s .pre .0 .deep, bits-small (a .plan .depth) (s .pre .0 .deep)),
       (
         (
           subst (Ready (a .plan .depth) (divisor (a .plan .basis) (a .plan .depth))) (sym (c .before .before .span-controls .ensures)) (span-ready (a .plan) (a .controls .now) d (l .span) 0 here (lit< tt)),
           subst (Ready (a .plan .depth) (divisor (a .plan .basis) (a .plan .depth))) (sym (c .before .span-controls2 .ensures)) (span-ready (a .plan) (a .controls .now) d (l .span) 1 here (lit< tt)),
         ),
-        (omega (arith, room (a .plan .depth) (l .span) (a .to) (length (a .points .now)) (omega arith) (s .pre .1 .1 .0)), s .pre .1 .1 .1),
+        (omega (arith, room (a .plan .depth) (l .span) (a .to) (length (a .points .now)) (omega arith) (s .pre .0 .room)), s .pre .1),
       ),
     )
 
 add-span : tie.Need-add-span Inv-loop μ-loop
-add-span c = let t = c .before .before .before .before .before in omega (arith, t, t .before .before .pre .1 .0 .few)
+add-span c = let t = c .before .before .before .before .before in omega (arith, t, t .before .before .pre .0 .drawable .few)
 
 add-at : tie.Need-add-at Inv-loop μ-loop
 add-at c =
@@ -112,7 +112,7 @@ add-at c =
     let s = t .before .before in
     let l = t .before .loop in
     let k = s .args .plan .depth in
-    omega (arith, t, l .inv .2, stride-is k (s .pre .0 .0), place-small k (l .span) (s .pre .0 .0) (omega (arith, l .inv .1, s .pre .1 .0 .few)), pow-mono {i = k} {j = deepest} (s .pre .0 .0))
+    omega (arith, t, l .inv .2, stride-is k (s .pre .0 .deep), place-small k (l .span) (s .pre .0 .deep) (omega (arith, l .inv .1, s .pre .0 .drawable .few)), pow-mono {i = k} {j = deepest} (s .pre .0 .deep))
 
 loop-less : tie.Need-loop-less Inv-loop μ-loop
 loop-less c = let t = c .before .before .before .before .before in omega (arith, t)
@@ -144,13 +144,13 @@ loop-again c =
     let here : l .span < a .to = omega (arith, t) in
     let left = (a .to - (l .span + 1)) * w + 2 in
     let numbers = tab f (l .span * w) w in
-    let on : l .at + (2 * 2 ^ k) % 2 ^ 64 ≡ (l .span + 1) * w = omega (arith, l .inv .2, stride-is k (t .before .before .pre .0 .0), ap (λ (n : ℕ). n * w) (add-one (l .span)), suc-mul (l .span) w) in (
+    let on : l .at + (2 * 2 ^ k) % 2 ^ 64 ≡ (l .span + 1) * w = omega (arith, l .inv .2, stride-is k (t .before .before .pre .0 .deep), ap (λ (n : ℕ). n * w) (add-one (l .span)), suc-mul (l .span) w) in (
       l .inv .0,
       omega (arith, t),
       on,
       c .before .fill-span .kept .1 .1 .0 ∙ l .inv .3,
       ap (λ v. sets v (l .at + (2 * 2 ^ k) % 2 ^ 64) (tab f ((l .span + 1) * w) left)) (wrote (c .before))
-          ∙ ap (λ (n : ℕ). sets (sets (l .points) (l .at) numbers) (l .at + n) (tab f ((l .span + 1) * w) left)) (stride-is k (t .before .before .pre .0 .0) ∙ sym (length-tab f (l .span * w) w))
+          ∙ ap (λ (n : ℕ). sets (sets (l .points) (l .at) numbers) (l .at + n) (tab f ((l .span + 1) * w) left)) (stride-is k (t .before .before .pre .0 .deep) ∙ sym (length-tab f (l .span * w) w))
           ∙ sym (sets-append (l .points) (l .at) numbers (tab f ((l .span + 1) * w) left))
           ∙ ap (sets (l .points) (l .at)) (sym (next-span f k (a .to) (l .span) here))
           ∙ l .inv .4,
@@ -163,7 +163,7 @@ span-controls-requires-3 : tie.Need-span-controls-requires-3 Inv-loop μ-loop
 span-controls-requires-3 c κs =
     let s = c .before .before in
     let a = s .args in
-    ((omega arith, lit< tt), s .pre .1 .0)
+    ((omega arith, lit< tt), s .pre .0 .drawable)
 
 sub-span-controls-2 : tie.Need-sub-span-controls-2 Inv-loop μ-loop
 sub-span-controls-2 c = omega arith
@@ -178,9 +178,9 @@ put-end-requires c κs =
     let a = s .args in
     let l = t .before .loop in
     let last : a .to - 1 < a .plan .spans = omega arith in
-    let d = s .pre .1 .0 in
+    let d = s .pre .0 .drawable in
     let done : l .span ≡ a .to = omega arith in (
-      (s .pre .0 .0, bits-small (a .plan .depth) (s .pre .0 .0)),
+      (s .pre .0 .deep, bits-small (a .plan .depth) (s .pre .0 .deep)),
       (
         (
           subst (Ready (a .plan .depth) (divisor (a .plan .basis) (a .plan .depth))) (sym (c .before .before .span-controls3 .ensures)) (span-ready (a .plan) (a .controls .now) d (a .to - 1) 0 last (lit< tt)),
@@ -209,7 +209,7 @@ returns c =
     c .before .put-end .ensures
     ∙ ap (λ q. close q (c .before .before .before .span-controls4 .result)) (c .before .before .before .before .span-controls3 .ensures)
     ∙ ap (close x) (c .before .before .before .span-controls4 .ensures)
-    ∙ ap (sets (l .points) (l .at)) (sym (last-two (a .plan) (a .controls .now) (a .to) some (s .pre .0 .2)))
+    ∙ ap (sets (l .points) (l .at)) (sym (last-two (a .plan) (a .controls .now) (a .to) some (s .pre .0 .there)))
     ∙ ap (λ (n : ℕ). sets (l .points) (l .at) (tab f (n * w) ((a .to - n) * w + 2))) (sym done)
     ∙ l .inv .4
 

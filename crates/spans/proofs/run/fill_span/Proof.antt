@@ -1,7 +1,7 @@
 -- Each way fills the same numbers; the weights' way has the table lent to it.
 use mathlib.Core.Path.{subst}
 use borrow.Author.Needs.{needs}
-use Rattle.spans.specs.Inner.{Lent}
+use Rattle.spans.specs.Inner.{TableFor}
 use Rattle.spans.proofs.run.fill_span.Statement.{statement}
 use Rattle.spans.proofs.run.fill_span.Tie as tie
 
@@ -12,7 +12,7 @@ fill-span-requires : tie.Need-fill-span-requires
 fill-span-requires c κs =
     let s = c .before .before .before in
     let p = s .pre in
-    (p .0, (p .1 .0, (p .1 .1 .0, subst (λ way. Lent way (s .args .table .now)) (c .before .enum-told .given .1) (p .1 .1 .1))))
+    (p .0, (p .1 .0, (p .1 .1 .0, subst (λ way. TableFor way (s .args .table .now)) (c .before .enum-told .given .1) (p .1 .1 .1))))
 
 enum-told-2 : tie.Need-enum-told-2
 enum-told-2 c = search needs
