@@ -126,7 +126,7 @@ pub fn fill_by_weights(points: &mut [i32], controls: &[i32], plan: Plan, from: u
     fill_run(Way::Weights, &table, points, controls, plan, from, to);
 }
 
-// The same by any way.
+// The same by any way. Halving and differences read no table.
 pub fn fill_spans(
     way: Way,
     points: &mut [i32],
