@@ -4,7 +4,7 @@ use mathlib.Core.Bool.{cond}
 use mathlib.Core.List.{List, [], _∷_, _++_}
 use mathlib.Core.Logic.{⊎-elim}
 use Prim.Native.Nat.{ℕ, zero, suc, _+_, _*_, _-_, _/_, _%_, _^_, min, _≤_, _<_}
-use native.Mathlib.Nat.{zero-add, mul-left-comm, suc-mul, zero-mul, sub-self, mod-lt, mod-eq-of-lt, mul-le-mul, le-refl, lt-of-le-of-lt, min-eq-left, min-eq-right}
+use native.Mathlib.Nat.{zero-add, mul-left-comm, suc-mul, zero-mul, mod-lt, mod-eq-of-lt, mul-le-mul, le-refl, lt-of-le-of-lt, min-eq-left, min-eq-right}
 use native.Mathlib.Numerals.{add-one}
 use native.Mathlib.Omega.{arith}
 use lib.Arith.{digits-div}
@@ -106,18 +106,17 @@ span-numbers p controls t h =
     tab-same (number p controls) f (t * perSpan (p .depth)) 0 (perSpan (p .depth))
     (λ j below. span-point p controls t j h (omega arith) ∙ axis-point (p .basis) (p .depth) t (j / 2) controls j ∙ ap f (sym (zero-add j)))
 
-end-number : (p : Plan) (controls : List ℤ) (t r : ℕ) → 0 < t → t ≤ p .spans → r < 2
-    → number p controls (t * perSpan (p .depth) + r) ≡ point (p .basis) (p .depth) (records (p .basis) (t - 1) (coordinate controls r)) (2 ^ p .depth)
-end-number p controls t r some most below =
+end-number : (p : Plan) (controls : List ℤ) (t r : ℕ) → t < p .spans → r < 2
+    → number p controls ((t + 1) * perSpan (p .depth) + r) ≡ point (p .basis) (p .depth) (records (p .basis) t (coordinate controls r)) (2 ^ p .depth)
+end-number p controls t r there below =
     let w = perSpan (p .depth) in
-    let one : suc (t - 1) ≡ t = omega arith in
-    let here : t * w + r ≡ (t - 1) * w + (w + r) = omega (arith, ap (λ (n : ℕ). n * w) one, suc-mul (t - 1) w) in
+    let here : (t + 1) * w + r ≡ t * w + (w + r) = omega (arith, ap (λ (n : ℕ). n * w) (add-one t), suc-mul t w) in
     let axis : (w + r) % 2 ≡ r = omega arith in
     let step : (w + r) / 2 ≡ 2 ^ p .depth = omega arith in
     ap (number p controls) here
-    ∙ span-point p controls (t - 1) (w + r) (omega arith) (omega arith)
-    ∙ ap (λ (a : ℕ). point (p .basis) (p .depth) (records (p .basis) (t - 1) (coordinate controls a)) ((w + r) / 2)) axis
-    ∙ ap (point (p .basis) (p .depth) (records (p .basis) (t - 1) (coordinate controls r))) step
+    ∙ span-point p controls t (w + r) there (omega arith)
+    ∙ ap (λ (a : ℕ). point (p .basis) (p .depth) (records (p .basis) t (coordinate controls a)) ((w + r) / 2)) axis
+    ∙ ap (point (p .basis) (p .depth) (records (p .basis) t (coordinate controls r))) step
 
 -- ---- a run of spans, taken one span at a time
 
@@ -133,15 +132,17 @@ next-span f k m s h =
     ap (tab f (s * w)) count ∙ tab-append f (s * w) w (rest + 2) ∙ ap (λ (n : ℕ). tab f (s * w) w ++ tab f n (rest + 2)) on
 
 -- after the last span of a run two numbers are left: its end
-pub last-two : (p : Plan) (controls : List ℤ) (t : ℕ) → 0 < t → t ≤ p .spans
-    → tab (number p controls) (t * perSpan (p .depth)) ((t - t) * perSpan (p .depth) + 2) ≡ ending (p .depth) (divisor (p .basis) (p .depth)) (spanControls (p .basis) controls (t - 1) 0) (spanControls (p .basis) controls (t - 1) 1)
+pub last-two : (p : Plan) (controls : List ℤ) (m t : ℕ) → t < p .spans → m ≤ t + 1
+    → tab (number p controls) ((t + 1) * perSpan (p .depth)) ((m - (t + 1)) * perSpan (p .depth) + 2) ≡ ending (p .depth) (divisor (p .basis) (p .depth)) (spanControls (p .basis) controls t 0) (spanControls (p .basis) controls t 1)
 unfolding tab point
-last-two p controls t some most =
+last-two p controls m t there done =
     let w = perSpan (p .depth) in
-    let two : (t - t) * w + 2 ≡ 2 = ap (λ (n : ℕ). n * w + 2) (sub-self t) ∙ ap (λ (n : ℕ). n + 2) (zero-mul w) in
+    let none : m - (t + 1) ≡ 0 = omega arith in
+    let two : (m - (t + 1)) * w + 2 ≡ 2 = ap (λ (n : ℕ). n * w + 2) none ∙ ap (λ (n : ℕ). n + 2) (zero-mul w) in
     let f = number p controls in
-    let here : t * w ≡ t * w + 0 = omega arith in
-    let next : suc (t * w) ≡ t * w + 1 = omega arith in
-    ap (tab f (t * w)) two
-    ∙ ap (λ z. z ∷ f (suc (t * w)) ∷ []) (ap f here ∙ end-number p controls t 0 some most (lit< tt))
-    ∙ ap (λ z. point (p .basis) (p .depth) (records (p .basis) (t - 1) (coordinate controls 0)) (2 ^ p .depth) ∷ z ∷ []) (ap f next ∙ end-number p controls t 1 some most (lit< tt))
+    let q = (t + 1) * w in
+    let here : q ≡ q + 0 = omega arith in
+    let next : suc q ≡ q + 1 = omega arith in
+    ap (tab f q) two
+    ∙ ap (λ z. z ∷ f (suc q) ∷ []) (ap f here ∙ end-number p controls t 0 there (lit< tt))
+    ∙ ap (λ z. point (p .basis) (p .depth) (records (p .basis) t (coordinate controls 0)) (2 ^ p .depth) ∷ z ∷ []) (ap f next ∙ end-number p controls t 1 there (lit< tt))

@@ -105,16 +105,18 @@ fn fill_run(
     let stride: usize = 2 << depth;
     let mut span = from;
     let mut at = from * stride;
-    while span < to {
+    loop {
         let x = span_controls(controls, plan, span, 0);
         let y = span_controls(controls, plan, span, 1);
         fill_span(way, table, points, at, depth, bits, x, y);
         span += 1;
         at += stride;
+        // The run has a span at least, and the last one's controls give its end.
+        if to <= span {
+            put_end(points, at, depth, bits, x, y);
+            return;
+        }
     }
-    let x = span_controls(controls, plan, to - 1, 0);
-    let y = span_controls(controls, plan, to - 1, 1);
-    put_end(points, at, depth, bits, x, y);
 }
 
 // The same by weights. Here and nowhere else the table is bound: once a call, for drawing and for edits.

@@ -1,4 +1,4 @@
--- At each turn the numbers of the spans still to be drawn, written to the present list, make the whole; a turn takes the next span's off, and the end is left.
+-- At each turn the numbers of the spans still to be drawn, written to the present list, make the whole; a turn takes the next span's off, and after the last one the end is left.
 use mathlib.Core.Path.{_≡_, refl, sym, ap, _∙_, subst}
 use mathlib.Core.List.{List}
 use Prim.Native.Nat.{ℕ, suc, _+_, _*_, _-_, _%_, _^_, _≤_, _<_}
@@ -28,7 +28,7 @@ use Rattle.spans.proofs.run.fill_run.Tie as tie
 abbrev Inv-loop : tie.InvT-loop
 Inv-loop way table points₀ controls plan from to depth bits stride span₀ at₀ points span at =
     (stride ≡ perSpan (plan .depth))
-    × (span ≤ to)
+    × (span < to)
     × (at ≡ span * perSpan (plan .depth))
     × (length points ≡ length points₀)
     × (sets points at (tab (number plan controls) (span * perSpan (plan .depth)) ((to - span) * perSpan (plan .depth) + 2))
@@ -73,10 +73,7 @@ loop-holds c =
     )
 
 span-controls-requires : tie.Need-span-controls-requires Inv-loop μ-loop
-span-controls-requires c κs =
-    let s = c .before .before in
-    let a = s .args in
-    ((omega arith, lit< tt), s .pre .0 .drawable)
+span-controls-requires c κs = let p = c .before .pre .0 in ((omega (arith, c .loop .inv .1, p .there), lit< tt), p .drawable)
 
 span-controls-requires-2 : tie.Need-span-controls-requires-2 Inv-loop μ-loop
 span-controls-requires-2 c κs = let r = span-controls-requires (c .before) κs in ((r .0 .0, lit< tt), r .1)
@@ -85,133 +82,118 @@ span-controls-requires-2 c κs = let r = span-controls-requires (c .before) κs 
 room : (k s m n : ℕ) → s < m → m * perSpan k + 2 ≤ n → s * perSpan k + perSpan k ≤ n
 room k s m n h b = omega (arith, suc-mul s (perSpan k), mul-le-mul-right {m = suc s} {n = m} (perSpan k) h)
 
+-- the controls of a turn's span, on each axis, are what a span can be drawn from
+ready-x : (c : tie.After-span-controls Inv-loop μ-loop) → Ready (c .before .before .args .plan .depth) (divisor (c .before .before .args .plan .basis) (c .before .before .args .plan .depth)) (c .span-controls .result)
+ready-x c =
+    let s = c .before .before in
+    let p = s .args .plan in
+    subst (Ready (p .depth) (divisor (p .basis) (p .depth))) (sym (c .span-controls .ensures)) (span-ready p (s .args .controls .now) (s .pre .0 .drawable) (c .before .loop .span) 0 (omega (arith, c .before .loop .inv .1, s .pre .0 .there)) (lit< tt))
+
+ready-y : (c : tie.After-span-controls2 Inv-loop μ-loop) → Ready (c .before .before .before .args .plan .depth) (divisor (c .before .before .before .args .plan .basis) (c .before .before .before .args .plan .depth)) (c .span-controls2 .result)
+ready-y c =
+    let s = c .before .before .before in
+    let p = s .args .plan in
+    subst (Ready (p .depth) (divisor (p .basis) (p .depth))) (sym (c .span-controls2 .ensures)) (span-ready p (s .args .controls .now) (s .pre .0 .drawable) (c .before .before .loop .span) 1 (omega (arith, c .before .before .loop .inv .1, s .pre .0 .there)) (lit< tt))
+
 fill-span-requires : tie.Need-fill-span-requires Inv-loop μ-loop
 fill-span-requires c κs =
     let t = c .before .before .before in
-    let s = t .before .before in
+    let s = t .before in
     let a = s .args in
-    let l = t .before .loop in
-    let here : l .span < a .plan .spans = omega arith in
-    let d = s .pre .0 .drawable in (
-      (s .pre .0 .deep, bits-small (a .plan .depth) (s .pre .0 .deep)),
-      (
-        (
-          subst (Ready (a .plan .depth) (divisor (a .plan .basis) (a .plan .depth))) (sym (c .before .before .span-controls .ensures)) (span-ready (a .plan) (a .controls .now) d (l .span) 0 here (lit< tt)),
-          subst (Ready (a .plan .depth) (divisor (a .plan .basis) (a .plan .depth))) (sym (c .before .span-controls2 .ensures)) (span-ready (a .plan) (a .controls .now) d (l .span) 1 here (lit< tt)),
-        ),
-        (omega (arith, room (a .plan .depth) (l .span) (a .to) (length (a .points .now)) (omega arith) (s .pre .0 .room)), s .pre .1),
-      ),
+    let l = t .loop in
+    let k = a .plan .depth in (
+      (s .pre .0 .deep, bits-small k (s .pre .0 .deep)),
+      ((ready-x (c .before .before), ready-y (c .before)), (omega (arith, l .inv .2, l .inv .3, room k (l .span) (a .to) (length (a .points .now)) (l .inv .1) (s .pre .0 .room)), s .pre .1)),
     )
 
 add-span : tie.Need-add-span Inv-loop μ-loop
-add-span c = let t = c .before .before .before .before .before in omega (arith, t, t .before .before .pre .0 .drawable .few)
+add-span c = let t = c .before .before .before .before .before in omega (arith, t .loop .inv .1, t .before .pre .0 .there, t .before .pre .0 .drawable .few)
+
+-- the next span's place
+next-at : (c : tie.After-fill-span Inv-loop μ-loop) → c .before .before .before .before .loop .at + 2 * 2 ^ c .before .before .before .before .before .args .plan .depth % 2 ^ 64
+    ≡ (c .before .before .before .before .loop .span + 1) * perSpan (c .before .before .before .before .before .args .plan .depth)
+next-at c =
+    let t = c .before .before .before .before in
+    let k = t .before .args .plan .depth in
+    let n = t .loop .span in
+    omega (arith, t .loop .inv .2, stride-is k (t .before .pre .0 .deep), ap (λ (m : ℕ). m * perSpan k) (add-one n), suc-mul n (perSpan k))
 
 add-at : tie.Need-add-at Inv-loop μ-loop
 add-at c =
     let t = c .before .before .before .before .before in
-    let s = t .before .before in
-    let l = t .before .loop in
-    let k = s .args .plan .depth in
-    omega (arith, t, l .inv .2, stride-is k (s .pre .0 .deep), place-small k (l .span) (s .pre .0 .deep) (omega (arith, l .inv .1, s .pre .0 .drawable .few)), pow-mono {i = k} {j = deepest} (s .pre .0 .deep))
-
-loop-less : tie.Need-loop-less Inv-loop μ-loop
-loop-less c = let t = c .before .before .before .before .before in omega (arith, t)
+    let p = t .before .pre .0 in
+    let k = t .before .args .plan .depth in
+    omega (arith, next-at (c .before), place-small k (t .loop .span + 1) (p .deep) (omega (arith, t .loop .inv .1, p .there, p .drawable .few)))
 
 -- a turn writes the next span's numbers
 wrote : (c : tie.After-fill-span Inv-loop μ-loop) → c .fill-span .last .1 .1 .0
-    ≡ sets (c .before .before .before .before .before .loop .points) (c .before .before .before .before .before .loop .at)
-    (tab (number (c .before .before .before .before .before .before .args .plan) (c .before .before .before .before .before .before .args .controls .now)) (c .before .before .before .before .before .loop .span * perSpan (c .before .before .before .before .before .before .args .plan .depth)) (perSpan (c .before .before .before .before .before .before .args .plan .depth)))
+    ≡ sets (c .before .before .before .before .loop .points) (c .before .before .before .before .loop .at)
+    (tab (number (c .before .before .before .before .before .args .plan) (c .before .before .before .before .before .args .controls .now)) (c .before .before .before .before .loop .span * perSpan (c .before .before .before .before .before .args .plan .depth)) (perSpan (c .before .before .before .before .before .args .plan .depth)))
 wrote c =
     let t = c .before .before .before .before in
-    let a = t .before .before .args in
-    let l = t .before .loop in
+    let a = t .before .args in
+    let l = t .loop in
     let k = a .plan .depth in
-    let here : l .span < a .plan .spans = omega (arith, t, t .before .before .pre .0) in
     let write : Four → Four → List ℤ = λ x y. sets (l .points) (l .at) (tab (paired k (divisor (a .plan .basis) k) x y) 0 (perSpan k)) in
     c .fill-span .ensures
     ∙ ap (λ x. write x (c .before .before .span-controls2 .result)) (c .before .before .before .span-controls .ensures)
     ∙ ap (write (spanControls (a .plan .basis) (a .controls .now) (l .span) 0)) (c .before .before .span-controls2 .ensures)
-    ∙ ap (sets (l .points) (l .at)) (sym (span-numbers (a .plan) (a .controls .now) (l .span) here))
+    ∙ ap (sets (l .points) (l .at)) (sym (span-numbers (a .plan) (a .controls .now) (l .span) (omega (arith, l .inv .1, t .before .pre .0 .there))))
 
-loop-again : tie.Need-loop-again Inv-loop μ-loop
-loop-again c =
-    let t = c .before .before .before .before .before in
-    let a = t .before .before .args in
-    let l = t .before .loop in
+-- what is still to be drawn after a turn, written to what it leaves, makes the whole
+still : (c : tie.After-fill-span Inv-loop μ-loop)
+    → sets (c .fill-span .last .1 .1 .0) (c .before .before .before .before .loop .at + 2 * 2 ^ c .before .before .before .before .before .args .plan .depth % 2 ^ 64)
+    (tab (number (c .before .before .before .before .before .args .plan) (c .before .before .before .before .before .args .controls .now)) ((c .before .before .before .before .loop .span + 1) * perSpan (c .before .before .before .before .before .args .plan .depth)) ((c .before .before .before .before .before .args .to - (c .before .before .before .before .loop .span + 1)) * perSpan (c .before .before .before .before .before .args .plan .depth) + 2))
+    ≡ filledRun (c .before .before .before .before .before .args .plan) (c .before .before .before .before .before .args .from) (c .before .before .before .before .before .args .to) (c .before .before .before .before .before .args .controls .now) (c .before .before .before .before .before .args .points .now)
+still c =
+    let t = c .before .before .before .before in
+    let a = t .before .args in
+    let l = t .loop in
     let k = a .plan .depth in
     let w = perSpan k in
     let f = number (a .plan) (a .controls .now) in
-    let here : l .span < a .to = omega (arith, t) in
-    let left = (a .to - (l .span + 1)) * w + 2 in
     let numbers = tab f (l .span * w) w in
-    let on : l .at + (2 * 2 ^ k) % 2 ^ 64 ≡ (l .span + 1) * w = omega (arith, l .inv .2, stride-is k (t .before .before .pre .0 .deep), ap (λ (n : ℕ). n * w) (add-one (l .span)), suc-mul (l .span) w) in (
-      l .inv .0,
-      omega (arith, t),
-      on,
-      c .before .fill-span .kept .1 .1 .0 ∙ l .inv .3,
-      ap (λ v. sets v (l .at + (2 * 2 ^ k) % 2 ^ 64) (tab f ((l .span + 1) * w) left)) (wrote (c .before))
-          ∙ ap (λ (n : ℕ). sets (sets (l .points) (l .at) numbers) (l .at + n) (tab f ((l .span + 1) * w) left)) (stride-is k (t .before .before .pre .0 .deep) ∙ sym (length-tab f (l .span * w) w))
-          ∙ sym (sets-append (l .points) (l .at) numbers (tab f ((l .span + 1) * w) left))
-          ∙ ap (sets (l .points) (l .at)) (sym (next-span f k (a .to) (l .span) here))
-          ∙ l .inv .4,
-    )
-
-sub-span-controls : tie.Need-sub-span-controls Inv-loop μ-loop
-sub-span-controls c = omega arith
-
-span-controls-requires-3 : tie.Need-span-controls-requires-3 Inv-loop μ-loop
-span-controls-requires-3 c κs =
-    let s = c .before .before in
-    let a = s .args in
-    ((omega arith, lit< tt), s .pre .0 .drawable)
-
-sub-span-controls-2 : tie.Need-sub-span-controls-2 Inv-loop μ-loop
-sub-span-controls-2 c = omega arith
-
-span-controls-requires-4 : tie.Need-span-controls-requires-4 Inv-loop μ-loop
-span-controls-requires-4 c κs = let r = span-controls-requires-3 (c .before) κs in ((r .0 .0, lit< tt), r .1)
+    let rest = tab f ((l .span + 1) * w) ((a .to - (l .span + 1)) * w + 2) in
+    ap (λ v. sets v (l .at + 2 * 2 ^ k % 2 ^ 64) rest) (wrote c)
+    ∙ ap (λ (n : ℕ). sets (sets (l .points) (l .at) numbers) (l .at + n) rest) (stride-is k (t .before .pre .0 .deep) ∙ sym (length-tab f (l .span * w) w))
+    ∙ sym (sets-append (l .points) (l .at) numbers rest)
+    ∙ ap (sets (l .points) (l .at)) (sym (next-span f k (a .to) (l .span) (l .inv .1)))
+    ∙ l .inv .4
 
 put-end-requires : tie.Need-put-end-requires Inv-loop μ-loop
 put-end-requires c κs =
-    let t = c .before .before .before in
-    let s = t .before .before in
-    let a = s .args in
-    let l = t .before .loop in
-    let last : a .to - 1 < a .plan .spans = omega arith in
-    let d = s .pre .0 .drawable in
-    let done : l .span ≡ a .to = omega arith in (
-      (s .pre .0 .deep, bits-small (a .plan .depth) (s .pre .0 .deep)),
-      (
-        (
-          subst (Ready (a .plan .depth) (divisor (a .plan .basis) (a .plan .depth))) (sym (c .before .before .span-controls3 .ensures)) (span-ready (a .plan) (a .controls .now) d (a .to - 1) 0 last (lit< tt)),
-          subst (Ready (a .plan .depth) (divisor (a .plan .basis) (a .plan .depth))) (sym (c .before .span-controls4 .ensures)) (span-ready (a .plan) (a .controls .now) d (a .to - 1) 1 last (lit< tt)),
-        ),
-        omega (arith, ap (λ (n : ℕ). n * perSpan (a .plan .depth)) done),
-      ),
-    )
+    let f = c .before .before .before in
+    let t = f .before .before .before .before in
+    let s = t .before in
+    let k = s .args .plan .depth in
+    let within : (t .loop .span + 1) * perSpan k ≤ s .args .to * perSpan k = mul-le-mul-right {m = t .loop .span + 1} {n = s .args .to} (perSpan k) (omega (arith, t .loop .inv .1)) in
+    ((s .pre .0 .deep, bits-small k (s .pre .0 .deep)), ((ready-x (f .before .before .before), ready-y (f .before .before)), omega (arith, next-at f, within, s .pre .0 .room, f .fill-span .kept .1 .1 .0, t .loop .inv .3)))
 
 same-length : tie.Need-same-length Inv-loop μ-loop
-same-length c = c .before .put-end .kept .0 ∙ c .before .before .before .before .before .before .loop .inv .3
+same-length c = c .before .put-end .kept .0 ∙ c .before .before .before .before .before .fill-span .kept .1 .1 .0 ∙ c .before .before .before .before .before .before .before .before .before .loop .inv .3
 
 returns : tie.Need-returns Inv-loop μ-loop
 returns c =
-    let t = c .before .before .before .before .before in
-    let s = t .before .before in
-    let a = s .args in
-    let l = t .before .loop in
+    let f = c .before .before .before .before .before in
+    let t = f .before .before .before .before in
+    let a = t .before .args in
+    let l = t .loop in
     let k = a .plan .depth in
-    let w = perSpan k in
-    let f = number (a .plan) (a .controls .now) in
-    let done : l .span ≡ a .to = omega (arith, t, l .inv .1) in
-    let some : 0 < a .to = omega (arith, s .pre .0) in
-    let close : Four → Four → List ℤ = λ x y. sets (l .points) (l .at) (ending k (divisor (a .plan .basis) k) x y) in
-    let x = spanControls (a .plan .basis) (a .controls .now) (a .to - 1) 0 in
+    let close : Four → Four → List ℤ = λ x y. sets (f .fill-span .last .1 .1 .0) (l .at + 2 * 2 ^ k % 2 ^ 64) (ending k (divisor (a .plan .basis) k) x y) in
     c .before .put-end .ensures
-    ∙ ap (λ q. close q (c .before .before .before .span-controls4 .result)) (c .before .before .before .before .span-controls3 .ensures)
-    ∙ ap (close x) (c .before .before .before .span-controls4 .ensures)
-    ∙ ap (sets (l .points) (l .at)) (sym (last-two (a .plan) (a .controls .now) (a .to) some (s .pre .0 .there)))
-    ∙ ap (λ (n : ℕ). sets (l .points) (l .at) (tab f (n * w) ((a .to - n) * w + 2))) (sym done)
-    ∙ l .inv .4
+    ∙ ap (λ x. close x (f .before .before .span-controls2 .result)) (f .before .before .before .span-controls .ensures)
+    ∙ ap (close (spanControls (a .plan .basis) (a .controls .now) (l .span) 0)) (f .before .before .span-controls2 .ensures)
+    ∙ ap (sets (f .fill-span .last .1 .1 .0) (l .at + 2 * 2 ^ k % 2 ^ 64)) (sym (last-two (a .plan) (a .controls .now) (a .to) (l .span) (omega (arith, l .inv .1, t .before .pre .0 .there)) (omega (arith, c .before .before .before))))
+    ∙ still f
+
+loop-less : tie.Need-loop-less Inv-loop μ-loop
+loop-less c = let t = c .before .before .before .before .before .before in omega (arith, t .loop .inv .1)
+
+loop-again : tie.Need-loop-again Inv-loop μ-loop
+loop-again c =
+    let f = c .before .before in
+    let l = f .before .before .before .before .loop in
+    (l .inv .0, omega arith, next-at f, f .fill-span .kept .1 .1 .0 ∙ l .inv .3, still f)
 
 pub fill-run-spec : {M : Type 1} → statement M
-fill-run-spec = tie.close (tie.spec Inv-loop μ-loop mul-bits cast-bits shl-stride mul-at loop-holds span-controls-requires span-controls-requires-2 fill-span-requires add-span add-at loop-less loop-again sub-span-controls span-controls-requires-3 sub-span-controls-2 span-controls-requires-4 put-end-requires same-length returns)
+fill-run-spec = tie.close (tie.spec Inv-loop μ-loop mul-bits cast-bits shl-stride mul-at loop-holds span-controls-requires span-controls-requires-2 fill-span-requires add-span add-at put-end-requires same-length returns loop-less loop-again)
