@@ -1,11 +1,13 @@
--- Row i·2^(6-k) of the depth-6 weights serves depth k: its sum is that of depth k, the cube of 2^(6-k) times as large.
+-- The table of weights. Row i·2^(6-k) serves depth k: its sum is that of depth k, the cube of 2^(6-k) times as large. And the four numbers read for a row, two of them in the mirrored
+-- row, are the published weights there.
 use mathlib.Core.Path.{_≡_, sym, ap, _∙_}
 use Prim.Native.Nat.{ℕ, zero, suc, _+_, _*_, _-_, _/_, _%_, _^_, _≤_, _<_}
-use native.Mathlib.Nat.{le-trans, le-of-eq, lt-of-lt-of-le, mul-comm, suc-mul, mul-le-mul-right, mod-add-div, add-mod-right, add-div-right, div-lt-iff-lt-mul, div-eq-of-eq-mul-left}
+use native.Mathlib.Nat.{le-trans, le-of-eq, lt-of-lt-of-le, zero-add, mul-comm, suc-mul, mul-le-mul-right, mod-add-div, add-mod-right, add-div-right, div-lt-iff-lt-mul, div-eq-of-eq-mul-left}
 use native.Mathlib.Omega.{arith}
 use lib.Dec.{ltb, ltb→lt, nltb→le, lit≤}
 use lib.Pow.{pow-add, pow-pos}
 use lib.IntN.{ℤ, pos, natAbs, _+ℤ_, _-ℤ_, _*ℤ_}
+use lib.ListN.{getD}
 use Rattle.whole.proofs.Ring.{var, lit, _⊕_, _⊖_, _⊗_, solve, cond-ind}
 use Rattle.whole.proofs.Order.{pos-less}
 use Rattle.whole.proofs.Fit.{ev-size}
@@ -13,7 +15,8 @@ use Rattle.curve.specs.declared.Four.{Four}
 use Rattle.curve.specs.Four.{dot}
 use Rattle.curve.specs.Published.{weights}
 use Rattle.curve.specs.Span.{weighted}
-use Rattle.curve.specs.Ways.{deepest, mostBits, apart, row, nth, tableEntry, entryOf}
+use Rattle.curve.specs.Ways.{deepest, mostBits, apart, row, nth, tableSize, tableEntry, weightTable, entryOf}
+use Rattle.curve.proofs.Tab.{getD-tab}
 use Rattle.curve.proofs.Powers.{cube, thrice}
 use Rattle.curve.proofs.Reflect.{num, p, i, h, weightsᵉ, weightedᵉ}
 use mathlib.Core.List.{[], _∷_}
@@ -78,26 +81,28 @@ weights-mirror (suc (suc zero)) b x y = solve (x ∷ y ∷ []) (weightsᵉ (var 
 weights-mirror (suc (suc (suc zero))) b x y = solve (x ∷ y ∷ []) (weightsᵉ (var 0) (var 1) .d) (weightsᵉ (var 1 ⊖ var 0) (var 1) .a) tt
 weights-mirror (suc (suc (suc (suc r)))) b x y = let none : ⊥ = omega arith in absurd none
 
--- entry 2·row + r of the table is weight r of that row
-own-entry : (m r : ℕ) → r < 2 → tableEntry (2 * m + r) ≡ nth (weights (pos m) (pos (2 ^ deepest))) r
-unfolding tableEntry
-own-entry m r k = entry-of (omega arith) (omega arith)
+-- the number at 2·row + r is weight r of that row
+own-entry : (m r : ℕ) → m ≤ 2 ^ deepest → r < 2 → getD weightTable (2 * m + r) (pos 0) ≡ nth (weights (pos m) (pos (2 ^ deepest))) r
+unfolding weightTable tableEntry
+own-entry m r b k = getD-tab tableEntry 0 tableSize (2 * m + r) (omega arith) (pos 0) ∙ ap tableEntry (zero-add (2 * m + r)) ∙ entry-of (omega arith) (omega arith)
   where
     entry-of : (2 * m + r) / 2 ≡ m → (2 * m + r) % 2 ≡ r → nth (weights (pos ((2 * m + r) / 2)) (pos (2 ^ deepest))) ((2 * m + r) % 2) ≡ nth (weights (pos m) (pos (2 ^ deepest))) r
     entry-of e f = rw (e, f)
 
--- Weight r of a row stands where it is read, for every row and each of the four.
-pub row-entry : (m r : ℕ) → m ≤ 2 ^ deepest → r ≤ 3 → tableEntry (entryOf m r) ≡ nth (weights (pos m) (pos (2 ^ deepest))) r
+-- The number read for weight r of a row is that weight, for every row and each of the four.
+pub row-entry : (m r : ℕ) → m ≤ 2 ^ deepest → r ≤ 3 → getD weightTable (entryOf m r) (pos 0) ≡ nth (weights (pos m) (pos (2 ^ deepest))) r
 unfolding entryOf
 row-entry m r b k =
-    cond-ind (ltb r 2) (2 * m + r) (2 * (2 ^ deepest - m) + (3 - r)) (λ e. tableEntry e ≡ nth (weights (pos m) (pos (2 ^ deepest))) r)
-    (λ t. own-entry m r (ltb→lt r 2 t))
-    (λ t. own-entry (2 ^ deepest - m) (3 - r) (omega (arith, nltb→le r 2 t))
+    let back = 2 ^ deepest - m in
+    cond-ind (ltb r 2) (2 * m + r) (2 * back + (3 - r)) (λ e. getD weightTable e (pos 0) ≡ nth (weights (pos m) (pos (2 ^ deepest))) r)
+    (λ t. own-entry m r b (ltb→lt r 2 t))
+    (λ t. own-entry back (3 - r) (omega arith) (omega (arith, nltb→le r 2 t))
     ∙ ap (λ x. nth (weights x (pos (2 ^ deepest))) (3 - r)) (pos-less (2 ^ deepest) m b)
     ∙ sym (weights-mirror r k (pos m) (pos (2 ^ deepest))))
 
--- the four weights read for a row sum to 64^3 = 262,144, for every row
-pub row-sum : (m : ℕ) → m ≤ 2 ^ deepest → tableEntry (entryOf m 0) +ℤ tableEntry (entryOf m 1) +ℤ tableEntry (entryOf m 2) +ℤ tableEntry (entryOf m 3) ≡ pos (2 ^ mostBits)
+-- The four numbers read for a row sum to 64^3 = 262,144, for every row.
+pub row-sum : (m : ℕ) → m ≤ 2 ^ deepest
+    → getD weightTable (entryOf m 0) (pos 0) +ℤ getD weightTable (entryOf m 1) (pos 0) +ℤ getD weightTable (entryOf m 2) (pos 0) +ℤ getD weightTable (entryOf m 3) (pos 0) ≡ pos (2 ^ mostBits)
 unfolding nth weights
 row-sum m b =
     cong (row-entry m 0 b (lit≤ tt)) (row-entry m 1 b (lit≤ tt)) (row-entry m 2 b (lit≤ tt)) (row-entry m 3 b (lit≤ tt))

@@ -16,6 +16,7 @@ use Rattle.curve.specs.Span.{weighted}
 unfoldable pub byWeights : ℕ → Four → List ℤ
 byWeights k q = tab (λ i. weighted q (pos i) (pos (2 ^ k))) 0 (suc (2 ^ k))
 
+-- Document 01: a depth is from 0 to 6.
 abbrev pub deepest : ℕ
 deepest = 6
 

@@ -2,10 +2,11 @@
 ghost use mathlib.Core.Path.{_≡_};
 ghost use Prim.Native.Nat.{_≤_, _<_, _^_};
 ghost use lib.IntN.{pos};
+ghost use lib.ListN.{getD};
 ghost use Rattle.curve.specs.Limits.{Inside};
 ghost use Rattle.curve.specs.Inner.{widest};
 ghost use Rattle.curve.specs.Span.{weighted};
-ghost use Rattle.curve.specs.Ways.{deepest, tableEntry, tableSize, weightTable};
+ghost use Rattle.curve.specs.Ways.{deepest, tableSize, weightTable};
 use crate::Four;
 use crate::MOST_STEPS;
 
@@ -157,7 +158,7 @@ pub fn weight_table() -> [i32; TABLE_SIZE]
 fn weight(table: &[i32], entry: usize) -> i64
     requires { ⌜ now table ≡ weightTable ⌝ }
     requires { ⌜ entry < tableSize ⌝ }
-    ensures { λ r. ⌜ r ≡ tableEntry entry ⌝ }
+    ensures { λ r. ⌜ r ≡ getD weightTable entry (pos 0) ⌝ }
 {
     table[entry] as i64
 }

@@ -1,11 +1,12 @@
 -- The four entries read are the definition's weights of the row (`row-entry`), and the sum fits by the bounds of weights and controls.
 use mathlib.Core.Path.{_≡_, refl, sym, ap, _∙_, subst}
 use mathlib.Core.List.{List, [], _∷_}
-use Prim.Native.Nat.{ℕ, _+_, _*_, _^_, _≤_, _<_}
+use Prim.Native.Nat.{ℕ, _^_, _≤_}
 use native.Mathlib.Omega.{arith}
 use borrow.Author.Needs.{needs}
 use lib.Dec.{T, lit≤}
 use lib.IntN.{ℤ, pos, natAbs, _+ℤ_, _*ℤ_}
+use lib.ListN.{getD}
 use mir.Syntax.{w64}
 use Rattle.whole.proofs.Ring.{Ex, var, _⊕_, _⊗_}
 use Rattle.whole.proofs.Fit.{Bounded, Need, safe, need, exact}
@@ -13,7 +14,7 @@ use Rattle.curve.specs.Four.{dot}
 use Rattle.curve.specs.Published.{weights}
 use Rattle.curve.specs.Inner.{widest}
 use Rattle.curve.specs.Span.{weighted}
-use Rattle.curve.specs.Ways.{deepest, tableEntry, entryOf, nth}
+use Rattle.curve.specs.Ways.{deepest, weightTable, entryOf, nth}
 use Rattle.curve.proofs.Table.{row-entry, heaviest, weight-size}
 use Rattle.curve.proofs.weights.weighted_sum.Statement.{statement}
 use Rattle.curve.proofs.weights.weighted_sum.Tie as tie
@@ -58,8 +59,8 @@ row : tie.After-weight4 → ℕ
 row c = c .before .before .before .before .args .row
 
 -- what was read, as the definition has it
-read : (m r : ℕ) → m ≤ 2 ^ deepest → r ≤ 3 → {e : ℕ} → e ≡ entryOf m r → {x : ℤ} → x ≡ tableEntry e → x ≡ nth (weights (pos m) (pos (2 ^ deepest))) r
-read m r b k f g = g ∙ ap tableEntry f ∙ row-entry m r b k
+read : (m r : ℕ) → m ≤ 2 ^ deepest → r ≤ 3 → {e : ℕ} → e ≡ entryOf m r → {x : ℤ} → x ≡ getD weightTable e (pos 0) → x ≡ nth (weights (pos m) (pos (2 ^ deepest))) r
+read m r b k f g = g ∙ ap (λ (n : ℕ). getD weightTable n (pos 0)) f ∙ row-entry m r b k
 
 within : (c : tie.After-weight4) → row c ≤ 2 ^ deepest
 unfolding row
