@@ -109,11 +109,15 @@ fill-span-requires c κs =
 add-span : tie.Need-add-span Inv-loop μ-loop
 add-span c = let t = c .before .before .before .before .before in omega (arith, t .loop .inv .1, t .before .pre .0 .there, t .before .pre .0 .drawable .few)
 
+-- the start of the turn that fills a span
+abbrev turn : tie.After-fill-span Inv-loop μ-loop → tie.At-loop Inv-loop μ-loop
+turn c = c .before .before .before .before
+
 -- the next span's place
-next-at : (c : tie.After-fill-span Inv-loop μ-loop) → c .before .before .before .before .loop .at + 2 * 2 ^ c .before .before .before .before .before .args .plan .depth % 2 ^ 64
-    ≡ (c .before .before .before .before .loop .span + 1) * perSpan (c .before .before .before .before .before .args .plan .depth)
+next-at : (c : tie.After-fill-span Inv-loop μ-loop) → turn c .loop .at + 2 * 2 ^ turn c .before .args .plan .depth % 2 ^ 64
+    ≡ (turn c .loop .span + 1) * perSpan (turn c .before .args .plan .depth)
 next-at c =
-    let t = c .before .before .before .before in
+    let t = turn c in
     let k = t .before .args .plan .depth in
     let n = t .loop .span in
     omega (arith, t .loop .inv .2, stride-is k (t .before .pre .0 .deep), ap (λ (m : ℕ). m * perSpan k) (add-one n), suc-mul n (perSpan k))
@@ -127,10 +131,10 @@ add-at c =
 
 -- a turn writes the next span's numbers
 wrote : (c : tie.After-fill-span Inv-loop μ-loop) → c .fill-span .last .1 .1 .0
-    ≡ sets (c .before .before .before .before .loop .points) (c .before .before .before .before .loop .at)
-    (tab (number (c .before .before .before .before .before .args .plan) (c .before .before .before .before .before .args .controls .now)) (c .before .before .before .before .loop .span * perSpan (c .before .before .before .before .before .args .plan .depth)) (perSpan (c .before .before .before .before .before .args .plan .depth)))
+    ≡ sets (turn c .loop .points) (turn c .loop .at)
+    (tab (number (turn c .before .args .plan) (turn c .before .args .controls .now)) (turn c .loop .span * perSpan (turn c .before .args .plan .depth)) (perSpan (turn c .before .args .plan .depth)))
 wrote c =
-    let t = c .before .before .before .before in
+    let t = turn c in
     let a = t .before .args in
     let l = t .loop in
     let k = a .plan .depth in
@@ -142,11 +146,11 @@ wrote c =
 
 -- what is still to be drawn after a turn, written to what it leaves, makes the whole
 still : (c : tie.After-fill-span Inv-loop μ-loop)
-    → sets (c .fill-span .last .1 .1 .0) (c .before .before .before .before .loop .at + 2 * 2 ^ c .before .before .before .before .before .args .plan .depth % 2 ^ 64)
-    (tab (number (c .before .before .before .before .before .args .plan) (c .before .before .before .before .before .args .controls .now)) ((c .before .before .before .before .loop .span + 1) * perSpan (c .before .before .before .before .before .args .plan .depth)) ((c .before .before .before .before .before .args .to - (c .before .before .before .before .loop .span + 1)) * perSpan (c .before .before .before .before .before .args .plan .depth) + 2))
-    ≡ filledRun (c .before .before .before .before .before .args .plan) (c .before .before .before .before .before .args .from) (c .before .before .before .before .before .args .to) (c .before .before .before .before .before .args .controls .now) (c .before .before .before .before .before .args .points .now)
+    → sets (c .fill-span .last .1 .1 .0) (turn c .loop .at + 2 * 2 ^ turn c .before .args .plan .depth % 2 ^ 64)
+    (tab (number (turn c .before .args .plan) (turn c .before .args .controls .now)) ((turn c .loop .span + 1) * perSpan (turn c .before .args .plan .depth)) ((turn c .before .args .to - (turn c .loop .span + 1)) * perSpan (turn c .before .args .plan .depth) + 2))
+    ≡ filledRun (turn c .before .args .plan) (turn c .before .args .from) (turn c .before .args .to) (turn c .before .args .controls .now) (turn c .before .args .points .now)
 still c =
-    let t = c .before .before .before .before in
+    let t = turn c in
     let a = t .before .args in
     let l = t .loop in
     let k = a .plan .depth in

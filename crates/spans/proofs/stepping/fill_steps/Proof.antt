@@ -98,13 +98,17 @@ loop-less c = omega (arith, c .before .before .before .before .before .before .b
 number : (d i : ℕ) (s t : Differences) → t ≡ after i s → Small t → nearest (kept w64 (t .value)) d ≡ nearest (after i s .value) d
 number d i s t e small = ap (λ z. nearest z d) (kept-is w64 (t .value) (value-fits t small) ∙ ap (λ (u : Differences). u .value) e)
 
+-- the turn that puts a point
+abbrev turn : tie.After-put-point Inv-loop μ-loop → tie.In-loop Inv-loop μ-loop
+turn c = c .before .before .before .before
+
 -- what a turn writes is the rule's next pair
 wrote : (c : tie.After-put-point Inv-loop μ-loop) → c .put-point .last .0
-    ≡ set (set (c .before .before .before .before .before .loop .points) (c .before .before .before .before .before .loop .j) (stepped (divisorOf (c .before .before .before .before .before .before .args .bits)) (c .before .before .before .before .before .before .args .x) (c .before .before .before .before .before .before .args .y) (2 * taken (c .before .before .before .before .before .before .args .at) (c .before .before .before .before .before .loop .j))))
-    (c .before .before .before .before .before .loop .j + 1)
-    (stepped (divisorOf (c .before .before .before .before .before .before .args .bits)) (c .before .before .before .before .before .before .args .x) (c .before .before .before .before .before .before .args .y) (2 * taken (c .before .before .before .before .before .before .args .at) (c .before .before .before .before .before .loop .j) + 1))
+    ≡ set (set (turn c .before .loop .points) (turn c .before .loop .j) (stepped (divisorOf (turn c .before .before .args .bits)) (turn c .before .before .args .x) (turn c .before .before .args .y) (2 * taken (turn c .before .before .args .at) (turn c .before .loop .j))))
+    (turn c .before .loop .j + 1)
+    (stepped (divisorOf (turn c .before .before .args .bits)) (turn c .before .before .args .x) (turn c .before .before .args .y) (2 * taken (turn c .before .before .args .at) (turn c .before .loop .j) + 1))
 wrote c =
-    let t = c .before .before .before .before in
+    let t = turn c in
     let l = t .before .loop in
     let a = t .before .before .args in
     let d = divisorOf (a .bits) in
