@@ -46,6 +46,7 @@ tableSize = 2 * suc (2 ^ deepest)
 unfoldable pub tableEntry : ℕ → ℤ
 tableEntry e = nth (weights (pos (e / 2)) (pos (2 ^ deepest))) (e % 2)
 
+-- The table: all entries in order.
 unfoldable pub weightTable : List ℤ
 weightTable = tab tableEntry 0 tableSize
 

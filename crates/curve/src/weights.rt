@@ -10,7 +10,7 @@ ghost use Rattle.curve.specs.Ways.{deepest, tableSize, weightTable};
 use crate::Four;
 use crate::MOST_STEPS;
 
-// Two weights for each row.
+// Rows 0 to 64, of two weights each.
 const TABLE_SIZE: usize = 2 * (MOST_STEPS + 1);
 
 // Two weights for each i from 0 to 64: (64 - i)^3 and 3 · i · (64 - i)^2. The other two of row i, 3 · i^2 · (64 - i) and i^3, are those of row 64 - i the other way round.

@@ -15,10 +15,11 @@ use Rattle.curve.specs.Tab.{tab}
 use Rattle.curve.specs.Span.{divisor}
 use Rattle.curve.specs.Ways.{deepest, mostBits}
 use Rattle.curve.proofs.Tab.{length-tab}
+use Rattle.shape.specs.declared.Plan.{Plan}
 use Rattle.shape.specs.Shape.{mostRecords}
 use Rattle.spans.specs.Numbers.{number, perSpan}
 use Rattle.spans.specs.Filled.{filledRun}
-use Rattle.spans.specs.Inner.{paired, ending, Ready}
+use Rattle.spans.specs.Inner.{paired, ending, Fillable, Ready}
 use Rattle.whole.proofs.Writes.{sets-append}
 use Rattle.spans.proofs.Numbers.{stride-is, spanControls, span-numbers, next-span, last-two}
 use Rattle.spans.proofs.Drawables.{span-ready}
@@ -82,18 +83,20 @@ span-controls-requires-2 c κs = let r = span-controls-requires (c .before) κs 
 room : (k s m n : ℕ) → s < m → m * perSpan k + 2 ≤ n → s * perSpan k + perSpan k ≤ n
 room k s m n h b = omega (arith, suc-mul s (perSpan k), mul-le-mul-right {m = suc s} {n = m} (perSpan k) h)
 
--- the controls of a turn's span, on each axis, are what a span can be drawn from
-ready-x : (c : tie.After-span-controls Inv-loop μ-loop) → Ready (c .before .before .args .plan .depth) (divisor (c .before .before .args .plan .basis) (c .before .before .args .plan .depth)) (c .span-controls .result)
-ready-x c =
-    let s = c .before .before in
-    let p = s .args .plan in
-    subst (Ready (p .depth) (divisor (p .basis) (p .depth))) (sym (c .span-controls .ensures)) (span-ready p (s .args .controls .now) (s .pre .0 .drawable) (c .before .loop .span) 0 (omega (arith, c .before .loop .inv .1, s .pre .0 .there)) (lit< tt))
+-- the controls of a span of the run are what it can be drawn from
+ready : (p : Plan) (controls : List ℤ) (from to n s axis : ℕ) → Fillable p from to controls n → s < to → axis < 2 → (q : Four) → q ≡ spanControls (p .basis) controls s axis → Ready (p .depth) (divisor (p .basis) (p .depth)) q
+ready p controls from to n s axis f below h q e = subst (Ready (p .depth) (divisor (p .basis) (p .depth))) (sym e) (span-ready p controls (f .drawable) s axis (omega (arith, below, f .there)) h)
 
-ready-y : (c : tie.After-span-controls2 Inv-loop μ-loop) → Ready (c .before .before .before .args .plan .depth) (divisor (c .before .before .before .args .plan .basis) (c .before .before .before .args .plan .depth)) (c .span-controls2 .result)
-ready-y c =
+-- both axes' controls of a turn
+both-ready : (c : tie.After-span-controls2 Inv-loop μ-loop)
+    → Ready (c .before .before .before .args .plan .depth) (divisor (c .before .before .before .args .plan .basis) (c .before .before .before .args .plan .depth)) (c .before .span-controls .result)
+    × Ready (c .before .before .before .args .plan .depth) (divisor (c .before .before .before .args .plan .basis) (c .before .before .before .args .plan .depth)) (c .span-controls2 .result)
+both-ready c =
     let s = c .before .before .before in
-    let p = s .args .plan in
-    subst (Ready (p .depth) (divisor (p .basis) (p .depth))) (sym (c .span-controls2 .ensures)) (span-ready p (s .args .controls .now) (s .pre .0 .drawable) (c .before .before .loop .span) 1 (omega (arith, c .before .before .loop .inv .1, s .pre .0 .there)) (lit< tt))
+    let a = s .args in
+    let l = c .before .before .loop in
+    let on = ready (a .plan) (a .controls .now) (a .from) (a .to) (length (a .points .now)) (l .span) in
+    (on 0 (s .pre .0) (l .inv .1) (lit< tt) (c .before .span-controls .result) (c .before .span-controls .ensures), on 1 (s .pre .0) (l .inv .1) (lit< tt) (c .span-controls2 .result) (c .span-controls2 .ensures))
 
 fill-span-requires : tie.Need-fill-span-requires Inv-loop μ-loop
 fill-span-requires c κs =
@@ -103,7 +106,7 @@ fill-span-requires c κs =
     let l = t .loop in
     let k = a .plan .depth in (
       (s .pre .0 .deep, bits-small k (s .pre .0 .deep)),
-      ((ready-x (c .before .before), ready-y (c .before)), (omega (arith, l .inv .2, l .inv .3, room k (l .span) (a .to) (length (a .points .now)) (l .inv .1) (s .pre .0 .room)), s .pre .1)),
+      (both-ready (c .before), (omega (arith, l .inv .2, l .inv .3, room k (l .span) (a .to) (length (a .points .now)) (l .inv .1) (s .pre .0 .room)), s .pre .1)),
     )
 
 add-span : tie.Need-add-span Inv-loop μ-loop
@@ -167,11 +170,11 @@ still c =
 put-end-requires : tie.Need-put-end-requires Inv-loop μ-loop
 put-end-requires c κs =
     let f = c .before .before .before in
-    let t = f .before .before .before .before in
+    let t = turn f in
     let s = t .before in
     let k = s .args .plan .depth in
     let within : (t .loop .span + 1) * perSpan k ≤ s .args .to * perSpan k = mul-le-mul-right {m = t .loop .span + 1} {n = s .args .to} (perSpan k) (omega (arith, t .loop .inv .1)) in
-    ((s .pre .0 .deep, bits-small k (s .pre .0 .deep)), ((ready-x (f .before .before .before), ready-y (f .before .before)), omega (arith, next-at f, within, s .pre .0 .room, f .fill-span .kept .1 .1 .0, t .loop .inv .3)))
+    ((s .pre .0 .deep, bits-small k (s .pre .0 .deep)), (both-ready (f .before .before), omega (arith, next-at f, within, s .pre .0 .room, f .fill-span .kept .1 .1 .0, t .loop .inv .3)))
 
 same-length : tie.Need-same-length Inv-loop μ-loop
 same-length c = c .before .put-end .kept .0 ∙ c .before .before .before .before .before .fill-span .kept .1 .1 .0 ∙ c .before .before .before .before .before .before .before .before .before .loop .inv .3
@@ -179,7 +182,7 @@ same-length c = c .before .put-end .kept .0 ∙ c .before .before .before .befor
 returns : tie.Need-returns Inv-loop μ-loop
 returns c =
     let f = c .before .before .before .before .before in
-    let t = f .before .before .before .before in
+    let t = turn f in
     let a = t .before .args in
     let l = t .loop in
     let k = a .plan .depth in
@@ -196,7 +199,7 @@ loop-less c = let t = c .before .before .before .before .before .before in omega
 loop-again : tie.Need-loop-again Inv-loop μ-loop
 loop-again c =
     let f = c .before .before in
-    let l = f .before .before .before .before .loop in
+    let l = turn f .loop in
     (l .inv .0, omega arith, next-at f, f .fill-span .kept .1 .1 .0 ∙ l .inv .3, still f)
 
 pub fill-run-spec : {M : Type 1} → statement M
