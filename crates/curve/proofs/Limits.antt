@@ -19,7 +19,7 @@ use Rattle.curve.specs.declared.Basis.{Basis}
 use Rattle.curve.specs.declared.Basis.the-variants.{Bezier, BSpline, Cardinal, Hermite}
 use Rattle.curve.specs.Four.{four, dot}
 use Rattle.curve.specs.Published.{weights}
-use Rattle.curve.specs.Span.{sixfold, sixfoldControls, weighted, divisor, point}
+use Rattle.curve.specs.Span.{sixfold, sixfoldControls, weighted, divisor, sumAt, point}
 use Rattle.curve.specs.Limits.{limit, reach, Inside, AtMost, all, Box}
 use Rattle.curve.specs.Inner.{widest}
 use Rattle.curve.proofs.Powers.{cube, thrice}
@@ -203,7 +203,7 @@ fair i j = go (decLe i j)
     go (no n) = subst₂ (λ (m n : ℕ). m ≤ 6 * (n * n * n) * reach) (swap limit j i) (add-comm j i) (ordered j i (omega arith))
 
 -- Every sum of a span inside the limits is within the divisor times 5,000,000, at each of its 2^k + 1 steps.
-pub sum-size : (b : Basis) (k i : ℕ) (q : Four) → i ≤ 2 ^ k → Inside limit q → natAbs (weighted (sixfoldControls b q) (pos i) (pos (2 ^ k))) ≤ divisor b k * reach
+pub sum-size : (b : Basis) (k i : ℕ) (q : Four) → i ≤ 2 ^ k → Inside limit q → natAbs (sumAt b k q i) ≤ divisor b k * reach
 unfolding bounds cube
 sum-size b k i q within inside =
     let j = 2 ^ k - i in
@@ -217,7 +217,7 @@ sum-size b k i q within inside =
 -- No point of any basis is beyond 5,000,000 either way.
 pub point-size : (b : Basis) (k i : ℕ) (q : Four) → i ≤ 2 ^ k → Inside limit q → natAbs (point b k q i) ≤ reach
 unfolding point
-point-size b k i q within inside = nearest-size (weighted (sixfoldControls b q) (pos i) (pos (2 ^ k))) (divisor b k) reach (divisor-pos b k) (sum-size b k i q within inside)
+point-size b k i q within inside = nearest-size (sumAt b k q i) (divisor b k) reach (divisor-pos b k) (sum-size b k i q within inside)
 
 -- ---- the sixfold controls of records inside the limit
 

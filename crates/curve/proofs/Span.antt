@@ -1,21 +1,24 @@
 -- The sixfold Bezier controls of document 01 draw the published curves, and a span ends where the next one starts. Each is an identity of polynomials.
 use mathlib.Core.Path.{_≡_, refl, sym, ap, _∙_}
 use mathlib.Core.List.{[], _∷_}
-use Prim.Native.Nat.{ℕ, suc, _+_, _*_, _^_, _<_}
-use native.Mathlib.Nat.{mul-left-comm, mul-pos}
+use mathlib.Core.Logic.{_↔_}
+use Prim.Native.Nat.{ℕ, suc, _+_, _*_, _^_, _≤_, _<_}
+use native.Mathlib.Nat.{mul-left-comm, mul-pos, mul-le-mul, le-refl}
 use native.Mathlib.Omega.{arith}
 use lib.Dec.{lit<}
 use lib.IntN.{ℤ, pos, _*ℤ_}
-use lib.Pow.{pow-pos}
-use Rattle.whole.specs.Nearest.{nearest}
+use lib.Pow.{pow-pos, pow-mono}
+use Rattle.whole.specs.Nearest.{nearest, remainder}
 use Rattle.whole.proofs.Nearest.{nearest-scale}
-use Rattle.whole.proofs.Ring.{var, _⊗_, solve}
+use Rattle.whole.proofs.Remainder.{remainder-scale, times-nought}
+use Rattle.whole.proofs.Ring.{var, lit, _⊗_, solve}
 use Rattle.curve.specs.declared.Four.{Four}
 use Rattle.curve.specs.declared.Basis.{Basis}
 use Rattle.curve.specs.declared.Basis.the-variants.{Bezier, BSpline, Cardinal, Hermite}
 use Rattle.curve.specs.Four.{dot}
 use Rattle.curve.specs.Published.{published, denominator, cubic, weights, bezierMatrix, hermiteMatrix, cardinalMatrix, bSplineMatrix}
-use Rattle.curve.specs.Span.{stride, sixfold, firstRecord, recordsFrom, records, sixfoldControls, weighted, divisor, point}
+use Rattle.curve.specs.Span.{stride, sixfold, firstRecord, recordsFrom, records, sixfoldControls, weighted, divisorOf, divisor, sumAt, point}
+use Rattle.curve.specs.Ways.{mostBits}
 use Rattle.curve.proofs.Stride.{next-first}
 use Rattle.curve.proofs.Reflect.{fourᵉ, num, p, i, h, values, cubicᵉ, weightedᵉ, sixfoldᵉ}
 
@@ -27,7 +30,7 @@ sixfold-is-published BSpline q x y = solve (values q x y) (weightedᵉ (sixfold�
 sixfold-is-published Cardinal q x y = solve (values q x y) (weightedᵉ (sixfoldᵉ Cardinal p) i h ⊗ num 2) (cubicᵉ (cardinalMatrix (pos 1) (pos 2)) p i h ⊗ num 6) tt
 sixfold-is-published Hermite q x y = solve (values q x y) (weightedᵉ (sixfoldᵉ Hermite p) i h ⊗ num 1) (cubicᵉ hermiteMatrix (fourᵉ (p .a) (p .c) (p .b) (p .d)) i h ⊗ num 6) tt
 
-denominator-pos : (b : Basis) → 0 < denominator b
+pub denominator-pos : (b : Basis) → 0 < denominator b
 denominator-pos Bezier = lit< tt
 denominator-pos BSpline = lit< tt
 denominator-pos Cardinal = lit< tt
@@ -36,18 +39,51 @@ denominator-pos Hermite = lit< tt
 pub divisor-pos : (b : Basis) (k : ℕ) → 0 < divisor b k
 divisor-pos b k = mul-pos (lit< tt) (pow-pos (3 * k))
 
--- So a point is the published value, rounded once.
-pub point-published : (b : Basis) (k : ℕ) (p : Four) (i : ℕ) → point b k p i ≡ nearest (published b p (pos i) (pos (2 ^ k))) (denominator b * 2 ^ (3 * k))
-unfolding point
-point-published b k p i =
-    let w = weighted (sixfoldControls b p) (pos i) (pos (2 ^ k)) in
-    let v = published b p (pos i) (pos (2 ^ k)) in
-    let d = denominator b in
-    let swap : (x y : ℤ) → x *ℤ y ≡ y *ℤ x = λ x y. solve (x ∷ y ∷ []) (var 0 ⊗ var 1) (var 1 ⊗ var 0) tt in
-    sym (nearest-scale d w (divisor b k) (denominator-pos b) (divisor-pos b k))
-    ∙ ap (λ z. nearest z (d * divisor b k)) (swap (pos d) w ∙ sixfold-is-published b p (pos i) (pos (2 ^ k)) ∙ swap v (pos sixfold))
-    ∙ ap (nearest (pos sixfold *ℤ v)) (mul-left-comm d sixfold (2 ^ (3 * k)))
-    ∙ nearest-scale sixfold v (d * 2 ^ (3 * k)) (lit< tt) (mul-pos (denominator-pos b) (pow-pos (3 * k)))
+-- the greatest divisor
+pub divisor-most : (bits : ℕ) → bits ≤ mostBits → divisorOf bits ≤ divisorOf mostBits
+divisor-most bits h = mul-le-mul (le-refl sixfold) (pow-mono {i = bits} {j = mostBits} h)
+
+-- So both are one fraction: each part of the sum's is `denominator` times as large as each part of the published value's is six times.
+module _ (b : Basis) (k : ℕ) (p : Four) (i : ℕ) where
+  abbrev value : ℤ
+  value = published b p (pos i) (pos (2 ^ k))
+
+  abbrev under : ℕ
+  under = denominator b * 2 ^ (3 * k)
+
+  under-pos : 0 < under
+  under-pos = mul-pos (denominator-pos b) (pow-pos (3 * k))
+
+  same-value : pos (denominator b) *ℤ sumAt b k p i ≡ pos sixfold *ℤ value
+  same-value =
+      let swap : (x y : ℤ) → x *ℤ y ≡ y *ℤ x = λ x y. solve (x ∷ y ∷ []) (var 0 ⊗ var 1) (var 1 ⊗ var 0) tt in
+      swap (pos (denominator b)) (sumAt b k p i) ∙ sixfold-is-published b p (pos i) (pos (2 ^ k)) ∙ swap value (pos sixfold)
+
+  same-divisor : denominator b * divisor b k ≡ sixfold * under
+  same-divisor = mul-left-comm (denominator b) sixfold (2 ^ (3 * k))
+
+  -- a point is the published value, rounded once
+  pub point-published : point b k p i ≡ nearest value under
+  unfolding point
+  point-published =
+      sym (nearest-scale (denominator b) (sumAt b k p i) (divisor b k) (denominator-pos b) (divisor-pos b k))
+      ∙ (λ j. nearest (same-value j) (same-divisor j))
+      ∙ nearest-scale sixfold value under (lit< tt) under-pos
+
+  -- and what is left over of the sum is the same part of its divisor as what is left over of the published value
+  pub remainder-published : pos (denominator b) *ℤ remainder (sumAt b k p i) (divisor b k) ≡ pos sixfold *ℤ remainder value under
+  remainder-published =
+      sym (remainder-scale (denominator b) (sumAt b k p i) (divisor b k) (denominator-pos b) (divisor-pos b k))
+      ∙ (λ j. remainder (same-value j) (same-divisor j))
+      ∙ remainder-scale sixfold value under (lit< tt) under-pos
+
+  -- nothing of the one where nothing of the other
+  pub nought-published : (remainder (sumAt b k p i) (divisor b k) ≡ pos 0) ↔ (remainder value under ≡ pos 0)
+  nought-published =
+      let none : (m : ℕ) → pos m *ℤ pos 0 ≡ pos 0 = λ m. solve (pos m ∷ []) (var 0 ⊗ lit (pos 0)) (lit (pos 0)) tt in (
+        (λ e. times-nought sixfold (remainder value under) (lit< tt) (sym remainder-published ∙ ap (λ z. pos (denominator b) *ℤ z) e ∙ none (denominator b))),
+        (λ e. times-nought (denominator b) (remainder (sumAt b k p i) (divisor b k)) (denominator-pos b) (remainder-published ∙ ap (λ z. pos sixfold *ℤ z) e ∙ none sixfold)),
+      )
 
 -- ---- joints
 
@@ -74,11 +110,9 @@ a-stride-on Hermite r at = refl
 controls-meet : (b : Basis) (s : ℕ) (at : ℕ → ℤ) → sixfoldControls b (records b s at) .d ≡ sixfoldControls b (records b (suc s) at) .a
 controls-meet b s at = a-stride-on b (firstRecord b s) at ∙ ap (λ r. sixfoldControls b (recordsFrom r at) .a) (sym (next-first b s))
 
--- For each basis a span's end, at t = 1, is the next span's start, at t = 0.
-pub joint : (b : Basis) (k s : ℕ) (at : ℕ → ℤ) → point b k (records b s at) (2 ^ k) ≡ point b k (records b (suc s) at) 0
-unfolding point
+-- For each basis the sum at a span's end, at t = 1, is the one at the next span's start, at t = 0.
+pub joint : (b : Basis) (k s : ℕ) (at : ℕ → ℤ) → sumAt b k (records b s at) (2 ^ k) ≡ sumAt b k (records b (suc s) at) 0
 joint b k s at =
-    ap (λ z. nearest z (divisor b k))
-    (weighted-end (sixfoldControls b (records b s at)) (pos (2 ^ k))
+    weighted-end (sixfoldControls b (records b s at)) (pos (2 ^ k))
     ∙ ap (λ z. pos (2 ^ k) *ℤ pos (2 ^ k) *ℤ pos (2 ^ k) *ℤ z) (controls-meet b s at)
-    ∙ sym (weighted-start (sixfoldControls b (records b (suc s) at)) (pos (2 ^ k))))
+    ∙ sym (weighted-start (sixfoldControls b (records b (suc s) at)) (pos (2 ^ k)))

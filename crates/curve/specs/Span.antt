@@ -61,6 +61,10 @@ divisorOf bits = sixfold * 2 ^ bits
 abbrev pub divisor : Basis → ℕ → ℕ
 divisor b k = divisorOf (3 * k)
 
+-- The exact sum of a span at t = i / 2^k, over that divisor.
+abbrev pub sumAt : Basis → ℕ → Four → ℕ → ℤ
+sumAt b k p i = weighted (sixfoldControls b p) (pos i) (pos (2 ^ k))
+
 -- The point of a span at t = i / 2^k: worked exactly and rounded once.
 unfoldable pub point : Basis → ℕ → Four → ℕ → ℤ
-point b k p i = nearest (weighted (sixfoldControls b p) (pos i) (pos (2 ^ k))) (divisor b k)
+point b k p i = nearest (sumAt b k p i) (divisor b k)

@@ -3,5 +3,7 @@ pub mod Order
 pub mod Fit
 pub mod HalfUp
 pub mod Nearest
+pub mod Remainder
+pub mod Lifted
 pub mod Examples
 pub mod Writes

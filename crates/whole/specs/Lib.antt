@@ -1,3 +1,4 @@
 pub mod Nearest
 pub mod Outcome
 pub mod Unique
+pub mod Inner

@@ -1,120 +1,123 @@
--- A sum below zero is turned, its size is rounded, and what comes of it is turned back; any other sum is its own size: the two clauses of `nearest`. No step leaves the range, since a
--- size is rounded to no more than itself.
-use mathlib.Core.Path.{_≡_, refl, sym, ap, _∙_, subst}
-use mathlib.Core.Bool.{true, false}
-use Prim.Native.Nat.{ℕ, _*_, _^_, _<_}
-use native.Mathlib.Nat.{mul-pos, lt-of-le-of-lt}
+-- The sum moved outwards and rounded to the greater is `nearest` (`moved-nearest`). Times the divisor it is at most half a divisor past the sum, so that the product fits, and what is left is
+-- at most half a divisor.
+use mathlib.Core.Path.{_≡_, sym, ap, _∙_, subst}
+use Prim.Native.Nat.{ℕ, _+_, _*_, _%_, _^_, _≤_, _<_}
+use native.Mathlib.Nat.{mod-eq-of-lt, mul-pos, mul-le-mul, le-refl, lt-of-le-of-lt}
 use native.Mathlib.Omega.{arith}
 use borrow.Author.Needs.{needs}
-use lib.Dec.{T}
-use lib.IntN.{ℤ, pos, negℤ, natAbs}
-use lib.Pow.{pow-pos}
-use lib.Signed.{ltZ, nonNeg}
+use lib.Dec.{lit<}
+use lib.IntN.{ℤ, pos, natAbs, _-ℤ_, _*ℤ_}
+use lib.Pow.{pow-pos, pow-mono}
 use mir.Syntax.{w64}
-use mir.Val.{Fits}
-use Rattle.whole.specs.Nearest.{halfUp, nearest}
-use Rattle.whole.proofs.Order.{below-zero, not-below-zero}
-use Rattle.whole.proofs.Fit.{kept-is, natAbs-neg, size-fits, turned-fits, turned-kept, sign-kept}
-use Rattle.whole.proofs.HalfUp.{half-least}
+use mir.Val.{SFits, toZ}
+use mir.ValLaws.{toZ-pos}
+use Rattle.whole.specs.Nearest.{nearest, remainder}
+use Rattle.whole.proofs.Fit.{kept, kept-is, size-fits}
+use Rattle.whole.specs.Inner.{farthest, halfToGreater, moved}
+use Rattle.whole.proofs.Lifted.{moved-nearest, moved-size}
+use Rattle.whole.proofs.Remainder.{product-size, remainder-close}
 use Rattle.whole.proofs.round_over.Statement.{statement}
 use Rattle.whole.proofs.round_over.Tie as tie
 
--- ---- the two clauses
+-- ---- what can be rounded over
 
-below : (z : ℤ) (d : ℕ) → ltZ z (pos 0) ≡ true → T (nonNeg (negℤ z)) × (negℤ (pos (halfUp (natAbs z) d)) ≡ nearest z d)
-unfolding nearest
-below z d e = let (n, is) = below-zero z e in subst (λ x. T (nonNeg (negℤ x)) × (negℤ (pos (halfUp (natAbs x) d)) ≡ nearest x d)) (sym is) (tt, refl)
-
-above : (z : ℤ) (d : ℕ) → ltZ z (pos 0) ≡ false → T (nonNeg z) × (pos (halfUp (natAbs z) d) ≡ nearest z d)
-unfolding nearest
-above z d e = let (n, is) = not-below-zero z e in subst (λ x. T (nonNeg x) × (pos (halfUp (natAbs x) d) ≡ nearest x d)) (sym is) (tt, refl)
-
--- ---- the sum, its size, and what that is rounded to
-
-module _ (c : tie.Start) where
+module _ (s : tie.Start) where
   abbrev z : ℤ
-  z = c .args .sum
+  z = s .args .sum
+
+  abbrev m : ℕ
+  m = s .args .multiple
+
+  abbrev e : ℕ
+  e = 2 ^ s .args .bits
 
   abbrev d : ℕ
-  d = c .args .multiple * 2 ^ c .args .bits
+  d = m * e
 
-  small : natAbs z < 2 ^ 63
-  small = c .pre .0 .0
+  -- the divisor is at most 2^38
+  divisor-small : d ≤ 2 ^ 38
+  divisor-small = mul-le-mul (s .pre .0 .few) (pow-mono {i = s .args .bits} {j = 30} (s .pre .0 .shallow))
 
-  rounded-small : {n : ℕ} → n ≡ halfUp (natAbs z) d → n < 2 ^ 63
-  rounded-small is = subst (λ (n : ℕ). n < 2 ^ 63) (sym is) (lt-of-le-of-lt (half-least (natAbs z) d (mul-pos (c .pre .1 .0) (pow-pos (c .args .bits)))) small)
+  small : natAbs z < 2 ^ 62
+  small = lt-of-le-of-lt (s .pre .1) (lt-of-le-of-lt (mul-le-mul divisor-small (le-refl farthest)) (lit< tt))
 
--- ---- below zero
+  some : 0 < d
+  some = mul-pos (s .pre .0 .some) (pow-pos (s .args .bits))
 
-sub-half-up : tie.Need-sub-half-up
-sub-half-up c = turned-fits w64 (z (c .before)) (small (c .before))
+outwards-requires : tie.Need-outwards-requires
+outwards-requires c κs = (subst (λ x. natAbs x < 2 ^ 62) (sym (kept-is w64 (z c) (c .fits .sum))) (small c), omega (arith, c .pre .0 .shallow))
 
-cast-half-up : tie.Need-cast-half-up
-cast-half-up c =
+-- the sum moved outwards
+moved-is : (c : tie.After-outwards) → kept w64 (c .outwards .result) ≡ moved (e (c .before)) (z (c .before))
+moved-is c =
     let s = c .before in
-    subst (λ x. T (nonNeg x) × Fits w64 (natAbs x)) (sym (turned-kept w64 (z s) (small s)))
-    (below (z s) (d s) (sign-kept w64 (z s) (small s) (c .if1 .taken)) .0, record { fits = omega (arith, natAbs-neg (z s), small s) })
+    kept-is w64 (c .outwards .result) (record { sfits = c .outwards .ok }) ∙ c .outwards .ensures ∙ ap (moved (e s)) (kept-is w64 (z s) (s .fits .sum))
 
-half-up-requires : tie.Need-half-up-requires
-half-up-requires c κs =
+nearest-up-requires : tie.Need-nearest-up-requires
+nearest-up-requires c κs =
     let s = c .before in
-    ((subst (λ x. natAbs x < 2 ^ 63) (sym (turned-kept w64 (z s) (small s))) (subst (λ (n : ℕ). n < 2 ^ 63) (sym (natAbs-neg (z s))) (small s)), s .pre .0 .1), s .pre .1)
+    (s .pre .0, subst (λ x. natAbs x ≤ d s * farthest + 1) (sym (moved-is c)) (omega (arith, moved-size (z s) (e s), s .pre .1)))
 
-given : (c : tie.After-half-up) → c .half-up .result ≡ halfUp (natAbs (z (c .before .before))) (d (c .before .before))
-given c =
-    let s = c .before .before in
-    c .half-up .ensures ∙ ap (λ x. halfUp (natAbs x) (d s)) (turned-kept w64 (z s) (small s)) ∙ ap (λ (n : ℕ). halfUp n (d s)) (natAbs-neg (z s))
+cast-divisor : tie.Need-cast-divisor
+cast-divisor c = search needs
 
-cast-result : tie.Need-cast-result
-cast-result c = size-fits w64 (pos (c .half-up .result)) (rounded-small (c .before .before) (given c))
+cast-divisor-2 : tie.Need-cast-divisor-2
+cast-divisor-2 c = search needs
 
-sub-result : tie.Need-sub-result
-sub-result c = turned-fits w64 (pos (c .half-up .result)) (rounded-small (c .before .before) (given c))
+shl-divisor : tie.Need-shl-divisor
+shl-divisor c = search needs
+
+-- ---- the number, and what is left over
+
+module _ (c : tie.After-nearest-up) where
+  abbrev start : tie.Start
+  start = c .before .before
+
+  abbrev sum : ℤ
+  sum = z start
+
+  abbrev over : ℕ
+  over = d start
+
+  divisor-is : toZ w64 (over % 2 ^ 64) ≡ pos over
+  divisor-is =
+      let small : over < 2 ^ 63 = omega (arith, divisor-small start) in
+      let held : over < 2 ^ 64 = omega arith in
+      ap (toZ w64) (mod-eq-of-lt held) ∙ toZ-pos w64 over small
+
+  whole-is : kept w64 (c .nearest-up .result) ≡ nearest sum over
+  whole-is =
+      kept-is w64 (c .nearest-up .result) (record { sfits = c .nearest-up .ok })
+      ∙ c .nearest-up .ensures
+      ∙ ap (halfToGreater (m start) (e start)) (moved-is (c .before))
+      ∙ moved-nearest sum (m start) (e start) (start .pre .0 .some) (start .pre .0 .even) (pow-pos (start .args .bits))
+
+  product-is : toZ w64 (over % 2 ^ 64) *ℤ kept w64 (c .nearest-up .result) ≡ pos over *ℤ nearest sum over
+  product-is = λ i. divisor-is i *ℤ whole-is i
+
+  product-fits : SFits w64 (pos over *ℤ nearest sum over)
+  product-fits = size-fits w64 (pos over *ℤ nearest sum over) (omega (arith, product-size sum over, small start, divisor-small start))
+
+  product-kept : kept w64 (toZ w64 (over % 2 ^ 64) *ℤ kept w64 (c .nearest-up .result)) ≡ pos over *ℤ nearest sum over
+  product-kept = ap (kept w64) product-is ∙ kept-is w64 (pos over *ℤ nearest sum over) product-fits
+
+  left-is : kept w64 sum -ℤ kept w64 (toZ w64 (over % 2 ^ 64) *ℤ kept w64 (c .nearest-up .result)) ≡ remainder sum over
+  unfolding remainder
+  left-is = λ i. kept-is w64 sum (start .fits .sum) i -ℤ product-kept i
+
+  left-fits : SFits w64 (remainder sum over)
+  left-fits = size-fits w64 (remainder sum over) (omega (arith, remainder-close sum over (some start), divisor-small start))
+
+mul-t6 : tie.Need-mul-t6
+mul-t6 c = subst (SFits w64) (sym (product-is c)) (product-fits c)
+
+sub-t7 : tie.Need-sub-t7
+sub-t7 c = subst (SFits w64) (sym (left-is c)) (left-fits c)
 
 returns : tie.Need-returns
 returns c =
-    let s = c .before .before in
-    turned-kept w64 (pos (c .half-up .result)) (rounded-small s (given c))
-    ∙ ap (λ (n : ℕ). negℤ (pos n)) (given c)
-    ∙ below (z s) (d s) (sign-kept w64 (z s) (small s) (c .before .if1 .taken)) .1
-
--- ---- not below zero
-
-cast-half-up-2 : tie.Need-cast-half-up-2
-cast-half-up-2 c =
-    let s = c .before in
-    subst (λ x. T (nonNeg x) × Fits w64 (natAbs x)) (sym (kept-is w64 (z s) (size-fits w64 (z s) (small s))))
-    (above (z s) (d s) (sign-kept w64 (z s) (small s) (c .if1 .left)) .0, record { fits = omega (arith, small s) })
-
-half-up-requires-2 : tie.Need-half-up-requires-2
-half-up-requires-2 c κs = search needs
-
-given-2 : (c : tie.After-half-up2) → c .half-up2 .result ≡ halfUp (natAbs (z (c .before .before))) (d (c .before .before))
-given-2 c =
-    let s = c .before .before in
-    c .half-up2 .ensures ∙ ap (λ x. halfUp (natAbs x) (d s)) (kept-is w64 (z s) (size-fits w64 (z s) (small s)))
-
-cast-result-2 : tie.Need-cast-result-2
-cast-result-2 c = size-fits w64 (pos (c .half-up2 .result)) (rounded-small (c .before .before) (given-2 c))
-
-returns-2 : tie.Need-returns-2
-returns-2 c =
-    let s = c .before .before in
-    kept-is w64 (pos (c .half-up2 .result)) (cast-result-2 c)
-    ∙ ap pos (given-2 c)
-    ∙ above (z s) (d s) (sign-kept w64 (z s) (small s) (c .before .if1 .left)) .1
+    let left = ap (kept w64) (left-is c) ∙ kept-is w64 (remainder (sum c) (over c)) (left-fits c) in
+    λ i. record { whole = whole-is c i; remainder = left i }
 
 pub round-over-spec : {M : Type 1} → statement M
-round-over-spec =
-    tie.close
-    (tie.spec
-    sub-half-up
-    cast-half-up
-    half-up-requires
-    cast-result
-    sub-result
-    cast-half-up-2
-    half-up-requires-2
-    cast-result-2
-    returns
-    returns-2)
+round-over-spec = tie.close (tie.spec outwards-requires nearest-up-requires cast-divisor cast-divisor-2 shl-divisor mul-t6 sub-t7 returns)
