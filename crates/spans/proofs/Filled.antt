@@ -7,11 +7,14 @@ use native.Mathlib.Omega.{arith}
 use lib.IntN.{ℤ, pos}
 use lib.ListN.{getD, length}
 use lib.Seq.{sets, set-getD, ext-getD, length-sets}
+use Rattle.whole.specs.Outcome.{outcome}
 use Rattle.curve.specs.Tab.{tab}
 use Rattle.curve.proofs.Fills.{before-sets, past-sets, in-sets}
 use Rattle.curve.proofs.Tab.{length-tab, getD-tab}
 use Rattle.shape.proofs.Tests.{either}
-use Rattle.spans.specs.Filled.{filled}
+use Rattle.shape.specs.declared.Plan.{Plan}
+use Rattle.spans.specs.Numbers.{noughts}
+use Rattle.spans.specs.Filled.{filled, fills}
 
 pub length-filled : (f : ℕ → ℤ) (q n : ℕ) (l : List ℤ) → length (filled f q n l) ≡ length l
 length-filled f q n l = length-sets l q (tab f q n)
@@ -38,6 +41,11 @@ module _ (f : ℕ → ℤ) (q n : ℕ) (l : List ℤ) (i : ℕ) where
 pub none-filled : (f : ℕ → ℤ) (q n : ℕ) (l : List ℤ) → n ≡ 0 → filled f q n l ≡ l
 unfolding tab
 none-filled f q n l e = ap (λ (m : ℕ). filled f q m l) e
+
+-- no numbers of an outline drawn
+pub none-fills : (p : Plan) (controls : List ℤ) (q n : ℕ) (l : List ℤ) → n ≡ 0 → fills p controls q n l ≡ outcome 0 l
+unfolding tab noughts
+none-fills p controls q n l e = ap (λ (m : ℕ). fills p controls q m l) e
 
 -- a list filled with its own numbers is as it was
 pub same-filled : (l : List ℤ) (q n : ℕ) → filled (λ (i : ℕ). getD l i (pos 0)) q n l ≡ l

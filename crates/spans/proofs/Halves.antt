@@ -1,20 +1,17 @@
--- One cut: the numbers of a piece are those of its left half and then those of its right half, and both halves can be cut on.
+-- One cut: the sums of a piece are those of its left half and then those of its right half, and both halves can be cut on.
 use mathlib.Core.Path.{_≡_, refl, sym, ap, _∙_, subst}
 use mathlib.Core.Bool.{Bool, true, false, cond}
 use mathlib.Core.List.{List, [], _∷_, _++_}
 use Prim.Native.Nat.{ℕ, suc, _+_, _*_, _-_, _/_, _%_, _^_, _≤_, _<_}
 use native.Mathlib.Nat.{pow-suc, le-refl, le-trans, le-mul-of-pos-right, one-le-pow, pow-le-pow-right, mul-le-mul-left}
-use native.Mathlib.Numerals.{add-one}
 use native.Mathlib.Omega.{arith}
 use lib.Dec.{eqb, lit≤, lit<}
 use lib.IntN.{ℤ, pos, natAbs}
-use lib.ListN.{length, set}
+use lib.ListN.{length}
 use lib.Pow.{pow-pos}
-use lib.Seq.{sets}
 use mir.Syntax.{w64}
 use mir.Val.{SFits}
-use Rattle.whole.specs.Nearest.{nearest}
-use Rattle.whole.proofs.Writes.{sets-append}
+use Rattle.whole.specs.Outcome.{Outcome}
 use Rattle.whole.proofs.Ring.{var, lit, _⊗_, solve}
 use Rattle.whole.proofs.Fit.{sfits}
 use Rattle.curve.specs.declared.Four.{Four}
@@ -28,8 +25,9 @@ use Rattle.curve.proofs.Span.{weighted-start}
 use Rattle.curve.proofs.Powers.{doubled, half-width}
 use Rattle.curve.proofs.Ways.{eightfold, left-half, right-half}
 use Rattle.spans.specs.Numbers.{perSpan}
-use Rattle.spans.specs.Inner.{onAxis, paired, Ready, Cuttable}
+use Rattle.spans.specs.Inner.{onAxis, paired, rounds, Ready, Cuttable}
 use Rattle.spans.proofs.Pairs.{paired-x, paired-y}
+use Rattle.spans.proofs.Rounds.{onward, rounds-append}
 
 -- half the numbers of a piece are those of its halves
 pub halved : (left : ℕ) → 0 < left → perSpan (left - 1) ≡ 2 ^ left
@@ -90,7 +88,7 @@ cuttable-small l d q cut =
     let i = cut .inside in
     record { a = le-trans (i .a) small; b = le-trans (i .b) small; c = le-trans (i .c) small; d = le-trans (i .d) small }
 
--- ---- numbers
+-- ---- sums
 
 axis-left : (b : Bool) (x y : Four) → cond b (leftHalf x) (leftHalf y) ≡ leftHalf (cond b x y)
 axis-left true x y = refl
@@ -100,72 +98,71 @@ axis-right : (b : Bool) (x y : Four) → cond b (rightHalf x) (rightHalf y) ≡ 
 axis-right true x y = refl
 axis-right false x y = refl
 
-left-number : (l d : ℕ) (x y : Four) (j : ℕ) → paired l d (leftHalf x) (leftHalf y) j ≡ paired (suc l) d x y j
+left-sum : (l : ℕ) (x y : Four) (j : ℕ) → paired l (leftHalf x) (leftHalf y) j ≡ paired (suc l) x y j
 unfolding paired
-left-number l d x y j =
-    ap (λ z. nearest z d)
-    (ap (λ q. weighted q (pos (j / 2)) (pos (2 ^ l))) (axis-left (eqb (j % 2) 0) x y)
+left-sum l x y j =
+    ap (λ q. weighted q (pos (j / 2)) (pos (2 ^ l))) (axis-left (eqb (j % 2) 0) x y)
     ∙ left-half (onAxis x y j) (pos (j / 2)) (pos (2 ^ l))
-    ∙ ap (λ (n : ℕ). weighted (onAxis x y j) (pos (j / 2)) (pos n)) (doubled l))
+    ∙ ap (λ (n : ℕ). weighted (onAxis x y j) (pos (j / 2)) (pos n)) (doubled l)
 
-right-number : (l d : ℕ) (x y : Four) (j : ℕ) → paired l d (rightHalf x) (rightHalf y) j ≡ paired (suc l) d x y (perSpan l + j)
+right-sum : (l : ℕ) (x y : Four) (j : ℕ) → paired l (rightHalf x) (rightHalf y) j ≡ paired (suc l) x y (perSpan l + j)
 unfolding paired
-right-number l d x y j =
+right-sum l x y j =
     let same : j % 2 ≡ (perSpan l + j) % 2 = omega arith in
     let on : 2 ^ l + j / 2 ≡ (perSpan l + j) / 2 = omega arith in
-    ap (λ z. nearest z d)
-    (ap (λ q. weighted q (pos (j / 2)) (pos (2 ^ l))) (axis-right (eqb (j % 2) 0) x y)
+    ap (λ q. weighted q (pos (j / 2)) (pos (2 ^ l))) (axis-right (eqb (j % 2) 0) x y)
     ∙ right-half (onAxis x y j) (pos (j / 2)) (pos (2 ^ l))
     ∙ ap (λ (n : ℕ). weighted (onAxis x y j) (pos n) (pos (2 * 2 ^ l))) on
     ∙ ap (λ (n : ℕ). weighted (onAxis x y j) (pos ((perSpan l + j) / 2)) (pos n)) (doubled l)
-    ∙ ap (λ (n : ℕ). weighted (cond (eqb n 0) x y) (pos ((perSpan l + j) / 2)) (pos (2 ^ suc l))) same)
+    ∙ ap (λ (n : ℕ). weighted (cond (eqb n 0) x y) (pos ((perSpan l + j) / 2)) (pos (2 ^ suc l))) same
 
--- the numbers of a piece are those of its halves
-cut-numbers : (l d : ℕ) (x y : Four)
-    → tab (paired (suc l) d x y) 0 (perSpan (suc l)) ≡ tab (paired l d (leftHalf x) (leftHalf y)) 0 (perSpan l) ++ tab (paired l d (rightHalf x) (rightHalf y)) 0 (perSpan l)
-cut-numbers l d x y =
+-- the sums of a piece are those of its halves
+abbrev pub pieceSums : ℕ → Four → Four → List ℤ
+pieceSums left x y = tab (paired left x y) 0 (perSpan left)
+
+cut-sums : (l : ℕ) (x y : Four) → pieceSums (suc l) x y ≡ pieceSums l (leftHalf x) (leftHalf y) ++ pieceSums l (rightHalf x) (rightHalf y)
+cut-sums l x y =
     let e : perSpan (suc l) ≡ perSpan l + perSpan l = omega (arith, doubled l) in
-    let f = paired (suc l) d x y in
+    let f = paired (suc l) x y in
     ap (tab f 0) e
     ∙ tab-append f 0 (perSpan l) (perSpan l)
-    ∙ ap (λ v. v ++ tab f (0 + perSpan l) (perSpan l)) (tab-same f (paired l d (leftHalf x) (leftHalf y)) 0 0 (perSpan l) (λ j b. sym (left-number l d x y (0 + j))))
-    ∙ ap (λ v. tab (paired l d (leftHalf x) (leftHalf y)) 0 (perSpan l) ++ v)
-    (tab-same f (paired l d (rightHalf x) (rightHalf y)) (0 + perSpan l) 0 (perSpan l) (λ j b. moved j ∙ sym (right-number l d x y (0 + j))))
+    ∙ ap (λ v. v ++ tab f (0 + perSpan l) (perSpan l)) (tab-same f (paired l (leftHalf x) (leftHalf y)) 0 0 (perSpan l) (λ j b. sym (left-sum l x y (0 + j))))
+    ∙ ap (λ v. pieceSums l (leftHalf x) (leftHalf y) ++ v)
+    (tab-same f (paired l (rightHalf x) (rightHalf y)) (0 + perSpan l) 0 (perSpan l) (λ j b. moved j ∙ sym (right-sum l x y (0 + j))))
   where
-    moved : (j : ℕ) → paired (suc l) d x y (0 + perSpan l + j) ≡ paired (suc l) d x y (perSpan l + (0 + j))
-    moved j = ap (paired (suc l) d x y) (omega arith)
+    moved : (j : ℕ) → paired (suc l) x y (0 + perSpan l + j) ≡ paired (suc l) x y (perSpan l + (0 + j))
+    moved j = ap (paired (suc l) x y) (omega arith)
 
 -- the sum at the start of a piece that is not cut on is its first control
 uncut : (q : Four) → weighted q (pos 0) (pos 1) ≡ q .a
 uncut q = weighted-start q (pos 1) ∙ solve (q .a ∷ []) (lit (pos 1) ⊗ lit (pos 1) ⊗ lit (pos 1) ⊗ var 0) (var 0) tt
 
--- a piece that is not cut on: its start, rounded
-pub leaf-numbers : (left d : ℕ) (x y : Four) (l : List ℤ) (at : ℕ) → left ≡ 0
-    → set (set l at (nearest (x .a) d)) (at + 1) (nearest (y .a) d) ≡ sets l at (tab (paired left d x y) 0 (perSpan left))
+-- a piece that is not cut on has its start alone
+pub leaf-sums : (left : ℕ) (x y : Four) → left ≡ 0 → x .a ∷ y .a ∷ [] ≡ pieceSums left x y
 unfolding tab
-leaf-numbers left d x y l at e =
+leaf-sums left x y e =
     sym
-    (ap (λ (n : ℕ). sets l at (tab (paired n d x y) 0 (perSpan n))) e
-    ∙ ap (λ z. set (set l at z) (suc at) (paired 0 d x y 1)) (paired-x 0 d x y 0 ∙ ap (λ z. nearest z d) (uncut x))
-    ∙ ap (λ z. set (set l at (nearest (x .a) d)) (suc at) z) (paired-y 0 d x y 0 ∙ ap (λ z. nearest z d) (uncut y))
-    ∙ ap (λ (n : ℕ). set (set l at (nearest (x .a) d)) n (nearest (y .a) d)) (sym (add-one at)))
+    (ap (λ (n : ℕ). pieceSums n x y) e
+    ∙ ap (λ z. z ∷ paired 0 x y 1 ∷ []) (paired-x 0 x y 0 ∙ uncut x)
+    ∙ ap (λ z. x .a ∷ z ∷ []) (paired-y 0 x y 0 ∙ uncut y))
 
--- the left half written, and then the right half from half the numbers on
-pub halves-written : (left d : ℕ) (x y : Four) (l : List ℤ) (at : ℕ) → 0 < left → {first second : List ℤ}
-    → first ≡ sets l at (tab (paired (left - 1) d (leftHalf x) (leftHalf y)) 0 (perSpan (left - 1)))
-    → second ≡ sets first (at + 2 ^ left) (tab (paired (left - 1) d (rightHalf x) (rightHalf y)) 0 (perSpan (left - 1)))
-    → second ≡ sets l at (tab (paired left d x y) 0 (perSpan left))
-halves-written left d x y l at h {first} {second} e f =
+-- the left half rounded, and then the right half from half the numbers on
+pub halves-rounded : (left d : ℕ) (x y : Four) (at n : ℕ) (l : List ℤ) → 0 < left → {first second : Outcome ℕ (List ℤ)}
+    → first ≡ rounds d (pieceSums (left - 1) (leftHalf x) (leftHalf y)) at n l
+    → second ≡ onward d (pieceSums (left - 1) (rightHalf x) (rightHalf y)) (at + 2 ^ left) first
+    → second ≡ rounds d (pieceSums left x y) at n l
+halves-rounded left d x y at n l h {first} {second} e f =
     let m = left - 1 in
     let whole : left ≡ suc m = omega arith in
-    let numbers = tab (paired m d (leftHalf x) (leftHalf y)) 0 (perSpan m) in
-    let half : 2 ^ left ≡ length numbers = ap (λ (n : ℕ). 2 ^ n) whole ∙ sym (doubled m) ∙ sym (length-tab (paired m d (leftHalf x) (leftHalf y)) 0 (perSpan m)) in
+    let a = pieceSums m (leftHalf x) (leftHalf y) in
+    let b = pieceSums m (rightHalf x) (rightHalf y) in
+    let half : 2 ^ left ≡ length a = ap (λ (n : ℕ). 2 ^ n) whole ∙ sym (doubled m) ∙ sym (length-tab (paired m (leftHalf x) (leftHalf y)) 0 (perSpan m)) in
     f
-    ∙ ap (λ v. sets v (at + 2 ^ left) (tab (paired m d (rightHalf x) (rightHalf y)) 0 (perSpan m))) e
-    ∙ ap (λ (n : ℕ). sets (sets l at numbers) (at + n) (tab (paired m d (rightHalf x) (rightHalf y)) 0 (perSpan m))) half
-    ∙ sym (sets-append l at numbers (tab (paired m d (rightHalf x) (rightHalf y)) 0 (perSpan m)))
-    ∙ ap (sets l at) (sym (cut-numbers m d x y))
-    ∙ ap (λ (n : ℕ). sets l at (tab (paired n d x y) 0 (perSpan n))) (sym whole)
+    ∙ ap (onward d b (at + 2 ^ left)) e
+    ∙ ap (λ (k : ℕ). onward d b (at + k) (rounds d a at n l)) half
+    ∙ rounds-append d a b at n l
+    ∙ ap (λ sums. rounds d sums at n l) (sym (cut-sums m x y))
+    ∙ ap (λ (k : ℕ). rounds d (pieceSums k x y) at n l) (sym whole)
 
 -- and that start is within the divisor's reach
 pub leaf-near : (left d : ℕ) (q : Four) → left ≡ 0 → Cuttable left d q → natAbs (q .a) ≤ d * reach

@@ -1,3 +1,5 @@
+pub mod Rounds
+pub mod Stored
 pub mod Pairs
 pub mod Halves
 pub mod Steps

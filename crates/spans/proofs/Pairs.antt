@@ -1,57 +1,61 @@
--- Pairs of numbers written one after another: what is left to write, written to the present list, is the whole; so a loop's step only takes the next pair off.
+-- The sums of a span, taken a pair at a time: what a loop still has to round, rounded to what it holds, makes the whole, and a turn takes the next pair off.
 use mathlib.Core.Path.{_≡_, refl, sym, ap, _∙_}
-use mathlib.Core.List.{List, _∷_}
+use mathlib.Core.List.{List, [], _∷_}
 use Prim.Native.Nat.{ℕ, suc, _+_, _*_, _-_, _/_, _%_, _^_, _≤_, _<_}
-use native.Mathlib.Numerals.{add-one, add-two}
 use native.Mathlib.Omega.{arith}
-use lib.IntN.{pos}
-use lib.ListN.{set}
-use lib.Seq.{sets}
-use Rattle.whole.specs.Nearest.{nearest}
+use lib.IntN.{ℤ, pos}
+use Rattle.whole.specs.Outcome.{Outcome, outcome}
 use Rattle.curve.specs.declared.Four.{Four}
 use Rattle.curve.specs.Tab.{tab}
 use Rattle.curve.specs.Span.{weighted}
-use Rattle.spans.specs.Inner.{paired}
+use Rattle.spans.specs.Inner.{paired, rounds}
+use Rattle.spans.proofs.Rounds.{onward, rounds-append, rounds-none}
+
+-- before the first step all pairs are still to come
+pub pair-none : (f : ℕ → ℤ) (d q n : ℕ) (l : List ℤ) (i m : ℕ) → i ≡ 0 → rounds d (tab f (2 * i) (2 * (m - i))) q n l ≡ rounds d (tab f 0 (2 * m)) q n l
+pair-none f d q n l i m e = let all : 2 * (m - 0) ≡ 2 * m = omega arith in ap (λ (k : ℕ). rounds d (tab f (2 * k) (2 * (m - k))) q n l) e ∙ ap (λ (k : ℕ). rounds d (tab f 0 k) q n l) all
 
 -- the next pair
 tab-pair : {A : Type 0} (f : ℕ → A) (i n : ℕ) → tab f i (suc (suc n)) ≡ f i ∷ f (suc i) ∷ tab f (suc (suc i)) n
 unfolding tab
 tab-pair f i n = refl
 
--- before the first step all pairs are still to be written
-pub pair-none : {A : Type 0} (f : ℕ → A) (l : List A) (j i n : ℕ) → i ≡ 0 → sets l j (tab f (2 * i) (2 * (n - i))) ≡ sets l j (tab f 0 (2 * n))
-pair-none f l j i n e = let all : 2 * (n - 0) ≡ 2 * n = omega arith in ap (λ (m : ℕ). sets l j (tab f (2 * m) (2 * (n - m)))) e ∙ ap (λ (m : ℕ). sets l j (tab f 0 m)) all
-
-pub pair-step : {A : Type 0} (f : ℕ → A) (l : List A) (j i n : ℕ) → i < n
-    → sets l j (tab f (2 * i) (2 * (n - i))) ≡ sets (set (set l j (f (2 * i))) (j + 1) (f (2 * i + 1))) (j + 2) (tab f (2 * (i + 1)) (2 * (n - (i + 1))))
-pair-step f l j i n h =
-    let left : 2 * (n - i) ≡ suc (suc (2 * (n - (i + 1)))) = omega arith in
+next-pair : (f : ℕ → ℤ) (i m : ℕ) → i < m → f (2 * i) ∷ f (2 * i + 1) ∷ tab f (2 * (i + 1)) (2 * (m - (i + 1))) ≡ tab f (2 * i) (2 * (m - i))
+next-pair f i m h =
+    let left : 2 * (m - i) ≡ suc (suc (2 * (m - (i + 1)))) = omega arith in
     let next : suc (suc (2 * i)) ≡ 2 * (i + 1) = omega arith in
     let odd : suc (2 * i) ≡ 2 * i + 1 = omega arith in
-    let r = 2 * (n - (i + 1)) in
-    ap (λ (m : ℕ). sets l j (tab f (2 * i) m)) left
-    ∙ ap (sets l j) (tab-pair f (2 * i) r)
-    ∙ ap (λ (m : ℕ). sets (set (set l j (f (2 * i))) (suc j) (f m)) (suc (suc j)) (tab f (suc (suc (2 * i))) r)) odd
-    ∙ ap (λ (m : ℕ). sets (set (set l j (f (2 * i))) (suc j) (f (2 * i + 1))) (suc (suc j)) (tab f m r)) next
-    ∙ ap (λ (m : ℕ). sets (set (set l j (f (2 * i))) m (f (2 * i + 1))) (suc (suc j)) (tab f (2 * (i + 1)) r)) (sym (add-one j))
-    ∙ ap (λ (m : ℕ). sets (set (set l j (f (2 * i))) (j + 1) (f (2 * i + 1))) m (tab f (2 * (i + 1)) r)) (sym (add-two j))
+    let r = 2 * (m - (i + 1)) in
+    sym
+    (ap (tab f (2 * i)) left
+    ∙ tab-pair f (2 * i) r
+    ∙ ap (λ (k : ℕ). f (2 * i) ∷ f k ∷ tab f (suc (suc (2 * i))) r) odd
+    ∙ ap (λ (k : ℕ). f (2 * i) ∷ f (2 * i + 1) ∷ tab f k r) next)
+
+-- a turn that rounds it, and then the rest
+pub pair-step : (f : ℕ → ℤ) (d q n : ℕ) (l : List ℤ) (i m : ℕ) → i < m → (o : Outcome ℕ (List ℤ)) → o ≡ rounds d (f (2 * i) ∷ f (2 * i + 1) ∷ []) q n l
+    → onward d (tab f (2 * (i + 1)) (2 * (m - (i + 1)))) (q + 2) o ≡ rounds d (tab f (2 * i) (2 * (m - i))) q n l
+pair-step f d q n l i m h o e =
+    let pair = f (2 * i) ∷ f (2 * i + 1) ∷ [] in
+    let rest = tab f (2 * (i + 1)) (2 * (m - (i + 1))) in
+    ap (onward d rest (q + 2)) e ∙ rounds-append d pair rest q n l ∙ ap (λ sums. rounds d sums q n l) (next-pair f i m h)
 
 -- nothing is left
-pub pair-done : {A : Type 0} (f : ℕ → A) (l : List A) (j i n : ℕ) → n ≤ i → sets l j (tab f (2 * i) (2 * (n - i))) ≡ l
+pub pair-done : (f : ℕ → ℤ) (d q n : ℕ) (l : List ℤ) (i m : ℕ) → m ≤ i → rounds d (tab f (2 * i) (2 * (m - i))) q n l ≡ outcome n l
 unfolding tab
-pair-done f l j i n h = let e : 2 * (n - i) ≡ 0 = omega arith in ap (λ (m : ℕ). sets l j (tab f (2 * i) m)) e
+pair-done f d q n l i m h = let e : 2 * (m - i) ≡ 0 = omega arith in ap (λ (k : ℕ). rounds d (tab f (2 * i) k) q n l) e ∙ rounds-none d q n l
 
--- the numbers of a step
-pub paired-x : (left d : ℕ) (x y : Four) (i : ℕ) → paired left d x y (2 * i) ≡ nearest (weighted x (pos i) (pos (2 ^ left))) d
+-- the sums of a step
+pub paired-x : (left : ℕ) (x y : Four) (i : ℕ) → paired left x y (2 * i) ≡ weighted x (pos i) (pos (2 ^ left))
 unfolding paired
-paired-x left d x y i =
+paired-x left x y i =
     let e : 2 * i % 2 ≡ 0 = omega arith in
     let f : 2 * i / 2 ≡ i = omega arith in
     rw (e, f)
 
-pub paired-y : (left d : ℕ) (x y : Four) (i : ℕ) → paired left d x y (2 * i + 1) ≡ nearest (weighted y (pos i) (pos (2 ^ left))) d
+pub paired-y : (left : ℕ) (x y : Four) (i : ℕ) → paired left x y (2 * i + 1) ≡ weighted y (pos i) (pos (2 ^ left))
 unfolding paired
-paired-y left d x y i =
+paired-y left x y i =
     let e : (2 * i + 1) % 2 ≡ 1 = omega arith in
     let f : (2 * i + 1) / 2 ≡ i = omega arith in
     rw (e, f)

@@ -1,4 +1,4 @@
--- The state after n steps from a span's start holds the sum at step n, so the numbers by differences are the span's.
+-- The state after n steps from a span's start holds the sum at step n, so the sums by differences are the span's.
 use mathlib.Core.Path.{_≡_, sym, ap, _∙_, subst}
 use mathlib.Core.Bool.{Bool, true, false, cond}
 use Prim.Native.Nat.{ℕ, zero, suc, _+_, _*_, _/_, _%_, _^_, _≤_}
@@ -9,7 +9,6 @@ use lib.IntN.{pos, natAbs}
 use lib.Pow.{pow-mono}
 use mir.Syntax.{w64}
 use mir.Val.{SFits}
-use Rattle.whole.specs.Nearest.{nearest}
 use Rattle.whole.proofs.Fit.{sfits}
 use Rattle.curve.specs.declared.Four.{Four}
 use Rattle.curve.specs.declared.Differences.{Differences}
@@ -33,9 +32,9 @@ axis-value : (b : Bool) (x y : Four) (m n : ℕ) → after n (cond b (difference
 axis-value true x y m n = after-value x m n
 axis-value false x y m n = after-value y m n
 
-pub stepped-paired : (k d : ℕ) (x y : Four) (j : ℕ) → stepped d (differences x (pos (2 ^ k))) (differences y (pos (2 ^ k))) j ≡ paired k d x y j
+pub stepped-paired : (k : ℕ) (x y : Four) (j : ℕ) → stepped (differences x (pos (2 ^ k))) (differences y (pos (2 ^ k))) j ≡ paired k x y j
 unfolding stepped paired
-stepped-paired k d x y j = ap (λ z. nearest z d) (axis-value (eqb (j % 2) 0) x y (2 ^ k) (j / 2))
+stepped-paired k x y j = axis-value (eqb (j % 2) 0) x y (2 ^ k) (j / 2)
 
 pub ready-steady : (k d : ℕ) (q : Four) → k ≤ deepest → Ready k d q → Steady k d (differences q (pos (2 ^ k)))
 ready-steady k d q h ready =
@@ -45,20 +44,20 @@ ready-steady k d q h ready =
       near = λ i b. subst (λ z. natAbs z ≤ d * reach) (sym (after-value q (2 ^ k) i)) (ready .near i (omega arith));
     }
 
--- the numbers of a step
-pub stepped-x : (d : ℕ) (x y : Differences) (i : ℕ) → stepped d x y (2 * i) ≡ nearest (after i x .value) d
+-- the sums of a step
+pub stepped-x : (x y : Differences) (i : ℕ) → stepped x y (2 * i) ≡ after i x .value
 unfolding stepped
-stepped-x d x y i =
+stepped-x x y i =
     let e : 2 * i % 2 ≡ 0 = omega arith in
     let f : 2 * i / 2 ≡ i = omega arith in
-    rw (e, f)
+    ap (λ (n : ℕ). after n (cond (eqb (2 * i % 2) 0) x y) .value) f ∙ ap (λ (n : ℕ). after i (cond (eqb n 0) x y) .value) e
 
-pub stepped-y : (d : ℕ) (x y : Differences) (i : ℕ) → stepped d x y (2 * i + 1) ≡ nearest (after i y .value) d
+pub stepped-y : (x y : Differences) (i : ℕ) → stepped x y (2 * i + 1) ≡ after i y .value
 unfolding stepped
-stepped-y d x y i =
+stepped-y x y i =
     let e : (2 * i + 1) % 2 ≡ 1 = omega arith in
     let f : (2 * i + 1) / 2 ≡ i = omega arith in
-    rw (e, f)
+    ap (λ (n : ℕ). after n (cond (eqb ((2 * i + 1) % 2) 0) x y) .value) f ∙ ap (λ (n : ℕ). after i (cond (eqb n 0) x y) .value) e
 
 pub value-fits : (s : Differences) → Small s → SFits w64 (s .value)
 value-fits s small = sfits w64 (s .value) (2 ^ 61) (small .value) tt

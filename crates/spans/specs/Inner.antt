@@ -2,12 +2,14 @@
 -- One span by each of the three ways, and the controls that it can be drawn from.
 use mathlib.Core.Path.{_≡_}
 use mathlib.Core.Bool.{cond}
-use mathlib.Core.List.{List, [], _∷_}
+use mathlib.Core.List.{List, [], _∷_, map}
 use Prim.Native.Nat.{ℕ, zero, suc, _*_, _-_, _/_, _%_, _^_, _+_, _≤_, _<_}
 use lib.Dec.{eqb}
 use lib.IntN.{ℤ, pos, natAbs}
 use lib.ListN.{length}
-use Rattle.whole.specs.Nearest.{nearest}
+use lib.Seq.{sets}
+use Rattle.whole.specs.Nearest.{nearest, remainder}
+use Rattle.whole.specs.Outcome.{Outcome, outcome}
 use Rattle.curve.specs.declared.Four.{Four}
 use Rattle.curve.specs.declared.Differences.{Differences}
 use Rattle.curve.specs.Span.{coordinate, records, weighted, firstRecord}
@@ -16,30 +18,42 @@ use Rattle.curve.specs.Limits.{Inside, limit, reach}
 use Rattle.curve.specs.Inner.{Small, widest}
 use Rattle.shape.specs.declared.Plan.{Plan}
 use Rattle.shape.specs.Shape.{mostRecords}
-use Rattle.spans.specs.Numbers.{perSpan}
+use Rattle.spans.specs.Numbers.{noughts, perSpan}
 use Rattle.spans.specs.declared.run.Way.{Way}
 use Rattle.spans.specs.declared.run.Way.the-variants.{Weights, Halving, Differences as ByDifferences}
 
--- ---- one span, from its two axes' controls: number j is step j / 2 on axis j % 2, at `left` more halvings and over the divisor d
+-- ---- exact sums over a divisor d, rounded one after another
+
+-- What it comes to to round them into a lent list, from number q on, where n numbers were exact before: each is rounded once, and those of which nothing is left over are counted.
+abbrev pub wholes : ℕ → List ℤ → List ℤ
+wholes d sums = map (λ z. nearest z d) sums
+
+abbrev pub remainders : ℕ → List ℤ → List ℤ
+remainders d sums = map (λ z. remainder z d) sums
+
+abbrev pub rounds : ℕ → List ℤ → ℕ → ℕ → List ℤ → Outcome ℕ (List ℤ)
+rounds d sums q n l = outcome (n + noughts (remainders d sums)) (sets l q (wholes d sums))
+
+-- ---- the exact sums of one span, from its two axes' controls: sum j is at step j / 2 on axis j % 2, at `left` more halvings
 
 abbrev pub onAxis : Four → Four → ℕ → Four
 onAxis x y j = cond (eqb (j % 2) 0) x y
 
-unfoldable pub paired : ℕ → ℕ → Four → Four → ℕ → ℤ
-paired left d x y j = nearest (weighted (onAxis x y j) (pos (j / 2)) (pos (2 ^ left))) d
+unfoldable pub paired : ℕ → Four → Four → ℕ → ℤ
+paired left x y j = weighted (onAxis x y j) (pos (j / 2)) (pos (2 ^ left))
 
--- the two numbers of its end, at t = 1
-abbrev pub ending : ℕ → ℕ → Four → Four → List ℤ
-ending k d x y = nearest (weighted x (pos (2 ^ k)) (pos (2 ^ k))) d ∷ nearest (weighted y (pos (2 ^ k)) (pos (2 ^ k))) d ∷ []
+-- the two of its end, at t = 1
+abbrev pub ending : ℕ → Four → Four → List ℤ
+ending k x y = weighted x (pos (2 ^ k)) (pos (2 ^ k)) ∷ weighted y (pos (2 ^ k)) (pos (2 ^ k)) ∷ []
 
--- ---- the same by differences: the state after n steps, and the numbers of a span from the states of its two axes
+-- ---- the same by differences: the state after n steps, and the sums of a span from the states of its two axes
 
 unfoldable pub after : ℕ → Differences → Differences
 after zero s = s
 after (suc n) s = advance (after n s)
 
-unfoldable pub stepped : ℕ → Differences → Differences → ℕ → ℤ
-stepped d x y j = nearest (after (j / 2) (cond (eqb (j % 2) 0) x y) .value) d
+unfoldable pub stepped : Differences → Differences → ℕ → ℤ
+stepped x y j = after (j / 2) (cond (eqb (j % 2) 0) x y) .value
 
 -- ---- what it can be drawn from
 

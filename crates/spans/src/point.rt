@@ -1,21 +1,63 @@
 // One point in the lent list.
 ghost use mathlib.Core.Path.{_≡_};
-ghost use Prim.Native.Nat.{_+_, _*_, _≤_};
+ghost use mathlib.Core.List.{[], _∷_};
+ghost use Prim.Native.Nat.{_+_, _*_, _≤_, _<_};
 ghost use lib.IntN.{natAbs};
-ghost use lib.ListN.{length, set};
-ghost use Rattle.whole.specs.Nearest.{nearest};
+ghost use lib.ListN.{length};
+ghost use Rattle.whole.specs.Outcome.{outcome};
 ghost use Rattle.curve.specs.Limits.{reach};
 ghost use Rattle.curve.specs.Span.{divisorOf};
 ghost use Rattle.curve.specs.Ways.{mostBits};
+ghost use Rattle.spans.specs.Inner.{rounds};
 use curve::rounding::rounded;
+use whole::is_multiple;
 
-// The two numbers of a point, from the sixfold sums of its axes over 6 · 2^bits: each rounded once.
-pub(crate) fn put_point(points: &mut [i32], at: usize, bits: u32, x: i64, y: i64)
+// One number, from the sixfold sum of its axis over 6 · 2^bits: rounded once, and counted where nothing is left over. It answers how many numbers are exact: `exact` before it, and this one where it is.
+fn put_counted(points: &mut [i32], at: usize, bits: u32, sum: i64, exact: usize) -> usize
+    requires { ⌜ bits ≤ mostBits ⌝ }
+    requires { ⌜ natAbs sum ≤ divisorOf bits * reach ⌝ }
+    requires { ⌜ (at < length (now points)) × (exact ≤ at) ⌝ }
+    ensures { λ r. ⌜ outcome r (now (points .exit)) ≡ rounds (divisorOf bits) (sum ∷ []) at exact (now (points .entry)) ⌝ }
+{
+    let rounding = rounded(sum, bits);
+    let whole = rounding.whole;
+    points[at] = whole as i32;
+    if rounding.remainder == 0 {
+        return exact + 1;
+    }
+    exact
+}
+
+// The same. Few sums are multiples of 2^bits, and of any other something is left over, so that nobody need look at how much.
+fn put_number(points: &mut [i32], at: usize, bits: u32, sum: i64, exact: usize) -> usize
+    requires { ⌜ bits ≤ mostBits ⌝ }
+    requires { ⌜ natAbs sum ≤ divisorOf bits * reach ⌝ }
+    requires { ⌜ (at < length (now points)) × (exact ≤ at) ⌝ }
+    ensures { λ r. ⌜ outcome r (now (points .exit)) ≡ rounds (divisorOf bits) (sum ∷ []) at exact (now (points .entry)) ⌝ }
+{
+    if is_multiple(sum, bits) {
+        return put_counted(points, at, bits, sum, exact);
+    }
+    let rounding = rounded(sum, bits);
+    let whole = rounding.whole;
+    points[at] = whole as i32;
+    exact
+}
+
+// The two numbers of a point, each counted by itself.
+pub(crate) fn put_point(
+    points: &mut [i32],
+    at: usize,
+    bits: u32,
+    x: i64,
+    y: i64,
+    exact: usize,
+) -> usize
     requires { ⌜ bits ≤ mostBits ⌝ }
     requires { ⌜ (natAbs x ≤ divisorOf bits * reach) × (natAbs y ≤ divisorOf bits * reach) ⌝ }
-    requires { ⌜ at + 2 ≤ length (now points) ⌝ }
-    ensures { λ _. ⌜ now (points .exit) ≡ set (set (now (points .entry)) at (nearest x (divisorOf bits))) (at + 1) (nearest y (divisorOf bits)) ⌝ }
+    requires { ⌜ (at + 2 ≤ length (now points)) × (exact ≤ at) ⌝ }
+    ensures { λ r. ⌜ outcome r (now (points .exit)) ≡ rounds (divisorOf bits) (x ∷ y ∷ []) at exact (now (points .entry)) ⌝ }
 {
-    points[at] = rounded(x, bits);
-    points[at + 1] = rounded(y, bits);
+    let on_x = put_number(points, at, bits, x, exact);
+    put_number(points, at + 1, bits, y, on_x)
 }

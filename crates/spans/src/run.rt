@@ -3,15 +3,15 @@ ghost use mathlib.Core.Path.{_≡_};
 ghost use Prim.Native.Nat.{_+_, _^_, _≤_, _<_};
 ghost use lib.IntN.{pos};
 ghost use lib.ListN.{length};
-ghost use lib.Seq.{sets};
+ghost use Rattle.whole.specs.Outcome.{outcome};
 ghost use Rattle.curve.specs.Limits.{Inside};
 ghost use Rattle.curve.specs.Inner.{widest};
 ghost use Rattle.curve.specs.Tab.{tab};
 ghost use Rattle.curve.specs.Span.{coordinate, divisorOf, records, sixfoldControls, weighted};
 ghost use Rattle.curve.specs.Ways.{deepest, mostBits};
 ghost use Rattle.spans.specs.Numbers.{perSpan};
-ghost use Rattle.spans.specs.Filled.{filledRun};
-ghost use Rattle.spans.specs.Inner.{ending, paired, Drawable, Fillable, Ready, TableFor};
+ghost use Rattle.spans.specs.Filled.{fillsRun};
+ghost use Rattle.spans.specs.Inner.{ending, paired, rounds, Drawable, Fillable, Ready, TableFor};
 use crate::halving;
 use crate::point::put_point;
 use crate::stepping;
@@ -41,7 +41,7 @@ fn span_controls(controls: &[i32], plan: Plan, span: usize, axis: usize) -> Four
     sixfold_controls(basis, four_records(controls, first, axis))
 }
 
-// The 2^depth points of a span but its end, by a way.
+// The 2^depth points of a span but its end, by a way, and how many numbers are exact with them.
 fn fill_span(
     way: Way,
     table: &[i32],
@@ -51,17 +51,18 @@ fn fill_span(
     bits: u32,
     x: Four,
     y: Four,
-)
+    exact: usize,
+) -> usize
     requires { ⌜ (depth ≤ deepest) × (bits ≤ mostBits) ⌝ }
     requires { ⌜ Ready depth (divisorOf bits) x × Ready depth (divisorOf bits) y ⌝ }
-    requires { ⌜ at + perSpan depth ≤ length (now points) ⌝ }
+    requires { ⌜ (at + perSpan depth ≤ length (now points)) × (exact ≤ at) ⌝ }
     requires { ⌜ TableFor way (now table) ⌝ }
-    ensures { λ _. ⌜ now (points .exit) ≡ sets (now (points .entry)) at (tab (paired depth (divisorOf bits) x y) 0 (perSpan depth)) ⌝ }
+    ensures { λ r. ⌜ outcome r (now (points .exit)) ≡ rounds (divisorOf bits) (tab (paired depth x y) 0 (perSpan depth)) at exact (now (points .entry)) ⌝ }
 {
     match way {
-        Way::Weights => weights::fill_span(table, points, at, depth, bits, x, y),
-        Way::Halving => halving::fill_span(points, at, depth, bits, x, y),
-        Way::Differences => stepping::fill_span(points, at, depth, bits, x, y),
+        Way::Weights => weights::fill_span(table, points, at, depth, bits, x, y, exact),
+        Way::Halving => halving::fill_span(points, at, depth, bits, x, y, exact),
+        Way::Differences => stepping::fill_span(points, at, depth, bits, x, y, exact),
     }
 }
 
@@ -75,17 +76,32 @@ fn end_sum(q: Four, depth: usize) -> i64
     cubed * q.d
 }
 
-// The end of a span.
-fn put_end(points: &mut [i32], at: usize, depth: usize, bits: u32, x: Four, y: Four)
+// The end of a span, and how many numbers are exact with it.
+fn put_end(
+    points: &mut [i32],
+    at: usize,
+    depth: usize,
+    bits: u32,
+    x: Four,
+    y: Four,
+    exact: usize,
+) -> usize
     requires { ⌜ (depth ≤ deepest) × (bits ≤ mostBits) ⌝ }
     requires { ⌜ Ready depth (divisorOf bits) x × Ready depth (divisorOf bits) y ⌝ }
-    requires { ⌜ at + 2 ≤ length (now points) ⌝ }
-    ensures { λ _. ⌜ now (points .exit) ≡ sets (now (points .entry)) at (ending depth (divisorOf bits) x y) ⌝ }
+    requires { ⌜ (at + 2 ≤ length (now points)) × (exact ≤ at) ⌝ }
+    ensures { λ r. ⌜ outcome r (now (points .exit)) ≡ rounds (divisorOf bits) (ending depth x y) at exact (now (points .entry)) ⌝ }
 {
-    put_point(points, at, bits, end_sum(x, depth), end_sum(y, depth));
+    put_point(
+        points,
+        at,
+        bits,
+        end_sum(x, depth),
+        end_sum(y, depth),
+        exact,
+    )
 }
 
-// The spans from `from` up to, and not with, `to`, and the end of the last of them, where the table is lent to the way that reads it.
+// The spans from `from` up to, and not with, `to`, and the end of the last of them, where the table is lent to the way that reads it. It answers how many of their numbers are exact.
 fn fill_run(
     way: Way,
     table: &[i32],
@@ -94,10 +110,10 @@ fn fill_run(
     plan: Plan,
     from: usize,
     to: usize,
-)
+) -> usize
     requires { ⌜ Fillable plan from to (now controls) (length (now points)) ⌝ }
     requires { ⌜ TableFor way (now table) ⌝ }
-    ensures { λ _. ⌜ now (points .exit) ≡ filledRun plan from to (now (controls .entry)) (now (points .entry)) ⌝ }
+    ensures { λ r. ⌜ outcome r (now (points .exit)) ≡ fillsRun plan from to (now (controls .entry)) (now (points .entry)) ⌝ }
 {
     let depth = plan.depth;
     // The divisor is 6 · 2^bits.
@@ -105,27 +121,33 @@ fn fill_run(
     let stride: usize = 2 << depth;
     let mut span = from;
     let mut at = from * stride;
+    let mut exact = 0;
     loop {
         let x = span_controls(controls, plan, span, 0);
         let y = span_controls(controls, plan, span, 1);
-        fill_span(way, table, points, at, depth, bits, x, y);
+        exact = fill_span(way, table, points, at, depth, bits, x, y, exact);
         span += 1;
         at += stride;
         // The run has a span at least, and the last one's controls give its end.
         if to <= span {
-            put_end(points, at, depth, bits, x, y);
-            return;
+            return put_end(points, at, depth, bits, x, y, exact);
         }
     }
 }
 
 // The same by weights. Here and nowhere else the table is bound: once a call, for drawing and for edits.
-pub fn fill_by_weights(points: &mut [i32], controls: &[i32], plan: Plan, from: usize, to: usize)
+pub fn fill_by_weights(
+    points: &mut [i32],
+    controls: &[i32],
+    plan: Plan,
+    from: usize,
+    to: usize,
+) -> usize
     requires { ⌜ Fillable plan from to (now controls) (length (now points)) ⌝ }
-    ensures { λ _. ⌜ now (points .exit) ≡ filledRun plan from to (now (controls .entry)) (now (points .entry)) ⌝ }
+    ensures { λ r. ⌜ outcome r (now (points .exit)) ≡ fillsRun plan from to (now (controls .entry)) (now (points .entry)) ⌝ }
 {
     let table = weight_table();
-    fill_run(Way::Weights, &table, points, controls, plan, from, to);
+    fill_run(Way::Weights, &table, points, controls, plan, from, to)
 }
 
 // The same by any way. Halving and differences read no table.
@@ -136,9 +158,9 @@ pub fn fill_spans(
     plan: Plan,
     from: usize,
     to: usize,
-)
+) -> usize
     requires { ⌜ Fillable plan from to (now controls) (length (now points)) ⌝ }
-    ensures { λ _. ⌜ now (points .exit) ≡ filledRun plan from to (now (controls .entry)) (now (points .entry)) ⌝ }
+    ensures { λ r. ⌜ outcome r (now (points .exit)) ≡ fillsRun plan from to (now (controls .entry)) (now (points .entry)) ⌝ }
 {
     match way {
         Way::Weights => fill_by_weights(points, controls, plan, from, to),

@@ -1,28 +1,30 @@
--- An induction on the cuts left. None left: the piece's first controls, rounded, are its one point. Else the left half's numbers and then the right half's are the
--- piece's (`cut-numbers`), written one after the other (`sets-append`).
+-- An induction on the cuts left. None left: the piece's first controls are its one pair of sums. Else the left half's and then the right half's are the piece's, rounded one after the
+-- other (`halves-rounded`).
 use mathlib.Core.Path.{_≡_, sym, ap, _∙_, subst}
-use mathlib.Core.List.{List}
+use mathlib.Core.List.{[], _∷_}
 use Prim.Native.Nat.{ℕ, _+_, _*_, _-_, _^_, _≤_, _<_}
+use native.Mathlib.Nat.{mul-le-mul, le-refl}
 use native.Mathlib.Omega.{arith}
 use borrow.Fn.Kinds.{In}
 use borrow.Fn.PlainCycle.{Measures, is, falls, and}
-use lib.IntN.{ℤ, natAbs}
-use lib.ListN.{set}
-use lib.Seq.{sets}
+use lib.IntN.{natAbs}
+use lib.ListN.{length}
+use lib.Pow.{pow-mono}
 use mir.Syntax.{w64}
-use Rattle.whole.specs.Nearest.{nearest}
+use Rattle.whole.specs.Outcome.{outcome}
 use Rattle.whole.proofs.Fit.{kept, kept-is}
 use Rattle.curve.specs.declared.Four.{Four}
-use Rattle.curve.specs.Tab.{tab}
+use Rattle.curve.proofs.Tab.{length-tab}
 use Rattle.curve.specs.Limits.{reach}
 use Rattle.curve.specs.Span.{divisorOf}
-use Rattle.curve.specs.Ways.{leftHalf, rightHalf}
+use Rattle.curve.specs.Ways.{deepest, leftHalf, rightHalf}
 use Rattle.curve.proofs.Four.left_half.Reads as left-half-reads
 use Rattle.curve.proofs.Four.right_half.Reads as right-half-reads
 use Rattle.spans.specs.Numbers.{perSpan}
-use Rattle.spans.specs.Inner.{paired, Cuttable}
+use Rattle.spans.specs.Inner.{paired, rounds, Cuttable}
 use Rattle.curve.proofs.Powers.{shift-one}
-use Rattle.spans.proofs.Halves.{cut-on, cuttable-small, leaf-fits, leaf-near, leaf-numbers, halves-written, halved}
+use Rattle.spans.proofs.Halves.{pieceSums, cut-on, cuttable-small, leaf-fits, leaf-near, leaf-sums, halves-rounded, halved}
+use Rattle.spans.proofs.Rounds.{rounds-from, rounds-most}
 use Rattle.spans.proofs.halving.fill_pieces.Reads as reads
 use Rattle.spans.proofs.halving.fill_pieces.Kinds as kinds
 use Rattle.spans.proofs.halving.+fill_pieces.Lts-fill_pieces as lts
@@ -53,7 +55,7 @@ put-point-requires t c κs =
     let a = s .args in
     let p = s .pre .1 in
     let e = c .before .before .before .if1 .taken in
-    (p .0 .1, ((near (a .left) (divisorOf (a .bits)) (a .x) e (p .1 .0 .0), near (a .left) (divisorOf (a .bits)) (a .y) e (p .1 .0 .1)), omega (arith, ap (λ (n : ℕ). 2 ^ n) e)))
+    (p .0 .1, ((near (a .left) (divisorOf (a .bits)) (a .x) e (p .1 .0 .0), near (a .left) (divisorOf (a .bits)) (a .y) e (p .1 .0 .1)), (omega (arith, p .1 .1, ap (λ (n : ℕ). 2 ^ n) e), omega arith)))
 
 same-length : (t : ℕ) → lts.Need-same-length (callees t) (here t) reads.Post
 same-length t c = c .before .put-point .kept .0
@@ -64,11 +66,11 @@ returns t c =
     let a = s .args in
     let p = s .pre .1 in
     let d = divisorOf (a .bits) in
-    let l = a .points .now in
+    let x = kept-is w64 (a .x .a) (leaf-fits (a .left) d (a .x) (p .1 .0 .0)) in
+    let y = kept-is w64 (a .y .a) (leaf-fits (a .left) d (a .y) (p .1 .0 .1)) in
     c .before .put-point .ensures
-    ∙ ap (λ z. set (set l (a .at) (nearest z d)) (a .at + 1) (nearest (kept w64 (a .y .a)) d)) (kept-is w64 (a .x .a) (leaf-fits (a .left) (divisorOf (a .bits)) (a .x) (p .1 .0 .0)))
-    ∙ ap (λ z. set (set l (a .at) (nearest (a .x .a) d)) (a .at + 1) (nearest z d)) (kept-is w64 (a .y .a) (leaf-fits (a .left) (divisorOf (a .bits)) (a .y) (p .1 .0 .1)))
-    ∙ leaf-numbers (a .left) (divisorOf (a .bits)) (a .x) (a .y) l (a .at) (c .before .before .before .before .before .if1 .taken)
+    ∙ (λ i. rounds d (x i ∷ y i ∷ []) (a .at) 0 (a .points .now))
+    ∙ ap (λ sums. rounds d sums (a .at) 0 (a .points .now)) (leaf-sums (a .left) (a .x) (a .y) (c .before .before .before .before .before .if1 .taken))
 
 shl-half : (t : ℕ) → lts.Need-shl-half (callees t) (here t) reads.Post
 shl-half t c = omega arith
@@ -98,6 +100,17 @@ fill-pieces-requires t c κs =
       ),
     )
 
+-- what the left half comes to
+left-rounded : (t : ℕ) (c : lts.After-fill-pieces (callees t) (here t) reads.Post) → outcome (c .fill-pieces .result) (c .fill-pieces .last .0)
+    ≡ rounds (divisorOf (c .before .before .before .before .before .args .bits))
+    (pieceSums (c .before .before .before .before .before .args .left - 1) (leftHalf (c .before .before .before .before .before .args .x)) (leftHalf (c .before .before .before .before .before .args .y)))
+    (c .before .before .before .before .before .args .at) 0 (c .before .before .before .before .before .args .points .now)
+left-rounded t c =
+    let a = c .before .before .before .before .before .args in
+    let x = c .before .before .left-half .ensures in
+    let y = c .before .left-half2 .ensures in
+    c .fill-pieces .ensures ∙ (λ i. rounds (divisorOf (a .bits)) (pieceSums (a .left - 1) (x i) (y i)) (a .at) 0 (a .points .now))
+
 add-fill-pieces : (t : ℕ) → lts.Need-add-fill-pieces (callees t) (here t) reads.Post
 add-fill-pieces t c = let a = c .before .before .before .before .before .before .before .args in omega (arith, shift-one (a .left) (omega arith), halved (a .left) (omega arith))
 
@@ -112,16 +125,21 @@ right-half-requires-2 t c κs = let s = c .before .before .before .before .befor
 
 fill-pieces-requires-2 : (t : ℕ) → lts.Need-fill-pieces-requires-2 (callees t) (here t) reads.Post
 fill-pieces-requires-2 t c κs =
-    let s = c .before .before .before .before .before .before .before .before .before in
+    let l = c .before .before .before .before in
+    let s = l .before .before .before .before .before in
     let a = s .args in
-    let x = cut-on (a .left) (divisorOf (a .bits)) (a .x) (omega arith) (omega arith) (s .pre .1 .1 .0 .0) .1 in
-    let y = cut-on (a .left) (divisorOf (a .bits)) (a .y) (omega arith) (omega arith) (s .pre .1 .1 .0 .1) .1 in (
+    let d = divisorOf (a .bits) in
+    let m = a .left - 1 in
+    let x = cut-on (a .left) d (a .x) (omega arith) (omega arith) (s .pre .1 .1 .0 .0) .1 in
+    let y = cut-on (a .left) d (a .y) (omega arith) (omega arith) (s .pre .1 .1 .0 .1) .1 in
+    let shift = shift-one (a .left) (omega arith) in
+    let half = halved (a .left) (omega arith) in (
       omega (arith, s .pre .0),
       (
         (omega arith, s .pre .1 .0 .1),
         (
-          (subst (Cuttable (a .left - 1) (divisorOf (a .bits))) (sym (c .before .right-half .ensures)) x, subst (Cuttable (a .left - 1) (divisorOf (a .bits))) (sym (c .right-half2 .ensures)) y),
-          omega (arith, shift-one (a .left) (omega arith), halved (a .left) (omega arith), c .before .before .before .before .fill-pieces .kept .0),
+          (subst (Cuttable m d) (sym (c .before .right-half .ensures)) x, subst (Cuttable m d) (sym (c .right-half2 .ensures)) y),
+          omega (arith, shift, half, l .fill-pieces .kept .0),
         ),
       ),
     )
@@ -129,26 +147,51 @@ fill-pieces-requires-2 t c κs =
 same-length-2 : (t : ℕ) → lts.Need-same-length-2 (callees t) (here t) reads.Post
 same-length-2 t c = c .before .fill-pieces2 .kept .0 ∙ c .before .before .before .before .before .before .fill-pieces .kept .0
 
-returns-2 : (t : ℕ) → lts.Need-returns-2 (callees t) (here t) reads.Post
-returns-2 t c =
-    let s = c .before .before .before .before .before .before .before .before .before .before .before in
+-- the left half's call before the right half's
+abbrev left : {t : ℕ} → lts.After-fill-pieces2 (callees t) (here t) reads.Post → lts.After-fill-pieces (callees t) (here t) reads.Post
+left c = c .before .before .before .before .before
+
+-- and what the right half comes to, after it
+right-rounded : (t : ℕ) (c : lts.After-fill-pieces2 (callees t) (here t) reads.Post) → outcome (c .fill-pieces2 .result) (c .fill-pieces2 .last .0)
+    ≡ rounds (divisorOf (left c .before .before .before .before .before .args .bits))
+    (pieceSums (left c .before .before .before .before .before .args .left - 1) (rightHalf (left c .before .before .before .before .before .args .x)) (rightHalf (left c .before .before .before .before .before .args .y)))
+    (left c .before .before .before .before .before .args .at + 2 ^ left c .before .before .before .before .before .args .left) 0 (left c .fill-pieces .last .0)
+right-rounded t c =
+    let l = left c in
+    let s = l .before .before .before .before .before in
+    let a = s .args in
+    let half = shift-one (a .left) (omega (arith, s .pre .1 .0)) in
+    let x = c .before .before .right-half .ensures in
+    let y = c .before .right-half2 .ensures in
+    c .fill-pieces2 .ensures ∙ (λ i. rounds (divisorOf (a .bits)) (pieceSums (a .left - 1) (x i) (y i)) (a .at + half i) 0 (l .fill-pieces .last .0))
+
+add-result : (t : ℕ) → lts.Need-add-result (callees t) (here t) reads.Post
+add-result t c =
+    let r = c .before in
+    let l = left r in
+    let s = l .before .before .before .before .before in
     let a = s .args in
     let d = divisorOf (a .bits) in
     let m = a .left - 1 in
-    let some : 0 < a .left = omega (arith, c .before .before .before .before .before .before .before .before .before .before .if1 .left) in
-    let first = c .before .before .before .before .before .before .fill-pieces .last .0 in
-    let on : ℕ → Four → Four → List ℤ = λ n q r. sets first (a .at + n) (tab (paired m d q r) 0 (perSpan m)) in
-    halves-written (a .left) d (a .x) (a .y) (a .points .now) (a .at) some
-    (c .before .before .before .before .before .before .fill-pieces .ensures
-    ∙ ap (λ q. sets (a .points .now) (a .at) (tab (paired m d q (c .before .before .before .before .before .before .before .left-half2 .result)) 0 (perSpan m))) (c .before .before .before .before .before .before .before .before .left-half .ensures)
-    ∙ ap (λ q. sets (a .points .now) (a .at) (tab (paired m d (leftHalf (a .x)) q) 0 (perSpan m))) (c .before .before .before .before .before .before .before .left-half2 .ensures))
-    (c .before .fill-pieces2 .ensures
-    ∙ ap (λ (n : ℕ). on n (c .before .before .before .right-half .result) (c .before .before .right-half2 .result)) (shift-one (a .left) (omega (arith, s .pre .1 .0)))
-    ∙ ap (λ q. on (2 ^ a .left) q (c .before .before .right-half2 .result)) (c .before .before .before .right-half .ensures)
-    ∙ ap (on (2 ^ a .left) (rightHalf (a .x))) (c .before .before .right-half2 .ensures))
+    let first = rounds-most d (pieceSums m (leftHalf (a .x)) (leftHalf (a .y))) (a .at) 0 (a .points .now) (outcome (l .fill-pieces .result) (l .fill-pieces .last .0)) (left-rounded t l) in
+    let second = rounds-most d (pieceSums m (rightHalf (a .x)) (rightHalf (a .y))) (a .at + 2 ^ a .left) 0 (l .fill-pieces .last .0) (outcome (r .fill-pieces2 .result) (r .fill-pieces2 .last .0)) (right-rounded t r) in
+    let most : perSpan m ≤ perSpan deepest = mul-le-mul (le-refl 2) (pow-mono {i = m} {j = deepest} (omega (arith, s .pre .1 .0))) in
+    let sums : (x y : Four) → length (pieceSums m x y) ≡ perSpan m = λ x y. length-tab (paired m x y) 0 (perSpan m) in
+    omega (arith, first, second, sums (leftHalf (a .x)) (leftHalf (a .y)), sums (rightHalf (a .x)) (rightHalf (a .y)), most)
+
+returns-2 : (t : ℕ) → lts.Need-returns-2 (callees t) (here t) reads.Post
+returns-2 t c =
+    let r = c .before in
+    let l = left r in
+    let s = l .before .before .before .before .before in
+    let a = s .args in
+    let d = divisorOf (a .bits) in
+    let some : 0 < a .left = omega (arith, l .before .before .before .before .if1 .left) in
+    halves-rounded (a .left) d (a .x) (a .y) (a .at) 0 (a .points .now) some (left-rounded t l)
+    (rounds-from d (pieceSums (a .left - 1) (rightHalf (a .x)) (rightHalf (a .y))) (a .at + 2 ^ a .left) (l .fill-pieces .result) (l .fill-pieces .last .0) (outcome (r .fill-pieces2 .result) (r .fill-pieces2 .last .0)) (right-rounded t r))
 
 pub +fill-pieces-spec : {M : Type 1} → statement M
 +fill-pieces-spec =
     close μ
     λ t.
-    lts.spec (callees t) (here t) reads.Post (put-point-requires t) (same-length t) (returns t) (shl-half t) (sub-fill-pieces t) (left-half-requires t) (left-half-requires-2 t) (fill-pieces-requires t) (add-fill-pieces t) (sub-fill-pieces-2 t) (right-half-requires t) (right-half-requires-2 t) (fill-pieces-requires-2 t) (same-length-2 t) (returns-2 t)
+    lts.spec (callees t) (here t) reads.Post (put-point-requires t) (same-length t) (returns t) (shl-half t) (sub-fill-pieces t) (left-half-requires t) (left-half-requires-2 t) (fill-pieces-requires t) (add-fill-pieces t) (sub-fill-pieces-2 t) (right-half-requires t) (right-half-requires-2 t) (fill-pieces-requires-2 t) (add-result t) (same-length-2 t) (returns-2 t)

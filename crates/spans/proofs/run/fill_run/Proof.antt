@@ -1,4 +1,4 @@
--- At each turn the numbers of the spans still to be drawn, written to the present list, make the whole; a turn takes the next span's off, and after the last one the end is left.
+-- At each turn the sums of the spans still to be drawn, rounded to what is held, make the whole; a turn takes the next span's off, and after the last one the end is left.
 use mathlib.Core.Path.{_≡_, refl, sym, ap, _∙_, subst}
 use mathlib.Core.List.{List}
 use Prim.Native.Nat.{ℕ, suc, _+_, _*_, _-_, _%_, _^_, _≤_, _<_}
@@ -9,7 +9,7 @@ use lib.Dec.{lit<}
 use lib.IntN.{ℤ}
 use lib.ListN.{length}
 use lib.Pow.{pow-mono}
-use lib.Seq.{sets}
+use Rattle.whole.specs.Outcome.{Outcome, outcome}
 use Rattle.curve.specs.declared.Four.{Four}
 use Rattle.curve.specs.Tab.{tab}
 use Rattle.curve.specs.Span.{divisor}
@@ -17,26 +17,26 @@ use Rattle.curve.specs.Ways.{deepest, mostBits}
 use Rattle.curve.proofs.Tab.{length-tab}
 use Rattle.shape.specs.declared.Plan.{Plan}
 use Rattle.shape.specs.Shape.{mostRecords}
-use Rattle.spans.specs.Numbers.{number, perSpan}
-use Rattle.spans.specs.Filled.{filledRun}
-use Rattle.spans.specs.Inner.{paired, ending, Fillable, Ready}
-use Rattle.whole.proofs.Writes.{sets-append}
-use Rattle.spans.proofs.Numbers.{stride-is, spanControls, span-numbers, next-span, last-two}
+use Rattle.spans.specs.Numbers.{sumOf, perSpan}
+use Rattle.spans.specs.Filled.{fillsRun}
+use Rattle.spans.specs.Inner.{paired, ending, rounds, Fillable, Ready}
+use Rattle.spans.proofs.Rounds.{onward, rounds-append, rounds-most, rounds-outline}
+use Rattle.spans.proofs.Numbers.{stride-is, spanControls, span-sums, next-span, last-two}
 use Rattle.spans.proofs.Drawables.{span-ready}
 use Rattle.spans.proofs.run.fill_run.Statement.{statement}
 use Rattle.spans.proofs.run.fill_run.Tie as tie
 
 abbrev Inv-loop : tie.InvT-loop
-Inv-loop way table points₀ controls plan from to depth bits stride span₀ at₀ points span at =
+Inv-loop way table points₀ controls plan from to depth bits stride span₀ at₀ exact₀ points span at exact =
     (stride ≡ perSpan (plan .depth))
     × (span < to)
     × (at ≡ span * perSpan (plan .depth))
     × (length points ≡ length points₀)
-    × (sets points at (tab (number plan controls) (span * perSpan (plan .depth)) ((to - span) * perSpan (plan .depth) + 2))
-    ≡ filledRun plan from to controls points₀)
+    × (exact ≤ at)
+    × (rounds (divisor (plan .basis) (plan .depth)) (tab (sumOf plan controls) (span * perSpan (plan .depth)) ((to - span) * perSpan (plan .depth) + 2)) at exact points ≡ fillsRun plan from to controls points₀)
 
 abbrev μ-loop : tie.MeasureT-loop
-μ-loop way table points₀ controls plan from to depth bits stride span₀ at₀ points span at = to - span
+μ-loop way table points₀ controls plan from to depth bits stride span₀ at₀ exact₀ points span at exact = to - span
 
 -- the divisor's bits
 bits-small : (k : ℕ) → k ≤ deepest → 3 * k ≤ mostBits
@@ -64,13 +64,16 @@ mul-at c =
 loop-holds : tie.Need-loop-holds Inv-loop μ-loop
 loop-holds c =
     let a = c .args in
+    let w = perSpan (a .plan .depth) in
     let e = stride-is (a .plan .depth) (c .pre .0 .deep) in
     let at = ap (λ (n : ℕ). a .from * n) e in (
       e,
       omega arith,
       at,
       refl,
-      ap (λ (n : ℕ). sets (a .points .now) n (tab (number (a .plan) (a .controls .now)) (a .from * perSpan (a .plan .depth)) ((a .to - a .from) * perSpan (a .plan .depth) + 2))) at,
+      omega arith,
+      ap (λ (n : ℕ). rounds (divisor (a .plan .basis) (a .plan .depth)) (tab (sumOf (a .plan) (a .controls .now)) (a .from * w) ((a .to - a .from) * w + 2)) n 0 (a .points .now)) at
+          ∙ rounds-outline (a .plan) (a .controls .now) (a .from * w) ((a .to - a .from) * w + 2) (a .points .now),
     )
 
 span-controls-requires : tie.Need-span-controls-requires Inv-loop μ-loop
@@ -106,7 +109,7 @@ fill-span-requires c κs =
     let l = t .loop in
     let k = a .plan .depth in (
       (s .pre .0 .deep, bits-small k (s .pre .0 .deep)),
-      (both-ready (c .before), (omega (arith, l .inv .2, l .inv .3, room k (l .span) (a .to) (length (a .points .now)) (l .inv .1) (s .pre .0 .room)), s .pre .1)),
+      (both-ready (c .before), ((omega (arith, l .inv .2, l .inv .3, room k (l .span) (a .to) (length (a .points .now)) (l .inv .1) (s .pre .0 .room)), l .inv .4), s .pre .1)),
     )
 
 add-span : tie.Need-add-span Inv-loop μ-loop
@@ -132,40 +135,56 @@ add-at c =
     let k = t .before .args .plan .depth in
     omega (arith, next-at (c .before), place-small k (t .loop .span + 1) (p .deep) (omega (arith, t .loop .inv .1, p .there, p .drawable .few)))
 
--- a turn writes the next span's numbers
-wrote : (c : tie.After-fill-span Inv-loop μ-loop) → c .fill-span .last .1 .1 .0
-    ≡ sets (turn c .loop .points) (turn c .loop .at)
-    (tab (number (turn c .before .args .plan) (turn c .before .args .controls .now)) (turn c .loop .span * perSpan (turn c .before .args .plan .depth)) (perSpan (turn c .before .args .plan .depth)))
-wrote c =
+-- a turn rounds the next span's sums
+rounded : (c : tie.After-fill-span Inv-loop μ-loop) → outcome (c .fill-span .result) (c .fill-span .last .1 .1 .0)
+    ≡ rounds (divisor (turn c .before .args .plan .basis) (turn c .before .args .plan .depth))
+    (tab (sumOf (turn c .before .args .plan) (turn c .before .args .controls .now)) (turn c .loop .span * perSpan (turn c .before .args .plan .depth)) (perSpan (turn c .before .args .plan .depth)))
+    (turn c .loop .at) (turn c .loop .exact) (turn c .loop .points)
+rounded c =
     let t = turn c in
     let a = t .before .args in
     let l = t .loop in
     let k = a .plan .depth in
-    let write : Four → Four → List ℤ = λ x y. sets (l .points) (l .at) (tab (paired k (divisor (a .plan .basis) k) x y) 0 (perSpan k)) in
+    let d = divisor (a .plan .basis) k in
+    let x = c .before .before .before .span-controls .ensures in
+    let y = c .before .before .span-controls2 .ensures in
     c .fill-span .ensures
-    ∙ ap (λ x. write x (c .before .before .span-controls2 .result)) (c .before .before .before .span-controls .ensures)
-    ∙ ap (write (spanControls (a .plan .basis) (a .controls .now) (l .span) 0)) (c .before .before .span-controls2 .ensures)
-    ∙ ap (sets (l .points) (l .at)) (sym (span-numbers (a .plan) (a .controls .now) (l .span) (omega (arith, l .inv .1, t .before .pre .0 .there))))
+    ∙ (λ i. rounds d (tab (paired k (x i) (y i)) 0 (perSpan k)) (l .at) (l .exact) (l .points))
+    ∙ ap (λ sums. rounds d sums (l .at) (l .exact) (l .points)) (sym (span-sums (a .plan) (a .controls .now) (l .span) (omega (arith, l .inv .1, t .before .pre .0 .there))))
 
--- what is still to be drawn after a turn, written to what it leaves, makes the whole
+-- no more are exact after it than the numbers before the next span
+few : (c : tie.After-fill-span Inv-loop μ-loop) → c .fill-span .result ≤ turn c .loop .at + 2 * 2 ^ turn c .before .args .plan .depth % 2 ^ 64
+few c =
+    let t = turn c in
+    let a = t .before .args in
+    let l = t .loop in
+    let k = a .plan .depth in
+    let f = sumOf (a .plan) (a .controls .now) in
+    let sums = tab f (l .span * perSpan k) (perSpan k) in
+    omega
+    (arith, l .inv .4, stride-is k (t .before .pre .0 .deep), length-tab f (l .span * perSpan k) (perSpan k), rounds-most (divisor (a .plan .basis) k) sums (l .at) (l .exact) (l .points) (outcome (c .fill-span .result) (c .fill-span .last .1 .1 .0)) (rounded c))
+
+-- what is still to be drawn after a turn, rounded to what it leaves, makes the whole
 still : (c : tie.After-fill-span Inv-loop μ-loop)
-    → sets (c .fill-span .last .1 .1 .0) (turn c .loop .at + 2 * 2 ^ turn c .before .args .plan .depth % 2 ^ 64)
-    (tab (number (turn c .before .args .plan) (turn c .before .args .controls .now)) ((turn c .loop .span + 1) * perSpan (turn c .before .args .plan .depth)) ((turn c .before .args .to - (turn c .loop .span + 1)) * perSpan (turn c .before .args .plan .depth) + 2))
-    ≡ filledRun (turn c .before .args .plan) (turn c .before .args .from) (turn c .before .args .to) (turn c .before .args .controls .now) (turn c .before .args .points .now)
+    → rounds (divisor (turn c .before .args .plan .basis) (turn c .before .args .plan .depth))
+    (tab (sumOf (turn c .before .args .plan) (turn c .before .args .controls .now)) ((turn c .loop .span + 1) * perSpan (turn c .before .args .plan .depth)) ((turn c .before .args .to - (turn c .loop .span + 1)) * perSpan (turn c .before .args .plan .depth) + 2))
+    (turn c .loop .at + 2 * 2 ^ turn c .before .args .plan .depth % 2 ^ 64) (c .fill-span .result) (c .fill-span .last .1 .1 .0)
+    ≡ fillsRun (turn c .before .args .plan) (turn c .before .args .from) (turn c .before .args .to) (turn c .before .args .controls .now) (turn c .before .args .points .now)
 still c =
     let t = turn c in
     let a = t .before .args in
     let l = t .loop in
     let k = a .plan .depth in
+    let d = divisor (a .plan .basis) k in
     let w = perSpan k in
-    let f = number (a .plan) (a .controls .now) in
-    let numbers = tab f (l .span * w) w in
+    let f = sumOf (a .plan) (a .controls .now) in
+    let here = tab f (l .span * w) w in
     let rest = tab f ((l .span + 1) * w) ((a .to - (l .span + 1)) * w + 2) in
-    ap (λ v. sets v (l .at + 2 * 2 ^ k % 2 ^ 64) rest) (wrote c)
-    ∙ ap (λ (n : ℕ). sets (sets (l .points) (l .at) numbers) (l .at + n) rest) (stride-is k (t .before .pre .0 .deep) ∙ sym (length-tab f (l .span * w) w))
-    ∙ sym (sets-append (l .points) (l .at) numbers rest)
-    ∙ ap (sets (l .points) (l .at)) (sym (next-span f k (a .to) (l .span) (l .inv .1)))
-    ∙ l .inv .4
+    ap (onward d rest (l .at + 2 * 2 ^ k % 2 ^ 64)) (rounded c)
+    ∙ ap (λ (n : ℕ). onward d rest (l .at + n) (rounds d here (l .at) (l .exact) (l .points))) (stride-is k (t .before .pre .0 .deep) ∙ sym (length-tab f (l .span * w) w))
+    ∙ rounds-append d here rest (l .at) (l .exact) (l .points)
+    ∙ ap (λ sums. rounds d sums (l .at) (l .exact) (l .points)) (sym (next-span f k (a .to) (l .span) (l .inv .1)))
+    ∙ l .inv .5
 
 put-end-requires : tie.Need-put-end-requires Inv-loop μ-loop
 put-end-requires c κs =
@@ -174,7 +193,7 @@ put-end-requires c κs =
     let s = t .before in
     let k = s .args .plan .depth in
     let within : (t .loop .span + 1) * perSpan k ≤ s .args .to * perSpan k = mul-le-mul-right {m = t .loop .span + 1} {n = s .args .to} (perSpan k) (omega (arith, t .loop .inv .1)) in
-    ((s .pre .0 .deep, bits-small k (s .pre .0 .deep)), (both-ready (f .before .before), omega (arith, next-at f, within, s .pre .0 .room, f .fill-span .kept .1 .1 .0, t .loop .inv .3)))
+    ((s .pre .0 .deep, bits-small k (s .pre .0 .deep)), (both-ready (f .before .before), (omega (arith, next-at f, within, s .pre .0 .room, f .fill-span .kept .1 .1 .0, t .loop .inv .3), few f)))
 
 same-length : tie.Need-same-length Inv-loop μ-loop
 same-length c = c .before .put-end .kept .0 ∙ c .before .before .before .before .before .fill-span .kept .1 .1 .0 ∙ c .before .before .before .before .before .before .before .before .before .loop .inv .3
@@ -186,11 +205,12 @@ returns c =
     let a = t .before .args in
     let l = t .loop in
     let k = a .plan .depth in
-    let close : Four → Four → List ℤ = λ x y. sets (f .fill-span .last .1 .1 .0) (l .at + 2 * 2 ^ k % 2 ^ 64) (ending k (divisor (a .plan .basis) k) x y) in
+    let end : List ℤ → Outcome ℕ (List ℤ) = λ sums. rounds (divisor (a .plan .basis) k) sums (l .at + 2 * 2 ^ k % 2 ^ 64) (f .fill-span .result) (f .fill-span .last .1 .1 .0) in
+    let x = f .before .before .before .span-controls .ensures in
+    let y = f .before .before .span-controls2 .ensures in
     c .before .put-end .ensures
-    ∙ ap (λ x. close x (f .before .before .span-controls2 .result)) (f .before .before .before .span-controls .ensures)
-    ∙ ap (close (spanControls (a .plan .basis) (a .controls .now) (l .span) 0)) (f .before .before .span-controls2 .ensures)
-    ∙ ap (sets (f .fill-span .last .1 .1 .0) (l .at + 2 * 2 ^ k % 2 ^ 64)) (sym (last-two (a .plan) (a .controls .now) (a .to) (l .span) (omega (arith, l .inv .1, t .before .pre .0 .there)) (omega (arith, c .before .before .before))))
+    ∙ (λ i. end (ending k (x i) (y i)))
+    ∙ ap end (sym (last-two (a .plan) (a .controls .now) (a .to) (l .span) (omega (arith, l .inv .1, t .before .pre .0 .there)) (omega (arith, c .before .before .before))))
     ∙ still f
 
 loop-less : tie.Need-loop-less Inv-loop μ-loop
@@ -200,7 +220,7 @@ loop-again : tie.Need-loop-again Inv-loop μ-loop
 loop-again c =
     let f = c .before .before in
     let l = turn f .loop in
-    (l .inv .0, omega arith, next-at f, f .fill-span .kept .1 .1 .0 ∙ l .inv .3, still f)
+    (l .inv .0, omega arith, next-at f, f .fill-span .kept .1 .1 .0 ∙ l .inv .3, few f, still f)
 
 pub fill-run-spec : {M : Type 1} → statement M
 fill-run-spec = tie.close (tie.spec Inv-loop μ-loop mul-bits cast-bits shl-stride mul-at loop-holds span-controls-requires span-controls-requires-2 fill-span-requires add-span add-at put-end-requires same-length returns loop-less loop-again)

@@ -1,17 +1,15 @@
 -- The two sums are the span's at its last step, which are within the reach as those of every step.
-use mathlib.Core.Path.{_≡_, sym, ap, _∙_, subst}
-use Prim.Native.Nat.{_+_, _*_, _^_, _≤_}
+use mathlib.Core.Path.{_≡_, sym, _∙_, subst}
+use mathlib.Core.List.{[], _∷_}
+use Prim.Native.Nat.{_*_, _^_, _≤_}
 use native.Mathlib.Nat.{le-refl}
-use native.Mathlib.Numerals.{add-one}
-use native.Mathlib.Omega.{arith}
 use borrow.Author.Needs.{needs}
 use lib.IntN.{pos, natAbs}
-use lib.ListN.{set}
 use mir.Syntax.{w64}
-use Rattle.whole.specs.Nearest.{nearest}
 use Rattle.whole.proofs.Fit.{kept, kept-is}
 use Rattle.curve.specs.Limits.{reach}
 use Rattle.curve.specs.Span.{weighted, divisorOf}
+use Rattle.spans.specs.Inner.{rounds}
 use Rattle.spans.proofs.run.put_end.Statement.{statement}
 use Rattle.spans.proofs.run.put_end.Tie as tie
 
@@ -34,7 +32,7 @@ put-point-requires c κs =
     let n = divisorOf (s .args .bits) * reach in
     let p = s .pre in
     let last = le-refl (2 ^ s .args .depth) in
-    (p .0 .1, ((subst (λ z. natAbs z ≤ n) (sym (sum-x (c .before))) (p .1 .0 .0 .near _ last), subst (λ z. natAbs z ≤ n) (sym (sum-y c)) (p .1 .0 .1 .near _ last)), omega (arith, p .1 .1)))
+    (p .0 .1, ((subst (λ z. natAbs z ≤ n) (sym (sum-x (c .before))) (p .1 .0 .0 .near _ last), subst (λ z. natAbs z ≤ n) (sym (sum-y c)) (p .1 .0 .1 .near _ last)), p .1 .1))
 
 same-length : tie.Need-same-length
 same-length c = search needs
@@ -43,13 +41,7 @@ returns : tie.Need-returns
 returns c =
     let t = c .before .before in
     let a = t .before .before .before .args in
-    let l = a .points .now in
-    let d = divisorOf (a .bits) in
-    let h = pos (2 ^ a .depth) in
-    c .before .put-point .ensures
-    ∙ ap (λ z. set (set l (a .at) (nearest z d)) (a .at + 1) (nearest (kept w64 (t .end-sum2 .result)) d)) (sum-x (t .before))
-    ∙ ap (λ z. set (set l (a .at) (nearest (weighted (a .x) h h) d)) (a .at + 1) (nearest z d)) (sum-y t)
-    ∙ ap (λ n. set (set l (a .at) (nearest (weighted (a .x) h h) d)) n (nearest (weighted (a .y) h h) d)) (add-one (a .at))
+    c .before .put-point .ensures ∙ (λ i. rounds (divisorOf (a .bits)) (sum-x (t .before) i ∷ sum-y t i ∷ []) (a .at) (a .exact) (a .points .now))
 
 pub put-end-spec : {M : Type 1} → statement M
 put-end-spec = tie.close (tie.spec end-sum-requires end-sum-requires-2 put-point-requires same-length returns)

@@ -7,17 +7,15 @@ use borrow.Author.Needs.{needs}
 use lib.Dec.{lit<}
 use lib.IntN.{pos, natAbs}
 use lib.Pow.{pow-mono}
-use lib.Seq.{sets}
 use mir.Syntax.{w64}
 use mir.Val.{toZ}
 use mir.ValLaws.{toZ-pos}
-use Rattle.curve.specs.declared.Differences.{Differences}
 use Rattle.curve.specs.Tab.{tab}
 use Rattle.curve.specs.Span.{divisorOf}
 use Rattle.curve.specs.Ways.{deepest, differences}
 use Rattle.curve.proofs.Tab.{tab-same}
 use Rattle.spans.specs.Numbers.{perSpan}
-use Rattle.spans.specs.Inner.{paired, stepped, Steady}
+use Rattle.spans.specs.Inner.{paired, rounds, stepped, Steady}
 use Rattle.curve.proofs.Powers.{shift-one}
 use Rattle.spans.proofs.Steps.{ready-steady, stepped-paired}
 use Rattle.spans.proofs.stepping.fill_span.Statement.{statement}
@@ -73,12 +71,12 @@ returns c =
     let a = t .before .before .before .args in
     let k = a .depth in
     let d = divisorOf (a .bits) in
-    let n = perSpan k in
-    let write : Differences → Differences → _ = λ x y. sets (a .points .now) (a .at) (tab (stepped d x y) 0 n) in
+    let x = begun-x (t .before) in
+    let y = begun-y t in
     c .before .fill-steps .ensures
-    ∙ ap (λ x. write x (t .begin2 .result)) (begun-x (t .before))
-    ∙ ap (write (differences (a .x) (pos (2 ^ k)))) (begun-y t)
-    ∙ ap (sets (a .points .now) (a .at)) (tab-same (stepped d (differences (a .x) (pos (2 ^ k))) (differences (a .y) (pos (2 ^ k)))) (paired k d (a .x) (a .y)) 0 0 n (λ j b. stepped-paired k d (a .x) (a .y) _))
+    ∙ (λ i. rounds d (tab (stepped (x i) (y i)) 0 (perSpan k)) (a .at) (a .exact) (a .points .now))
+    ∙ ap (λ sums. rounds d sums (a .at) (a .exact) (a .points .now))
+    (tab-same (stepped (differences (a .x) (pos (2 ^ k))) (differences (a .y) (pos (2 ^ k)))) (paired k (a .x) (a .y)) 0 0 (perSpan k) (λ j b. stepped-paired k (a .x) (a .y) _))
 
 pub fill-span-spec : {M : Type 1} → statement M
 fill-span-spec = tie.close (tie.spec cast-steps shl-steps begin-requires begin-requires-2 fill-steps-requires same-length returns)
