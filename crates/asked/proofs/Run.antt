@@ -28,7 +28,7 @@ module _ (e : Edit) (p : Plan) (j : ℕ) where
   unfolding runOf
   run-count = refl
 
-  run-first : firstFresh e p j < pastFresh e p j → runOf e p j .first ≡ firstFresh e p j
+  pub run-first : firstFresh e p j < pastFresh e p j → runOf e p j .first ≡ firstFresh e p j
   unfolding runOf
   run-first h = ap (λ t. cond t (firstFresh e p j) 0) (lt-ltb (firstFresh e p j) (pastFresh e p j) h)
 

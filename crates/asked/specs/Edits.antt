@@ -10,7 +10,7 @@ use Rattle.curve.specs.Limits.{beyond, limit}
 use Rattle.curve.specs.Span.{stride}
 use Rattle.shape.specs.declared.Plan.{Plan}
 use Rattle.shape.specs.Shape.{leastRecords, mostRecords, firstUsing, lastUsing}
-use Rattle.spans.specs.Numbers.{number, perSpan}
+use Rattle.spans.specs.Numbers.{number, exactIn, perSpan}
 use Rattle.spans.specs.Filled.{filled}
 use Rattle.asked.specs.declared.Edit.{Edit}
 use Rattle.asked.specs.declared.Edit.the-variants.{Move, Insert, Remove}
@@ -108,6 +108,14 @@ carriedFrom Remove w q = q + w
 -- Number q is fresh from the start of the run's first span to the end of its last, both included.
 unfoldable pub isFresh : Run → ℕ → ℕ → Bool
 isFresh run k q = ltb 0 (run .count) && (leb (run .first * perSpan k) q && ltb q ((run .first + run .count) * perSpan k + 2))
+
+-- How many numbers are fresh: those of the run's spans and the two of its end, and none where it has no span.
+abbrev pub freshNumbers : Run → ℕ → ℕ
+freshNumbers run k = cond (ltb 0 (run .count)) (run .count * perSpan k + 2) 0
+
+-- How many of them are exact, of the controls as they then stand (document 02, request 9).
+unfoldable pub exactFresh : Run → Plan → List ℤ → ℕ
+exactFresh run p controls = exactIn p controls (run .first * perSpan (p .depth)) (freshNumbers run (p .depth))
 
 -- Number q of the new points, for any contents of the lent ones: fresh; or of a span before the place, which stays; or of a later one, which is carried. The last point
 -- is its last span's.

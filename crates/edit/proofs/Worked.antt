@@ -13,12 +13,12 @@ use lib.ListN.{getD, length}
 use lib.Pow.{pow-pos}
 use Rattle.shape.specs.declared.Plan.{Plan}
 use Rattle.shape.proofs.Tests.{passes, either}
-use Rattle.spans.specs.Numbers.{number, perSpan}
+use Rattle.spans.specs.Numbers.{number, exactIn, perSpan}
 use Rattle.spans.specs.Filled.{filled}
-use Rattle.spans.proofs.Filled.{length-filled, in-filled, before-filled, past-filled, none-filled, is-filled}
+use Rattle.spans.proofs.Filled.{length-filled, in-filled, before-filled, past-filled, none-filled, none-fills, is-filled}
 use Rattle.asked.specs.declared.Edit.{Edit}
-use Rattle.asked.specs.Edits.{Run, firstFresh, pastFresh, runOf, carriedFrom, isFresh, pointAt}
-use Rattle.asked.proofs.Run.{past-most, first-place, none-first, later-carried, fresh-bounds, bounds-fresh}
+use Rattle.asked.specs.Edits.{Run, firstFresh, pastFresh, runOf, carriedFrom, isFresh, freshNumbers, exactFresh, pointAt}
+use Rattle.asked.proofs.Run.{run-first, run-count, past-most, first-place, none-first, later-carried, fresh-bounds, bounds-fresh}
 use Rattle.edit.specs.Inner.{runLength}
 
 -- ---- runs of spans
@@ -163,3 +163,21 @@ module _ (ed : Edit) (p : Plan) (j : ℕ) (c lent : List ℤ) (some : 1 ≤ p .s
       (length-filled (number p c) (a * w) (runLength a e w) moved ∙ length-filled carried (e * w) (runLength e m w) lent)
       (λ i within. ⊎-elim (some-fresh i within) (none-fresh i within) (either a e))
       past-all
+
+  -- and the numbers that were worked are the fresh ones
+  pub worked-exact : exactIn p c (a * w) (runLength a e w) ≡ exactFresh run p c
+  unfolding exactFresh
+  worked-exact =
+      ⊎-elim
+      (λ first.
+      let first-is = run-first ed p j first in
+      let many : runLength a e w ≡ freshNumbers run k =
+      run-some a e w first ∙ sym (ap (λ t. cond t (run .count * w + 2) 0) (lt-ltb 0 (run .count) (omega (arith, run-count ed p j))) ∙ ap (λ (n : ℕ). n * w + 2) (run-count ed p j)) in
+      ap (λ (n : ℕ). exactIn p c (n * w) (runLength a e w)) (sym first-is) ∙ ap (exactIn p c (run .first * w)) many)
+      (λ none.
+      let many : freshNumbers run k ≡ 0 = ap (λ t. cond t (run .count * w + 2) 0) (le-ltb 0 (run .count) (omega (arith, run-count ed p j))) in
+      exact-none (a * w) (runLength a e w) (run-none a e w none) ∙ sym (exact-none (run .first * w) (freshNumbers run k) many))
+      (either a e)
+    where
+      exact-none : (q n : ℕ) → n ≡ 0 → exactIn p c q n ≡ 0
+      exact-none q n none = ap (λ o. o .answer) (none-fills p c q n lent none)

@@ -8,13 +8,15 @@ use Rattle.shape.specs.declared.Shape.{Shape}
 use Rattle.asked.specs.declared.Edit.{Edit}
 use Rattle.asked.specs.declared.Edit.the-variants.{Move, Insert, Remove}
 
--- An edit and its place; the count, the first fresh span and their number that it answers; and what the lent lists hold afterwards.
+-- An edit and its place; the count, the first fresh span, their number and how many of their coordinates are exact, which it answers; and what the lent lists hold afterwards. At depth 0
+-- every point of a cardinal outline is a record, so each fresh coordinate is exact, and no kept one is counted.
 pub record Case : Type 0 where
   pub edit : Edit
   pub place : ℕ
   pub count : ℕ
   pub first : ℕ
   pub fresh : ℕ
+  pub exact : ℕ
   pub controls : List ℤ
   pub held : List ℤ
 
@@ -44,6 +46,7 @@ p9 =
       count = 7;
       first = 3;
       fresh = 1;
+      exact = 4;
       controls = flat (0 ∷ 10 ∷ 20 ∷ 30 ∷ 40 ∷ 50 ∷ 60 ∷ []);
       held = flat (10 ∷ 20 ∷ 30 ∷ 40 ∷ 50 ∷ []);
     }
@@ -57,6 +60,7 @@ p10 =
       count = 5;
       first = 0;
       fresh = 0;
+      exact = 0;
       controls = flat (10 ∷ 20 ∷ 30 ∷ 40 ∷ 50 ∷ 50 ∷ []) ++ free;
       held = flat (20 ∷ 30 ∷ 40 ∷ 40 ∷ []) ++ free;
     }
@@ -70,6 +74,7 @@ p11 =
       count = 6;
       first = 0;
       fresh = 3;
+      exact = 8;
       controls = flat (0 ∷ 10 ∷ 20 ∷ 33 ∷ 40 ∷ 50 ∷ []) ++ free;
       held = flat (10 ∷ 20 ∷ 33 ∷ 40 ∷ []) ++ free;
     }

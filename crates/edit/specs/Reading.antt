@@ -19,7 +19,7 @@ use Rattle.asked.specs.declared.Edit.{Edit}
 use Rattle.edit.specs.declared.Change.{Change}
 use Rattle.edit.specs.declared.Edited.{Edited}
 use Rattle.edit.specs.declared.Edited.the-variants.{Done, Refused}
-use Rattle.asked.specs.Edits.{countAfter, spansAfter, offered, inRange, atTheEnd, newOutside, asked, runOf, pointAt}
+use Rattle.asked.specs.Edits.{countAfter, spansAfter, offered, inRange, atTheEnd, newOutside, asked, runOf, exactFresh, pointAt}
 
 -- The shape after an edit.
 abbrev pub shapeAfter : Edit → Shape → Shape
@@ -52,9 +52,9 @@ abbrev pub editRows : Edit → Shape → Plan → Plan → ℕ → List ℤ → 
 editRows e s p q j controls lent =
     askRows e (p .basis) j (s .count) ++ roomRows e (s .count) controls (max (points p) (points q)) (length lent)
 
--- The answer of an accepted edit: the new shape, whose plan is q, and its run.
-abbrev pub change : Edit → Shape → Plan → ℕ → Change
-change e s q j = record { shape = shapeAfter e s; first = runOf e q j .first; fresh = runOf e q j .count }
+-- The answer of an accepted edit: the new shape, whose plan is q, its run, and how many coordinates of the run's points are exact.
+abbrev pub change : Edit → Shape → Plan → ℕ → ℕ → Change
+change e s q j exact = record { shape = shapeAfter e s; first = runOf e q j .first; fresh = runOf e q j .count; exact = exact }
 
 abbrev pub controlsAfter : Edit → Shape → ℕ → List ℤ → List ℤ
 controlsAfter e s j controls = asked e j controls (countAfter e (s .count))
@@ -65,7 +65,8 @@ pointsAfter e s q j controls lent = filled (pointAt e q j (controlsAfter e s j c
 
 -- Both lent lists are left: the controls, and the points.
 abbrev pub accepts : Edit → Shape → Plan → ℕ → List ℤ → List ℤ → Outcome Edited (List ℤ × List ℤ)
-accepts e s q j controls lent = outcome (Done (change e s q j)) (controlsAfter e s j controls, pointsAfter e s q j controls lent)
+accepts e s q j controls lent =
+    outcome (Done (change e s q j (exactFresh (runOf e q j) q (controlsAfter e s j controls)))) (controlsAfter e s j controls, pointsAfter e s q j controls lent)
 
 unfoldable pub edits : Edit → Shape → ℕ → List ℤ → List ℤ → Outcome Edited (List ℤ × List ℤ)
 edits e s j controls lent =
@@ -73,7 +74,7 @@ edits e s j controls lent =
     let q = planOf (shapeAfter e s) in
     judge (shapeRows s ++ editRows e s p q j controls lent) (refuses Refused (controls, lent)) (accepts e s q j controls lent)
 
--- What the answer tells: the new shape, the first span worked afresh and how many; or the refusal.
+-- What the answer tells: the new shape, the first span worked afresh, how many, and how many coordinates of theirs are exact; or the refusal.
 abbrev pub told : Edited → Told
-told (Done c) = Accepts (pos (c .shape .basis) ∷ pos (c .shape .depth) ∷ pos (c .shape .count) ∷ pos (c .first) ∷ pos (c .fresh) ∷ [])
+told (Done c) = Accepts (pos (c .shape .basis) ∷ pos (c .shape .depth) ∷ pos (c .shape .count) ∷ pos (c .first) ∷ pos (c .fresh) ∷ pos (c .exact) ∷ [])
 told (Refused r) = Refuses r

@@ -26,11 +26,12 @@ use shape::Refusal;
 use shape::Shape;
 use working::work;
 
-// What an accepted edit answers: the new shape, the first span worked afresh and how many.
+// What an accepted edit answers: the new shape, the first span worked afresh, how many, and how many coordinates of their points are exact. Kept and carried points are not counted.
 pub struct Change {
     pub shape: Shape,
     pub first: usize,
     pub fresh: usize,
+    pub exact: usize,
 }
 
 pub enum Edited {
@@ -103,14 +104,14 @@ fn edit_lists(
     ensures { λ r. ⌜ outcome r (now (controls .exit), now (points .exit)) ≡ accepts edit shape plan place (now (controls .entry)) (now (points .entry)) ⌝ }
 {
     ask(edit, place, shape.count, controls);
-    work(edit, plan, place, controls, points);
-    Edited::Done(change_of(edit, shape, plan, place))
+    let exact = work(edit, plan, place, controls, points);
+    Edited::Done(change_of(edit, shape, plan, place, exact))
 }
 
-// The answer of an accepted edit: `plan` is that of the new shape.
-fn change_of(edit: Edit, shape: Shape, plan: Plan, place: usize) -> Change
+// The answer of an accepted edit: `plan` is that of the new shape, and `exact` what working it counted.
+fn change_of(edit: Edit, shape: Shape, plan: Plan, place: usize, exact: usize) -> Change
     requires { ⌜ (1 ≤ shape .count) × (shape .count ≤ mostRecords) × (place ≤ mostRecords) ⌝ }
-    ensures { λ r. ⌜ r ≡ change edit shape plan place ⌝ }
+    ensures { λ r. ⌜ r ≡ change edit shape plan place exact ⌝ }
 {
     let first = first_fresh(edit, plan, place);
     let past = past_fresh(edit, plan, place);
@@ -122,6 +123,7 @@ fn change_of(edit: Edit, shape: Shape, plan: Plan, place: usize) -> Change
         },
         first: named_first(first, past),
         fresh: less(past, first),
+        exact,
     }
 }
 

@@ -9,7 +9,7 @@ use Rattle.curve.specs.Published.{weights}
 use Rattle.curve.specs.Span.{coordinate, firstRecord, recordsFrom, sixfoldControls, weighted, point}
 use Rattle.shape.specs.Shape.{basisOf, spansOf, recordsOf, allowed, pointsOf}
 use Rattle.shape.specs.Refusals.{judge, outside, seek, planOf}
-use Rattle.spans.specs.Numbers.{number}
+use Rattle.spans.specs.Numbers.{sumOf, number}
 use Rattle.outline.specs.Outline.{draws}
 use Rattle.record_file.specs.Format as format
 use Rattle.record_file.specs.Format.{word, signed}
@@ -37,5 +37,5 @@ listing =
     ∷ []
 
 pub paper-listed : fileText file ≡ listing
-unfolding fileText reading judge recordRows format.number number word signed tab coordinate basisOf spansOf recordsOf allowed outside seek planOf pointsOf shapeText draws firstRecord recordsFrom sixfoldControls weighted weights dot nearest halfUp point outlineText natural naturalIn
+unfolding fileText reading judge recordRows format.number sumOf number word signed tab coordinate basisOf spansOf recordsOf allowed outside seek planOf pointsOf shapeText draws firstRecord recordsFrom sixfoldControls weighted weights dot nearest halfUp point outlineText natural naturalIn
 paper-listed = refl

@@ -1,30 +1,27 @@
 -- The text of a file follows what each call on the way answered: reading, the shape's checks, drawing.
-use mathlib.Core.Path.{_≡_, sym, ap, _∙_}
+use mathlib.Core.Path.{_≡_, sym, ap, _∙_, subst}
 use mathlib.Core.Bool.{Bool, true, cond}
 use mathlib.Core.List.{List, _++_}
 use mathlib.Core.Logic.{⊎-elim}
 use Prim.Native.Nat.{ℕ, _+_, _*_, _≤_}
 use native.Mathlib.Omega.{arith}
-use borrow.Author.Tests.{ltb-false, le-leb}
+use borrow.Author.Tests.{le-leb}
 use lib.IntN.{ℤ}
 use lib.Dec.{leb}
 use lib.ListN.{length, length-append, take, drop}
-use lib.Seq.{length-sets}
 use Rattle.whole.specs.Outcome.{Outcome, outcome}
-use Rattle.curve.specs.Tab.{tab}
 use Rattle.shape.specs.declared.Shape.{Shape}
 use Rattle.shape.specs.declared.Refusal.{Refusal}
 use Rattle.shape.specs.declared.Judged.the-variants.{Unsound}
 use Rattle.shape.specs.Refusals.{judgeShape, planOf}
 use Rattle.shape.proofs.Tests.{passes}
-use Rattle.shape.proofs.Refusals.{row-fails}
+use Rattle.outline.specs.declared.Figures.{Figures}
 use Rattle.outline.specs.declared.Drawn.{Drawn}
 use Rattle.outline.specs.declared.Drawn.the-variants as drawn
-use Rattle.spans.specs.Numbers as spans
-use Rattle.outline.specs.Outline as outline
-use Rattle.outline.specs.Outline.{drawRows, draws}
+use Rattle.outline.specs.Outline.{draws}
 use Rattle.outline.proofs.Draws.{draws-unsound}
-use Rattle.outline.proofs.Exactly.{points-none, none-drawn}
+use Rattle.outline.proofs.Exactly.{done-figures}
+use Rattle.outline.proofs.Held.{held-room}
 use Rattle.record_file.specs.declared.Reading.{Reading}
 use Rattle.record_file.specs.declared.Reading.the-variants as read
 use Rattle.record_file.specs.Rows.{reading}
@@ -33,11 +30,6 @@ use Rattle.listing.specs.declared.Put.the-variants.{End, Full}
 use Rattle.listing.specs.Listing.{outlineText, listed}
 use Rattle.listing.specs.Written.{written}
 use Rattle.file_list.specs.Files.{controls, points, refusedText, answeredText, shapeText, readText, fileText, countOf, counted, lists}
-
--- how many points an answer names
-abbrev pointsIn : Drawn → ℕ
-pointsIn (drawn.Points n) = n
-pointsIn (drawn.Refused r) = 0
 
 module _ (s : Shape) (c : List ℤ) where
   -- what drawing answered, and left in the points
@@ -52,23 +44,16 @@ module _ (s : Shape) (c : List ℤ) where
   unsound-text r e = refused-text r points (draws-unsound s r e c points)
 
   -- the points that were answered are all there
-  all-there : (n : ℕ) (held : List ℤ) → draws s c points ≡ outcome (drawn.Points n) held → 2 * n ≤ length held
-  all-there n held e =
-      let p = planOf s in
-      let none = points-none s c points n held e in
-      let is : outline.accepts p c points ≡ outcome (drawn.Points n) held = sym (none-drawn s c points none) ∙ e in
-      let room : 2 * outline.points p ≤ length points = ltb-false (length points) (2 * outline.points p) (row-fails 9 (drawRows s c points) none) in
-      let count : outline.points p ≡ n = ap (λ (o : Outcome Drawn (List ℤ)). pointsIn (o .answer)) is in
-      let long : length (outline.drawn p c points) ≡ length held = ap (λ (o : Outcome Drawn (List ℤ)). length (o .held)) is in
-      omega (arith, room, count, long, length-sets points 0 (tab (spans.number p c) 0 (2 * outline.points p)))
+  all-there : (fs : Figures) (held : List ℤ) → draws s c points ≡ outcome (drawn.Done fs) held → 2 * fs .points ≤ length held
+  all-there fs held e = subst (λ (f : Figures). 2 * f .points ≤ length held) (done-figures s c points fs held e) (held-room s c points fs held e)
 
-  pub listed-text : (n : ℕ) (held : List ℤ) (text : List ℕ) → draws s c points ≡ outcome (drawn.Points n) held
-      → listed text (s .basis) (s .depth) (planOf s .spans) held n ≡ written text 0 (shapeText s c)
+  pub listed-text : (fs : Figures) (held : List ℤ) (text : List ℕ) → draws s c points ≡ outcome (drawn.Done fs) held
+      → listed text (s .basis) (s .depth) (planOf s .spans) held (fs .points) ≡ written text 0 (shapeText s c)
   unfolding listed
-  listed-text n held text e =
-      let whole = outlineText (s .basis) (s .depth) (planOf s .spans) (take (2 * n) held) in
-      ap (λ t. cond t (written text 0 whole) (outcome Full text)) (le-leb (2 * n) (length held) (all-there n held e))
-      ∙ ap (written text 0) (sym (text-then (outcome (drawn.Points n) held) e))
+  listed-text fs held text e =
+      let whole = outlineText (s .basis) (s .depth) (planOf s .spans) (take (2 * fs .points) held) in
+      ap (λ t. cond t (written text 0 whole) (outcome Full text)) (le-leb (2 * fs .points) (length held) (all-there fs held e))
+      ∙ ap (written text 0) (sym (text-then (outcome (drawn.Done fs) held) e))
 
 -- a text that was written is no text that did not fit
 end-or-full : (n : ℕ) → Full ≡ End n → ⊥

@@ -42,7 +42,7 @@ refusedText r = refusalText (r .number) (r .place)
 
 -- The text of what drawing a shape came to: the listing of the points that were drawn, or the refusal's.
 abbrev pub answeredText : Shape → List ℤ → Drawn → List ℕ
-answeredText s held (drawn.Points n) = outlineText (s .basis) (s .depth) (planOf s .spans) (take (2 * n) held)
+answeredText s held (drawn.Done f) = outlineText (s .basis) (s .depth) (planOf s .spans) (take (2 * f .points) held)
 answeredText s held (drawn.Refused r) = refusedText r
 
 unfoldable pub shapeText : Shape → List ℤ → List ℕ

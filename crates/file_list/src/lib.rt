@@ -74,9 +74,14 @@ fn put_outline(shape: Shape, spans: usize, controls: &[i32], text: &mut [u8]) ->
     let mut points = [0i32; MOST_NUMBERS];
     match by_weights(shape, controls, &mut points) {
         Drawn::Refused(refusal) => put_refusal(refusal, text),
-        Drawn::Points(count) => {
-            list_outline(text, shape.basis, shape.depth, spans, &points, count)
-        }
+        Drawn::Done(figures) => list_outline(
+            text,
+            shape.basis,
+            shape.depth,
+            spans,
+            &points,
+            figures.points,
+        ),
     }
 }
 

@@ -10,23 +10,25 @@ use lib.IntN.{ℤ, pos, negℤ}
 use lib.ListN.{getD, length, take, drop}
 use Rattle.whole.specs.Outcome.{Outcome, outcome, refuses}
 use Rattle.shape.specs.declared.Shape.{Shape}
+use Rattle.shape.specs.declared.Plan.{Plan}
 use Rattle.shape.specs.declared.Refusal.{Refusal}
 use Rattle.shape.specs.Refusals.{First, NoRow, judge, shapeRows, pointRows, planOf}
 use Rattle.shape.proofs.Refusals.{judge-first, judge-none, verdict}
 use Rattle.spans.specs.declared.run.Way.{Way}
 use Rattle.spans.specs.Numbers.{number}
 use Rattle.outline.specs.declared.Drawn.{Drawn}
-use Rattle.outline.specs.declared.Drawn.the-variants.{Points, Refused}
-use Rattle.outline.specs.Outline.{points, drawRows, drawn, accepts, draws}
+use Rattle.outline.specs.declared.Drawn.the-variants.{Done, Refused}
+use Rattle.outline.specs.declared.Figures.{Figures}
+use Rattle.outline.specs.Outline.{points, drawRows, drawn, figuresOf, accepts, draws}
 use Rattle.outline.specs.View.{emptyPart, outOfSight, partOf, viewed}
 use Rattle.outline.proofs.Views.{spanPart}
-use Rattle.outline.proofs.Exactly.{points-none, none-drawn}
+use Rattle.outline.proofs.Exactly.{done-none, none-drawn, done-figures}
 use Rattle.outline.proofs.Held.{held-number}
 use Rattle.sequences.specs.Calls.{MeetsDrawing}
 use Rattle.sequences.proofs.Calls.{meets-draws}
 use Rattle.mirror.specs.Mirror.{Axis, across, mirror, mirrorDrawn}
 use Rattle.mirror.proofs.Lists.{length-mirrored, mirrored-rule, mirrored-take, mirrored-drop, controlRows-mirror, judge-mirror}
-use Rattle.mirror.proofs.Points.{number-mirror}
+use Rattle.mirror.proofs.Points.{number-mirror, exact-mirror}
 
 -- ---- the checks: they see how far a control is from zero, and how long the lists are
 
@@ -40,6 +42,9 @@ drawRows-mirror axis s controls lent = drawRows-other axis s controls lent (mirr
 module _ (axis : Axis) where
   -- ---- the mirrored drawing
 
+  figures-mirror : (p : Plan) (controls : List ℤ) → figuresOf p (mirror axis controls) ≡ figuresOf p controls
+  figures-mirror p controls = ap (λ (n : ℕ). record { points = points p; exact = n }) (exact-mirror axis p controls 0 (2 * points p))
+
   pub mirror-draws : (s : Shape) (controls lent : List ℤ) → draws s (mirror axis controls) (mirror axis lent) ≡ mirrorDrawn axis (draws s controls lent)
   unfolding draws
   mirror-draws s controls lent =
@@ -47,34 +52,33 @@ module _ (axis : Axis) where
       let there = accepts p (mirror axis controls) (mirror axis lent) in
       ap (λ rows. judge rows (refuses Refused (mirror axis lent)) there) (drawRows-mirror axis s controls lent)
       ∙ judge-mirror (mirrorDrawn axis) (drawRows s controls lent) (refuses Refused lent) (accepts p controls lent) there
-      (λ _. ap (outcome (Points (points p))) (mirrored-rule negℤ axis lent (number p controls) (number p (mirror axis controls)) 0 (2 * points p) (number-mirror axis p controls)))
+      (λ _.
+      let rule = mirrored-rule negℤ axis lent (number p controls) (number p (mirror axis controls)) 0 (2 * points p) (number-mirror axis p controls) in
+      λ i. outcome (Done (figures-mirror p controls i)) (rule i))
 
   -- ---- in any other list as long
 
   pub mirror-points :
-      (s : Shape) (controls lent : List ℤ) (n : ℕ) (held : List ℤ)
-      → draws s controls lent ≡ outcome (Points n) held
+      (s : Shape) (controls lent : List ℤ) (fs : Figures) (held : List ℤ)
+      → draws s controls lent ≡ outcome (Done fs) held
       → (other : List ℤ)
       → length other ≡ length lent
       → (held′ : List ℤ)
-      × (draws s (mirror axis controls) other ≡ outcome (Points n) held′)
-      × ((q : ℕ) → q < 2 * n → getD held′ q (pos 0) ≡ across negℤ axis q (getD held q (pos 0)))
-  mirror-points s controls lent n held answered other long =
+      × (draws s (mirror axis controls) other ≡ outcome (Done fs) held′)
+      × ((q : ℕ) → q < 2 * fs .points → getD held′ q (pos 0) ≡ across negℤ axis q (getD held q (pos 0)))
+  mirror-points s controls lent fs held answered other long =
       let p = planOf s in
-      let none : NoRow (drawRows s controls lent) = points-none s controls lent n held answered in
+      let none : NoRow (drawRows s controls lent) = done-none s controls lent fs held answered in
       let there = none-drawn s (mirror axis controls) other (subst NoRow (sym (drawRows-other axis s controls lent other long)) none) in
-      let count : points p ≡ n = same (λ i. (sym (none-drawn s controls lent none) ∙ answered) i .answer) in (
+      let figures = done-figures s controls lent fs held answered in (
         drawn p (mirror axis controls) other,
-        there ∙ ap (λ m. outcome (Points m) (drawn p (mirror axis controls) other)) count,
+        there ∙ ap (λ f. outcome (Done f) (drawn p (mirror axis controls) other)) (figures-mirror p controls ∙ figures),
         λ q h.
-            let h′ : q < 2 * points p = subst (λ m. q < 2 * m) (sym count) h in
-            held-number s (mirror axis controls) other (points p) (drawn p (mirror axis controls) other) there q h′
+            let h′ : q < 2 * points p = subst (λ (f : Figures). q < 2 * f .points) (sym figures) h in
+            held-number s (mirror axis controls) other (figuresOf p (mirror axis controls)) (drawn p (mirror axis controls) other) there q h′
             ∙ number-mirror axis p controls q
-            ∙ ap (across negℤ axis q) (sym (held-number s controls lent n held answered q h′)),
+            ∙ ap (across negℤ axis q) (sym (held-number s controls lent fs held answered q h′)),
       )
-    where
-      same : {m n : ℕ} → Points m ≡ Points n → m ≡ n
-      same e = cc
 
   -- ---- by the contracts of the code, whichever way each drawing goes
 

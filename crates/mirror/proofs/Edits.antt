@@ -23,7 +23,7 @@ use Rattle.spans.specs.Filled.{filled}
 use Rattle.outline.specs.Outline.{points}
 use Rattle.asked.specs.declared.Edit.{Edit}
 use Rattle.asked.specs.declared.Edit.the-variants.{Move, Insert, Remove}
-use Rattle.asked.specs.Edits.{countAfter, newOutside, choose, controlAt, asked, runOf, carriedFrom, isFresh, pointAt}
+use Rattle.asked.specs.Edits.{countAfter, newOutside, choose, controlAt, asked, runOf, carriedFrom, isFresh, pointAt, Run, freshNumbers, exactFresh}
 use Rattle.asked.proofs.Run.{bounds-fresh}
 use Rattle.edit.specs.declared.Edited.the-variants.{Done, Refused}
 use Rattle.edit.specs.Reading.{shapeAfter, askRows, change, controlsAfter, accepts, edits}
@@ -31,7 +31,7 @@ use Rattle.edit.proofs.Exactly.{callRows}
 use Rattle.sequences.proofs.Redrawn.{good-then}
 use Rattle.mirror.specs.Mirror.{Axis, mirrorX, mirrorY, across, mirror, mirrorEdit, mirrorEdited}
 use Rattle.mirror.proofs.Lists.{length-mirrored, mirrored-rule, across-beyond, mirror-at, controlRows-mirror, judge-mirror}
-use Rattle.mirror.proofs.Points.{number-mirror}
+use Rattle.mirror.proofs.Points.{number-mirror, exact-mirror}
 
 -- what is carried comes from a number on the same axis: a span has an even number of them, and an insert carries nothing into the first span
 carried-axis :
@@ -137,6 +137,10 @@ module _ (axis : Axis) where
 
   -- ---- the mirrored edit
 
+  fresh-mirror : (run : Run) (p : Plan) (controls : List ℤ) → exactFresh run p (mirror axis controls) ≡ exactFresh run p controls
+  unfolding exactFresh
+  fresh-mirror run p controls = exact-mirror axis p controls (run .first * perSpan (p .depth)) (freshNumbers run (p .depth))
+
   accepts-mirror : (e : Edit) (s : Shape) (j : ℕ) (controls lent : List ℤ) → 1 ≤ planOf (shapeAfter e s) .spans
       → accepts (mirrorEdit axis e) s (planOf (shapeAfter (mirrorEdit axis e) s)) j (mirror axis controls) (mirror axis lent)
       ≡ mirrorEdited axis (accepts e s (planOf (shapeAfter e s)) j controls lent)
@@ -145,10 +149,10 @@ module _ (axis : Axis) where
       let new = controlsAfter e s j controls in
       ap (λ r. accepts (mirrorEdit axis e) s (planOf r) j (mirror axis controls) (mirror axis lent)) (same-shape e s)
       ∙ (λ i.
-      outcome (Done (record { shape = same-shape e s i; first = same-run e p j i .first; fresh = same-run e p j i .count }))
+      outcome (Done (record { shape = same-shape e s i; first = same-run e p j i .first; fresh = same-run e p j i .count; exact = exactFresh (same-run e p j i) p (controls-mirror e s j controls i) }))
       (controls-mirror e s j controls i, filled (pointAt (mirrorEdit axis e) p j (controls-mirror e s j controls i) (mirror axis lent)) 0 (2 * points p) (mirror axis lent)))
-      ∙ ap (λ l. outcome (Done (change e s p j)) (mirror axis new, l))
-      (mirrored-rule negℤ axis lent (pointAt e p j new lent) (pointAt (mirrorEdit axis e) p j (mirror axis new) (mirror axis lent)) 0 (2 * points p) (point-mirror e p j new lent some))
+      ∙ (let rule = mirrored-rule negℤ axis lent (pointAt e p j new lent) (pointAt (mirrorEdit axis e) p j (mirror axis new) (mirror axis lent)) 0 (2 * points p) (point-mirror e p j new lent some) in
+      λ i. outcome (Done (change e s p j (fresh-mirror (runOf e p j) p new i))) (mirror axis new, rule i))
 
   pub mirror-edits :
       (e : Edit) (s : Shape) (j : ℕ) (controls lent : List ℤ)

@@ -1,19 +1,22 @@
--- The points of mirrored controls are the mirrored points: a sum of negated records is the negated sum, and it is rounded alike.
+-- The points of mirrored controls are the mirrored points, and their remainders the mirrored remainders: a sum of negated records is the negated sum, and it is rounded alike.
 use mathlib.Core.Path.{_≡_, refl, sym, ap, _∙_}
 use mathlib.Core.List.{List}
-use Prim.Native.Nat.{ℕ, _*_, _-_, _/_, _%_, _^_, min}
-use lib.IntN.{ℤ, pos, negℤ, _-ℤ_}
+use Prim.Native.Nat.{ℕ, zero, suc, _+_, _*_, _-_, _/_, _%_, _^_, min}
+use lib.IntN.{ℤ, pos, negsuc, negℤ, _-ℤ_}
 use Rattle.whole.proofs.Ring.{_⊖_, solve, minus}
+use Rattle.whole.specs.Nearest.{nearest, remainder}
 use Rattle.whole.proofs.Nearest.{nearest-minus}
+use Rattle.whole.proofs.Remainder.{remainder-minus}
 use Rattle.curve.specs.declared.Four.{Four}
 use Rattle.curve.specs.declared.Basis.{Basis}
 use Rattle.curve.specs.declared.Basis.the-variants.{Bezier, BSpline, Cardinal, Hermite}
 use Rattle.curve.specs.Four.{four, dot}
 use Rattle.curve.specs.Published.{weights}
-use Rattle.curve.specs.Span.{coordinate, recordsFrom, records, sixfoldControls, weighted, point}
+use Rattle.curve.specs.Tab.{tab}
+use Rattle.curve.specs.Span.{coordinate, recordsFrom, records, sixfoldControls, weighted, divisor, sumAt}
 use Rattle.curve.proofs.Reflect.{Fourᵉ, fourᵉ, num, p, i, h, values, weightedᵉ, sixfoldᵉ}
 use Rattle.shape.specs.declared.Plan.{Plan}
-use Rattle.spans.specs.Numbers.{number}
+use Rattle.spans.specs.Numbers.{sumOf, number, remainderOf, nought, noughts, exactIn}
 use Rattle.mirror.specs.Mirror.{Axis, across, mirror}
 use Rattle.mirror.proofs.Lists.{across-cases, coordinate-mirror}
 
@@ -49,20 +52,49 @@ sixfold-minus b q x y = sum-minus (λ r. weighted (sixfoldControls b r) x y) (λ
 pub plain-minus : (q : Four) (x y : ℤ) → weighted (negated q) x y ≡ negℤ (weighted q x y)
 plain-minus q x y = sum-minus (λ r. weighted r x y) (λ r. plain-from-zero r x y) q
 
--- ---- a point, and every number of an outline
+-- ---- every number of an outline
 
-pub point-minus : (b : Basis) (k : ℕ) (q : Four) (i : ℕ) → point b k (negated q) i ≡ negℤ (point b k q i)
-unfolding point
-point-minus b k q i = rw (sixfold-minus, nearest-minus)
-
-pub number-mirror : (axis : Axis) (p : Plan) (controls : List ℤ) (q : ℕ) → number p (mirror axis controls) q ≡ across negℤ axis q (number p controls q)
-unfolding number recordsFrom
-number-mirror axis p controls q =
+sum-mirror : (axis : Axis) (p : Plan) (controls : List ℤ) (q : ℕ) → sumOf p (mirror axis controls) q ≡ across negℤ axis q (sumOf p controls q)
+unfolding sumOf recordsFrom
+sum-mirror axis p controls q =
     let s = min (q / 2 / 2 ^ p .depth) (p .spans - 1) in
     let i = q / 2 - s * 2 ^ p .depth in
     let at = coordinate controls (q % 2) in
-    ap (λ c. point (p .basis) (p .depth) (records (p .basis) s c) i) (λ j r. coordinate-mirror axis controls q r j)
-    ∙ across-cases negℤ axis (λ g. point (p .basis) (p .depth) (records (p .basis) s (λ r. g (at r))) i ≡ g (point (p .basis) (p .depth) (records (p .basis) s at) i))
+    ap (λ c. sumAt (p .basis) (p .depth) (records (p .basis) s c) i) (λ j r. coordinate-mirror axis controls q r j)
+    ∙ across-cases negℤ axis (λ g. sumAt (p .basis) (p .depth) (records (p .basis) s (λ r. g (at r))) i ≡ g (sumAt (p .basis) (p .depth) (records (p .basis) s at) i))
     refl
-    (point-minus (p .basis) (p .depth) (records (p .basis) s at) i)
+    (sixfold-minus (p .basis) (records (p .basis) s at) (pos i) (pos (2 ^ p .depth)))
     q
+
+module _ (axis : Axis) (p : Plan) (controls : List ℤ) where
+  -- what comes of the negated sum as the negative of what comes of the sum
+  of-sum : (f : ℤ → ℤ) → ((z : ℤ) → f (negℤ z) ≡ negℤ (f z)) → (q : ℕ) → f (sumOf p (mirror axis controls) q) ≡ across negℤ axis q (f (sumOf p controls q))
+  of-sum f turned q =
+      let z = sumOf p controls q in
+      ap f (sum-mirror axis p controls q) ∙ across-cases negℤ axis (λ g. f (g z) ≡ g (f z)) refl (turned z) q
+
+  pub number-mirror : (q : ℕ) → number p (mirror axis controls) q ≡ across negℤ axis q (number p controls q)
+  unfolding number
+  number-mirror = of-sum (λ z. nearest z (divisor (p .basis) (p .depth))) (λ z. nearest-minus z (divisor (p .basis) (p .depth)))
+
+  -- and what is left over of it
+  pub remainder-mirror : (q : ℕ) → remainderOf p (mirror axis controls) q ≡ across negℤ axis q (remainderOf p controls q)
+  unfolding remainderOf
+  remainder-mirror = of-sum (λ z. remainder z (divisor (p .basis) (p .depth))) (λ z. remainder-minus z (divisor (p .basis) (p .depth)))
+
+  -- ---- so as many are exact
+
+  nought-minus : (z : ℤ) → nought (negℤ z) ≡ nought z
+  nought-minus (pos zero) = refl
+  nought-minus (pos (suc n)) = refl
+  nought-minus (negsuc n) = refl
+
+  nought-mirror : (q : ℕ) → nought (remainderOf p (mirror axis controls) q) ≡ nought (remainderOf p controls q)
+  nought-mirror q =
+      let z = remainderOf p controls q in
+      ap nought (remainder-mirror q) ∙ across-cases negℤ axis (λ g. nought (g z) ≡ nought z) refl (nought-minus z) q
+
+  pub exact-mirror : (q n : ℕ) → exactIn p (mirror axis controls) q n ≡ exactIn p controls q n
+  unfolding tab noughts
+  exact-mirror q zero = refl
+  exact-mirror q (suc n) = λ i. nought-mirror q i + exact-mirror (suc q) n i

@@ -25,7 +25,8 @@ use Rattle.shape.proofs.Refusals.{verdict, sound, unsound, sound-plan, first-un
 use Rattle.shape.proofs.Tests.{either}
 use Rattle.spans.specs.Numbers.{perSpan}
 use Rattle.spans.proofs.Numbers.{span-point}
-use Rattle.outline.specs.declared.Drawn.the-variants.{Points}
+use Rattle.outline.specs.declared.Drawn.the-variants.{Done}
+use Rattle.outline.specs.declared.Figures.{Figures}
 use Rattle.outline.specs.Outline.{draws}
 use Rattle.outline.specs.View.{Part, emptyPart, outOfSight, partOf, viewed, Unseen}
 use Rattle.outline.proofs.Held.{held-sound, held-room, held-number}
@@ -116,16 +117,16 @@ empty-unseen s t l empty =
 -- ---- after a drawing
 
 -- the view of a span is the span's own 2^k + 1 points, x then y
-pub drawn-view : (s : Shape) (controls lent : List ℤ) (n : ℕ) (held : List ℤ) → draws s controls lent ≡ outcome (Points n) held → (t : ℕ) → t < planOf s .spans
+pub drawn-view : (s : Shape) (controls lent : List ℤ) (fs : Figures) (held : List ℤ) → draws s controls lent ≡ outcome (Done fs) held → (t : ℕ) → t < planOf s .spans
     → viewed (partOf s t held) held ≡ tab (λ (j : ℕ). point (planOf s .basis) (planOf s .depth) (records (planOf s .basis) t (coordinate controls (j % 2))) (j / 2)) 0 (2 * (2 ^ planOf s .depth + 1))
 unfolding viewed
-drawn-view s controls lent n held answered t there =
+drawn-view s controls lent fs held answered t there =
     let p = planOf s in
     let k = p .depth in
     let size = 2 * (2 ^ k + 1) in
     let f : ℕ → ℤ = λ j. point (p .basis) k (records (p .basis) t (coordinate controls (j % 2))) (j / 2) in
-    let sound = held-sound s controls lent n held answered in
-    let long = held-room s controls lent n held answered in
+    let sound = held-sound s controls lent fs held answered in
+    let long = held-room s controls lent fs held answered in
     let part = part-good s p t held sound there long in
     let two : perSpan k + 2 ≡ size = omega arith in
     let shown : viewed (partOf s t held) held ≡ take size (drop (t * perSpan k) held) = ap (λ v. viewed v held) part ∙ ap (λ (i : ℕ). take i (drop (t * perSpan k) held)) two in
@@ -136,7 +137,7 @@ drawn-view s controls lent n held answered t there =
     let below : j < size = omega (arith, many) in
     getD-take size (drop (t * perSpan k) held) j (pos 0) below
     ∙ getD-drop (t * perSpan k) held j (pos 0)
-    ∙ held-number s controls lent n held answered (t * perSpan k + j) (omega (arith, span-within k (p .spans) t there))
+    ∙ held-number s controls lent fs held answered (t * perSpan k + j) (omega (arith, span-within k (p .spans) t there))
     ∙ span-point p controls t j there (omega arith)
     ∙ ap f (sym (zero-add j))
     ∙ sym (getD-tab f 0 size j below (pos 0)))

@@ -10,7 +10,7 @@ use lib.ListN.{getD, length}
 use lib.Pow.{pow-pos}
 use Rattle.whole.specs.Outcome.{outcome}
 use Rattle.curve.specs.Limits.{reach}
-use Rattle.curve.specs.Span.{firstRecord, coordinate, records}
+use Rattle.curve.specs.Span.{firstRecord, coordinate, records, point}
 use Rattle.curve.proofs.Limits.{point-size}
 use Rattle.shape.specs.declared.Shape.{Shape}
 use Rattle.shape.specs.declared.Plan.{Plan}
@@ -19,10 +19,11 @@ use Rattle.shape.specs.Refusals.{shapeRows, planOf}
 use Rattle.shape.specs.Shape.{pointsOf}
 use Rattle.shape.proofs.Refusals.{none-earlier, none-later, good-plan, good-records, none-facts, lent-inside}
 use Rattle.shape.proofs.Tests.{either}
-use Rattle.spans.specs.Numbers.{number}
-use Rattle.outline.specs.declared.Drawn.the-variants.{Points}
+use Rattle.spans.specs.Numbers.{sumOf, number}
+use Rattle.outline.specs.declared.Drawn.the-variants.{Done}
+use Rattle.outline.specs.declared.Figures.{Figures}
 use Rattle.outline.specs.Outline.{points, planRows, draws}
-use Rattle.outline.proofs.Exactly.{points-none, none-drawn}
+use Rattle.outline.proofs.Exactly.{done-none, done-figures}
 use Rattle.outline.proofs.Held.{held-number}
 
 -- point g of m spans of d steps is at most d steps past its span's start: the last one at the last span's end
@@ -42,7 +43,7 @@ step-within g m d some-steps some h =
 module _ (s : Shape) (p : Plan) (good : Good s p) (controls : List ℤ) (k len : ℕ) (lent : Lent (s .count) controls k len) where
   -- each number of the outline
   pub number-within : (q : ℕ) → q < 2 * points p → natAbs (number p controls q) ≤ reach
-  unfolding number pointsOf
+  unfolding sumOf number point pointsOf
   number-within q h =
       let d = 2 ^ p .depth in
       let g = q / 2 in
@@ -52,14 +53,13 @@ module _ (s : Shape) (p : Plan) (good : Good s p) (controls : List ℤ) (k len :
       (step-within g (p .spans) d (pow-pos (p .depth)) (good .spans-least) (omega arith))
       (lent-inside (s .count) controls k len lent (q % 2) (firstRecord (p .basis) t) (omega arith) (good-records s p good t exists))
 
--- After a drawing call that answers n points, each of their numbers, as it stands in the lent list.
-pub drawn-within : (s : Shape) (controls lent : List ℤ) (n : ℕ) (held : List ℤ) → draws s controls lent ≡ outcome (Points n) held → (q : ℕ) → q < 2 * n → natAbs (getD held q (pos 0)) ≤ reach
-drawn-within s controls lent n held answered q h =
+-- After a drawing call that is done, each number of its points, as it stands in the lent list.
+pub drawn-within : (s : Shape) (controls lent : List ℤ) (fs : Figures) (held : List ℤ) → draws s controls lent ≡ outcome (Done fs) held → (q : ℕ) → q < 2 * fs .points → natAbs (getD held q (pos 0)) ≤ reach
+drawn-within s controls lent fs held answered q h =
     let p = planOf s in
-    let none = points-none s controls lent n held answered in
-    let all : Points n ≡ Points (points p) = λ i. (sym answered ∙ none-drawn s controls lent none) i .answer in
-    let few : n ≡ points p = cc in
+    let none = done-none s controls lent fs held answered in
+    let few : points p ≡ fs .points = ap (λ (f : Figures). f .points) (done-figures s controls lent fs held answered) in
     let within : q < 2 * points p = omega (arith, few) in
     let good = good-plan s (none-earlier (shapeRows s) (planRows (s .count) p controls lent) none) in
     let had = none-facts (s .count) controls (points p) (length lent) (none-later (shapeRows s) (planRows (s .count) p controls lent) none) in
-    subst (λ z. natAbs z ≤ reach) (sym (held-number s controls lent n held answered q within)) (number-within s p good controls (points p) (length lent) had q within)
+    subst (λ z. natAbs z ≤ reach) (sym (held-number s controls lent fs held answered q within)) (number-within s p good controls (points p) (length lent) had q within)

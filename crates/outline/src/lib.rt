@@ -15,9 +15,15 @@ use shape::check_shape;
 use spans::run::Way;
 use spans::run::fill_spans;
 
-// What a drawing call answers: how many points stand in the list now, or the refusal.
+// How many points stand in the list now, and how many of their coordinates are exact: the curve itself is there at a whole number. x and y are counted each by itself.
+pub struct Figures {
+    pub points: usize,
+    pub exact: usize,
+}
+
+// What a drawing call answers: its figures, or the refusal.
 pub enum Drawn {
-    Points(usize),
+    Done(Figures),
     Refused(Refusal),
 }
 
@@ -62,8 +68,11 @@ fn draw_plan(way: Way, shape: Shape, plan: Plan, controls: &[i32], points: &mut 
     if let Checked::Bad(refusal) = check_lists(shape.count, controls, count, points.len()) {
         return Drawn::Refused(refusal);
     }
-    fill_spans(way, points, controls, plan, 0, plan.spans);
-    Drawn::Points(count)
+    let exact = fill_spans(way, points, controls, plan, 0, plan.spans);
+    Drawn::Done(Figures {
+        points: count,
+        exact,
+    })
 }
 
 // The part of the caller's points that is a span, its 2^depth + 1 points; the empty part for a shape that 1, 2 or 3 would refuse, a span that is not there, or a list

@@ -25,10 +25,11 @@ use Rattle.shape.proofs.Refusals.{none-both, verdict}
 use Rattle.shape.proofs.Seek.{seek-none}
 use Rattle.shape.proofs.Spans.{spans-records, facts-allowed}
 use Rattle.spans.proofs.Filled.{length-filled, same-filled}
-use Rattle.outline.specs.declared.Drawn.the-variants.{Points}
+use Rattle.outline.specs.declared.Drawn.the-variants as outline
+use Rattle.outline.specs.declared.Figures.{Figures}
 use Rattle.spans.specs.Numbers.{number}
-use Rattle.outline.specs.Outline.{points, drawn, drawRows, draws}
-use Rattle.outline.proofs.Exactly.{points-none, none-drawn}
+use Rattle.outline.specs.Outline.{points, drawn, drawRows, figuresOf, draws}
+use Rattle.outline.proofs.Exactly.{done-none, none-drawn}
 use Rattle.outline.proofs.Held.{held-drawn}
 use Rattle.outline.proofs.Within.{drawn-within}
 use Rattle.asked.specs.declared.Edit.{Edit}
@@ -74,7 +75,7 @@ redrawn t out =
 
 outlined-redraws : (t : State) → Outlined t → NoRow (drawRows (t .shape) (t .controls) (t .held)) → Redraws t
 outlined-redraws t out none =
-    none-drawn (t .shape) (t .controls) (t .held) none ∙ ap (outcome (Points (points (planOf (t .shape))))) (redrawn t out)
+    none-drawn (t .shape) (t .controls) (t .held) none ∙ ap (outcome (outline.Done (figuresOf (planOf (t .shape)) (t .controls)))) (redrawn t out)
 
 -- ---- one call
 
@@ -106,7 +107,7 @@ edit-redraws : (e : Edit) (s : Shape) (j : ℕ) (controls lent : List ℤ) → R
 edit-redraws e s j controls lent again =
     ⊎-elim (λ (v : (r : Refusal) × First (callRows e s j controls lent) r). subst (λ o. Redraws (stateThen s o)) (sym (first-refused e s j controls lent (v .0) (v .1))) again)
     (λ none.
-    let out = drawn-outlined s controls lent (points (planOf s)) lent again in
+    let out = drawn-outlined s controls lent (figuresOf (planOf s) controls) lent again in
     subst (λ o. Redraws (stateThen s o)) (sym (none-done e s j controls lent none)) (outlined-redraws (then e s j controls lent none) (done-outlined e s j controls lent none out) (none-then e s j controls lent none)))
     (verdict (callRows e s j controls lent))
 
@@ -123,22 +124,22 @@ played-redraws t (c ∷ calls) again = played-redraws (called t c) calls (called
 
 -- ---- from the first drawing on
 
--- after a drawing call that answers points, drawing again changes nothing
-pub drawn-redraws : (s : Shape) (controls lent : List ℤ) (n : ℕ) (held : List ℤ) → draws s controls lent ≡ outcome (Points n) held → Redraws (state s controls held)
-drawn-redraws s controls lent n held answered =
+-- after an accepted drawing call, drawing again changes nothing
+pub drawn-redraws : (s : Shape) (controls lent : List ℤ) (fs : Figures) (held : List ℤ) → draws s controls lent ≡ outcome (outline.Done fs) held → Redraws (state s controls held)
+drawn-redraws s controls lent fs held answered =
     let p = planOf s in
-    let long : length lent ≡ length held = sym (length-filled (number p controls) 0 (2 * points p) lent) ∙ ap length (held-drawn s controls lent n held answered) in
-    outlined-redraws (state s controls held) (drawn-outlined s controls lent n held answered)
-    (subst (λ (len : ℕ). NoRow (shapeRows s ++ listRows (s .count) controls (points p) len)) long (points-none s controls lent n held answered))
+    let long : length lent ≡ length held = sym (length-filled (number p controls) 0 (2 * points p) lent) ∙ ap length (held-drawn s controls lent fs held answered) in
+    outlined-redraws (state s controls held) (drawn-outlined s controls lent fs held answered)
+    (subst (λ (len : ℕ). NoRow (shapeRows s ++ listRows (s .count) controls (points p) len)) long (done-none s controls lent fs held answered))
 
 -- nor does it after any calls more
-pub drawn-played-redraws : (s : Shape) (controls lent : List ℤ) (n : ℕ) (held : List ℤ) (calls : List Call) → draws s controls lent ≡ outcome (Points n) held → Redraws (played (state s controls held) calls)
-drawn-played-redraws s controls lent n held calls answered = played-redraws (state s controls held) calls (drawn-redraws s controls lent n held answered)
+pub drawn-played-redraws : (s : Shape) (controls lent : List ℤ) (fs : Figures) (held : List ℤ) (calls : List Call) → draws s controls lent ≡ outcome (outline.Done fs) held → Redraws (played (state s controls held) calls)
+drawn-played-redraws s controls lent fs held calls answered = played-redraws (state s controls held) calls (drawn-redraws s controls lent fs held answered)
 
 -- and every number of the outline is then within 5,000,000 either way
-pub drawn-played-within : (s : Shape) (controls lent : List ℤ) (n : ℕ) (held : List ℤ) (calls : List Call) → draws s controls lent ≡ outcome (Points n) held
+pub drawn-played-within : (s : Shape) (controls lent : List ℤ) (fs : Figures) (held : List ℤ) (calls : List Call) → draws s controls lent ≡ outcome (outline.Done fs) held
     → (q : ℕ) → q < 2 * points (planOf (played (state s controls held) calls .shape))
     → natAbs (getD (played (state s controls held) calls .held) q (pos 0)) ≤ reach
-drawn-played-within s controls lent n held calls answered q h =
+drawn-played-within s controls lent fs held calls answered q h =
     let t = played (state s controls held) calls in
-    drawn-within (t .shape) (t .controls) (t .held) (points (planOf (t .shape))) (t .held) (drawn-played-redraws s controls lent n held calls answered) q h
+    drawn-within (t .shape) (t .controls) (t .held) (figuresOf (planOf (t .shape)) (t .controls)) (t .held) (drawn-played-redraws s controls lent fs held calls answered) q h

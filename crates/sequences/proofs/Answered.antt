@@ -25,7 +25,7 @@ use Rattle.outline.specs.Outline.{points}
 use Rattle.outline.proofs.Draws.{all-numbers}
 use Rattle.asked.specs.declared.Edit.{Edit}
 use Rattle.asked.specs.declared.Edit.the-variants.{Move, Insert, Remove}
-use Rattle.asked.specs.Edits.{countAfter, controlAt, asked, firstFresh, pastFresh, runOf, isFresh, pointAt}
+use Rattle.asked.specs.Edits.{exactFresh, countAfter, controlAt, asked, firstFresh, pastFresh, runOf, isFresh, pointAt}
 use Rattle.asked.specs.Inner.{Askable}
 use Rattle.asked.proofs.Run.{run-spans}
 use Rattle.edit.specs.declared.Change.{Change}
@@ -70,17 +70,24 @@ module _ (e : Edit) (s : Shape) (j : ℕ) (controls lent : List ℤ) (c : Change
   ready : Workable e s after j controls (length lent)
   ready = workable e s before j allowed controls (length lent) (room-fine e s j controls lent none)
 
+  -- The answer, by the plan of the new shape.
+  abbrev changed : Plan → Change
+  changed q = change e s q j (exactFresh (runOf e q j) q (controlsAfter e s j controls))
+
+  abbrev answer : Change
+  answer = changed after
+
   -- A fact of the reading is one of what was answered.
   by-answer : (P : Change → Plan → List ℤ → List ℤ → Type 0)
-      → P (change e s after j) after (controlsAfter e s j controls) (pointsAfter e s after j controls lent) → P c (planOf (c .shape)) new held
+      → P answer after (controlsAfter e s j controls) (pointsAfter e s after j controls lent) → P c (planOf (c .shape)) new held
   by-answer P fact =
       let q = planOf (shapeAfter e s) in
       let is : _≡_ {A = Outcome Edited (List ℤ × List ℤ)} _ (outcome (Done c) (new, held)) = sym (none-done e s j controls lent none) ∙ done in
-      let same = done-same (change e s q j) c (λ i. is i .answer) in
+      let same = done-same (changed q) c (λ i. is i .answer) in
       subst (λ l. P c (planOf (c .shape)) new l) (λ i. is i .held .1)
       (subst (λ l. P c (planOf (c .shape)) l (pointsAfter e s q j controls lent)) (λ i. is i .held .0)
       (subst (λ d. P d (planOf (d .shape)) (controlsAfter e s j controls) (pointsAfter e s q j controls lent)) same
-      (subst (λ r. P (change e s r j) r (controlsAfter e s j controls) (pointsAfter e s r j controls lent)) (sym (same-plan e s j controls lent none)) fact)))
+      (subst (λ r. P (changed r) r (controlsAfter e s j controls) (pointsAfter e s r j controls lent)) (sym (same-plan e s j controls lent none)) fact)))
 
   -- the shape and the controls are those asked for
   pub answered-shape : c .shape ≡ shapeAfter e s
@@ -96,6 +103,10 @@ module _ (e : Edit) (s : Shape) (j : ℕ) (controls lent : List ℤ) (c : Change
   pub answered-nought : ((c .first ≡ 0) × (c .fresh ≡ 0)) ↔ ((t : ℕ) → t < planOf (c .shape) .spans → Touched e (planOf (c .shape) .basis) j t → ⊥)
   answered-nought =
       by-answer (λ d p _ _. ((d .first ≡ 0) × (d .fresh ≡ 0)) ↔ ((t : ℕ) → t < p .spans → Touched e (p .basis) j t → ⊥)) (nought-touched e after j (allowed .offered))
+
+  -- how many coordinates of the fresh points are exact, by the run that was answered
+  pub answered-exact : c .exact ≡ exactFresh (record { first = c .first; count = c .fresh }) (planOf (c .shape)) new
+  answered-exact = by-answer (λ d p l _. d .exact ≡ exactFresh (record { first = d .first; count = d .fresh }) p l) refl
 
   -- ---- the points
 
@@ -117,14 +128,14 @@ module _ (e : Edit) (s : Shape) (j : ℕ) (controls lent : List ℤ) (c : Change
   left-at : (q : ℕ) → q < m * perSpan k + 2 → getD left q (pos 0) ≡ pointAt e after j asks lent q
   left-at q h = in-filled (pointAt e after j asks lent) 0 (2 * points after) lent q (omega arith) (omega (arith, all-numbers k m)) (omega (arith, all-numbers k m, ready .points-room))
 
-  left-fresh : (q : ℕ) → Fresh (change e s after j) k q → getD left q (pos 0) ≡ number after asks q
+  left-fresh : (q : ℕ) → Fresh answer k q → getD left q (pos 0) ≡ number after asks q
   left-fresh q fresh =
       let t = fresh .0 in
       let here = run-touched e after j (allowed .offered) t .0 (fresh .1) .0 in
       let within : q < m * perSpan k + 2 = omega (arith, fresh .2 .1, per-span m k, mul-le-mul-right {m = t + 1} {n = m} (2 ^ k) (omega (arith, here))) in
       left-at q within ∙ fresh-at e after j asks lent (ready .good .spans-least) (ready .points-room) q (held-fresh (runOf e after j) k q .0 fresh)
 
-  left-other : (t i : ℕ) → t < m → i < perSpan k + 2 → (Fresh (change e s after j) k (t * perSpan k + i) → ⊥)
+  left-other : (t i : ℕ) → t < m → i < perSpan k + 2 → (Fresh answer k (t * perSpan k + i) → ⊥)
       → getD left (t * perSpan k + i) (pos 0) ≡ getD lent (oldSpan e j t * perSpan k + i) (pos 0)
   left-other t i h few other =
       let q = t * perSpan k + i in
@@ -170,7 +181,7 @@ module _ (e : Edit) (s : Shape) (j : ℕ) (controls lent : List ℤ) (c : Change
 
   -- ---- the records of the other spans
 
-  asks-other : (t axis : ℕ) → t < m → axis < 2 → (InRun (change e s after j) t → ⊥) → records b t (coordinate asks axis) ≡ records b (oldSpan e j t) (coordinate controls axis)
+  asks-other : (t axis : ℕ) → t < m → axis < 2 → (InRun answer t → ⊥) → records b t (coordinate asks axis) ≡ records b (oldSpan e j t) (coordinate controls axis)
   asks-other t axis h two other =
       ap (λ l. records b t (coordinate l axis)) (sym as-asked) ∙ old-records e before j controls (allowed .offered) (allowed .good .spans-least) fits t axis h two out
     where
@@ -194,7 +205,7 @@ module _ (e : Edit) (s : Shape) (j : ℕ) (controls lent : List ℤ) (c : Change
 
   -- ---- and of those in the run
 
-  asks-needed : (t u : ℕ) → InRun (change e s after j) t → u < before .spans
+  asks-needed : (t u : ℕ) → InRun answer t → u < before .spans
       → ((old : List ℤ) → length old ≡ length controls → records b t (coordinate (asked e j old (countAfter e (s .count))) 0) ≡ records b u (coordinate old 0))
       → ⊥
   asks-needed t u has h alike =

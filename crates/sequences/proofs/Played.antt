@@ -12,7 +12,8 @@ use Rattle.shape.specs.declared.Refusal.{Refusal}
 use Rattle.shape.specs.Refusals.{First, NoRow, planOf}
 use Rattle.shape.proofs.Refusals.{verdict}
 use Rattle.spans.proofs.Filled.{length-filled, in-filled}
-use Rattle.outline.specs.declared.Drawn.the-variants.{Points}
+use Rattle.outline.specs.declared.Drawn.the-variants as outline
+use Rattle.outline.specs.declared.Figures.{Figures}
 use Rattle.spans.specs.Numbers.{number}
 use Rattle.outline.specs.Outline.{points, draws}
 use Rattle.outline.proofs.Held.{held-room, held-number}
@@ -75,6 +76,6 @@ played-outlined t (c ∷ calls) out = played-outlined (called t c) calls (called
 
 -- ---- from the first drawing on
 
--- a drawing call that answers points leaves an outline
-pub drawn-outlined : (s : Shape) (controls lent : List ℤ) (n : ℕ) (held : List ℤ) → draws s controls lent ≡ outcome (Points n) held → Outlined (state s controls held)
-drawn-outlined s controls lent n held answered = record { room = held-room s controls lent n held answered; holds = held-number s controls lent n held answered }
+-- an accepted drawing call leaves an outline
+pub drawn-outlined : (s : Shape) (controls lent : List ℤ) (fs : Figures) (held : List ℤ) → draws s controls lent ≡ outcome (outline.Done fs) held → Outlined (state s controls held)
+drawn-outlined s controls lent fs held answered = record { room = held-room s controls lent fs held answered; holds = held-number s controls lent fs held answered }

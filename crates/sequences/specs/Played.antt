@@ -7,9 +7,9 @@ use lib.ListN.{getD, length}
 use Rattle.whole.specs.Outcome.{Outcome, outcome}
 use Rattle.shape.specs.declared.Shape.{Shape}
 use Rattle.shape.specs.Refusals.{planOf}
-use Rattle.outline.specs.declared.Drawn.the-variants.{Points}
+use Rattle.outline.specs.declared.Drawn.the-variants as outline
 use Rattle.spans.specs.Numbers.{number}
-use Rattle.outline.specs.Outline.{points, draws}
+use Rattle.outline.specs.Outline.{points, figuresOf, draws}
 use Rattle.asked.specs.declared.Edit.{Edit}
 use Rattle.edit.specs.declared.Edited.{Edited}
 use Rattle.edit.specs.declared.Edited.the-variants.{Done, Refused}
@@ -54,4 +54,4 @@ pub record Outlined (t : State) : Type 0 where
 
 -- Drawing the controls again is done, and changes nothing.
 abbrev pub Redraws : State → Type 0
-Redraws t = draws (t .shape) (t .controls) (t .held) ≡ outcome (Points (points (planOf (t .shape)))) (t .held)
+Redraws t = draws (t .shape) (t .controls) (t .held) ≡ outcome (outline.Done (figuresOf (planOf (t .shape)) (t .controls))) (t .held)

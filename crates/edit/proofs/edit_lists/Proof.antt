@@ -9,9 +9,9 @@ use Rattle.spans.specs.Numbers.{perSpan}
 use Rattle.spans.specs.Filled.{filled}
 use Rattle.spans.specs.Inner.{Drawable}
 use Rattle.outline.proofs.Draws.{all-numbers}
-use Rattle.asked.specs.Edits.{pointAt}
+use Rattle.asked.specs.Edits.{exactFresh, pointAt, runOf}
 use Rattle.edit.specs.declared.Edited.the-variants.{Done}
-use Rattle.edit.specs.Reading.{controlsAfter}
+use Rattle.edit.specs.Reading.{change, controlsAfter}
 use Rattle.edit.proofs.edit_lists.Statement.{statement}
 use Rattle.edit.proofs.edit_lists.Tie as tie
 
@@ -43,8 +43,10 @@ returns c =
     let lent = a .points .now in
     let worked : List ℤ → ℕ → List ℤ = λ controls n. filled (pointAt (a .edit) q (a .place) controls lent) 0 n lent in
     let all = q .spans * perSpan (q .depth) + 2 in
-    let points = r .work .ensures ∙ ap (λ l. worked l all) (t .ask .ensures) ∙ ap (worked (controlsAfter (a .edit) (a .shape) (a .place) (a .controls .now))) (sym (all-numbers (q .depth) (q .spans))) in
-    λ i. outcome (Done (c .change-of .ensures i)) (t .ask .ensures i, points i)
+    let exact = r .work .ensures .0 ∙ ap (exactFresh (runOf (a .edit) q (a .place)) q) (t .ask .ensures) in
+    let answer = c .change-of .ensures ∙ ap (change (a .edit) (a .shape) q (a .place)) exact in
+    let points = r .work .ensures .1 ∙ ap (λ l. worked l all) (t .ask .ensures) ∙ ap (worked (controlsAfter (a .edit) (a .shape) (a .place) (a .controls .now))) (sym (all-numbers (q .depth) (q .spans))) in
+    λ i. outcome (Done (answer i)) (t .ask .ensures i, points i)
 
 pub edit-lists-spec : {M : Type 1} → statement M
 edit-lists-spec =

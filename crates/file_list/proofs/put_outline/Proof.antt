@@ -21,8 +21,8 @@ enum-known-refusal c = search needs
 put-refusal-requires : tie.Need-put-refusal-requires
 put-refusal-requires c κs = search needs
 
-enum-known-count : tie.Need-enum-known-count
-enum-known-count c = search needs
+enum-known-figures : tie.Need-enum-known-figures
+enum-known-figures c = search needs
 
 slice-aggregate-list-outline : tie.Need-slice-aggregate-list-outline
 slice-aggregate-list-outline c = search needs
@@ -49,9 +49,9 @@ returns-2 : tie.Need-returns-2
 returns-2 c =
     let a = c .before .before .before .before .before .before .before .before .before .before .before .before .args in
     let drew = c .before .before .before .before .before .before .before .before .before .by-weights in
-    let drawn = c .before .before .before .before .before .before .count .given in
+    let drawn = c .before .before .before .before .before .before .figures .given in
     c .before .before .list-outline .ensures
-    ∙ ap (λ (m : ℕ). listed (a .text .now) (a .shape .basis) (a .shape .depth) m (drew .last .1 .1 .0) (drawn .0 .0)) (c .before .before .before .before .before .before .before .before .before .before .before .before .pre)
+    ∙ ap (λ (m : ℕ). listed (a .text .now) (a .shape .basis) (a .shape .depth) m (drew .last .1 .1 .0) (drawn .0 .0 .points)) (c .before .before .before .before .before .before .before .before .before .before .before .before .pre)
     ∙ listed-text (a .shape) (a .controls .now) (drawn .0 .0) (drew .last .1 .1 .0) (a .text .now) (sym (drew .ensures) ∙ ap (λ r. outcome r (drew .last .1 .1 .0)) (drawn .1))
 
 pub put-outline-spec : {M : Type 1} → statement M
@@ -62,7 +62,7 @@ put-outline-spec =
     by-weights-requires
     enum-known-refusal
     put-refusal-requires
-    enum-known-count
+    enum-known-figures
     slice-aggregate-list-outline
     list-outline-requires
     same-length

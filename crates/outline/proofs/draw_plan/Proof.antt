@@ -15,11 +15,11 @@ use Rattle.shape.specs.Refusals.{judgeLists}
 use Rattle.shape.specs.Inner.{Lent}
 use Rattle.shape.proofs.Refusals.{fine-facts}
 use Rattle.shape.proofs.Spans.{points-at-most}
-use Rattle.spans.specs.Numbers.{number, perSpan}
-use Rattle.spans.specs.Filled.{filled, filledRun}
+use Rattle.spans.specs.Numbers.{perSpan}
+use Rattle.spans.specs.Filled.{fills, fillsRun}
 use Rattle.spans.specs.Inner.{Drawable}
-use Rattle.outline.specs.declared.Drawn.the-variants.{Points}
-use Rattle.outline.specs.Outline.{points, drawn}
+use Rattle.outline.specs.declared.Drawn.the-variants.{Done}
+use Rattle.outline.specs.Outline.{points}
 use Rattle.outline.proofs.Draws.{all-numbers, plan-bad, plan-drawn, drawable}
 use Rattle.outline.proofs.draw_plan.Statement.{statement}
 use Rattle.outline.proofs.draw_plan.Tie as tie
@@ -78,12 +78,12 @@ same-length : tie.Need-same-length
 same-length c = search needs
 
 -- the run from span 0 on is the whole outline
-whole-run : (p : Plan) (controls l : List ℤ) → filledRun p 0 (p .spans) controls l ≡ drawn p controls l
+whole-run : (p : Plan) (controls l : List ℤ) → fillsRun p 0 (p .spans) controls l ≡ fills p controls 0 (2 * points p) l
 whole-run p controls l =
     let all : p .spans - 0 ≡ p .spans = omega arith in
-    ap (λ (n : ℕ). filled (number p controls) n ((p .spans - 0) * perSpan (p .depth) + 2) l) (zero-mul (perSpan (p .depth)))
-    ∙ ap (λ (n : ℕ). filled (number p controls) 0 (n * perSpan (p .depth) + 2) l) all
-    ∙ ap (λ (n : ℕ). filled (number p controls) 0 n l) (sym (all-numbers (p .depth) (p .spans)))
+    ap (λ (n : ℕ). fills p controls n ((p .spans - 0) * perSpan (p .depth) + 2) l) (zero-mul (perSpan (p .depth)))
+    ∙ ap (λ (n : ℕ). fills p controls 0 (n * perSpan (p .depth) + 2) l) all
+    ∙ ap (λ (n : ℕ). fills p controls 0 n l) (sym (all-numbers (p .depth) (p .spans)))
 
 returns-2 : tie.Need-returns-2
 returns-2 c =
@@ -91,8 +91,8 @@ returns-2 c =
     let a = t .before .before .before .before .args in
     let p = a .plan in
     let count = t .before .before .before .points .ensures in
-    ap (λ l. outcome (Points (t .before .before .before .points .result)) l) (c .before .fill-spans .ensures ∙ whole-run p (a .controls .now) (a .points .now))
-    ∙ ap (λ (n : ℕ). outcome (Points n) (drawn p (a .controls .now) (a .points .now))) count
+    let filled = c .before .fill-spans .ensures ∙ whole-run p (a .controls .now) (a .points .now) in
+    (λ i. outcome (Done (record { points = count i; exact = filled i .answer })) (filled i .held))
     ∙ sym (plan-drawn (a .shape .count) p (a .controls .now) (a .points .now) (is-fine t))
 
 pub draw-plan-spec : {M : Type 1} → statement M

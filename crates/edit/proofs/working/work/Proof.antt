@@ -8,13 +8,14 @@ use borrow.Author.Needs.{needs}
 use lib.IntN.{ℤ, pos}
 use lib.ListN.{getD, length}
 use lib.Pow.{pow-mono}
+use Rattle.whole.specs.Outcome.{Outcome}
 use Rattle.curve.specs.Ways.{deepest}
-use Rattle.spans.specs.Numbers.{number, perSpan}
-use Rattle.spans.specs.Filled.{filled}
+use Rattle.spans.specs.Numbers.{perSpan}
+use Rattle.spans.specs.Filled.{filled, fills}
 use Rattle.asked.specs.Edits.{firstFresh, carriedFrom}
 use Rattle.asked.proofs.Run.{past-most}
 use Rattle.edit.specs.Inner.{Carriable, runLength}
-use Rattle.edit.proofs.Worked.{worked}
+use Rattle.edit.proofs.Worked.{worked, worked-exact}
 use Rattle.edit.proofs.working.work.Statement.{statement}
 use Rattle.edit.proofs.working.work.Tie as tie
 
@@ -71,14 +72,17 @@ returns c =
     let lent = a .points .now in
     let w = perSpan (p .depth) in
     let carry : ℕ → ℕ → List ℤ = λ v past. filled (λ q. getD lent (carriedFrom (a .edit) v q) (pos 0)) (past * v) (runLength past (p .spans) v) lent in
-    let spans : List ℤ → ℕ → ℕ → List ℤ = λ l first past. filled (number p (a .controls .now)) (first * w) (runLength first past w) l in
+    let spans : List ℤ → ℕ → ℕ → Outcome ℕ (List ℤ) = λ l first past. fills p (a .controls .now) (first * w) (runLength first past w) l in
     let first = t .before .before .before .before .first-fresh .result in
     let past = t .before .before .before .past-fresh .result in
+    let done =
     c .before .rework .ensures
     ∙ ap (λ l. spans l first past) (t .carry .ensures ∙ ap (λ (v : ℕ). carry v past) (width (t .before)))
     ∙ ap (λ (n : ℕ). spans (carry w past) n past) (t .before .before .before .before .first-fresh .ensures)
-    ∙ ap (λ (n : ℕ). spans (carry w n) (firstFresh (a .edit) p (a .place)) n) (t .before .before .before .past-fresh .ensures)
-    ∙ worked (a .edit) p (a .place) (a .controls .now) lent (s .pre .0 .2) (s .pre .1 .1 .0)
+    ∙ ap (λ (n : ℕ). spans (carry w n) (firstFresh (a .edit) p (a .place)) n) (t .before .before .before .past-fresh .ensures) in (
+      ap (λ o. o .answer) done ∙ worked-exact (a .edit) p (a .place) (a .controls .now) lent (s .pre .0 .2) (s .pre .1 .1 .0),
+      ap (λ o. o .held) done ∙ worked (a .edit) p (a .place) (a .controls .now) lent (s .pre .0 .2) (s .pre .1 .1 .0),
+    )
 
 pub work-spec : {M : Type 1} → statement M
 work-spec = tie.close (tie.spec first-fresh-requires past-fresh-requires steps-requires mul-carry carry-requires rework-requires same-length returns)
