@@ -1,24 +1,24 @@
 -- P1 to P12 of document 01: one statement over one list of cases, computed from the definitions.
 use mathlib.Core.Path.{_≡_, refl}
 use mathlib.Core.List.{map}
-use Rattle.whole.specs.Nearest.{halfUp, nearest}
+use Rattle.whole.specs.Nearest.{halfUp, nearest, remainder}
 use Rattle.curve.specs.Tab.{tab}
 use Rattle.curve.specs.Four.{dot}
 use Rattle.curve.specs.Published.{weights}
 use Rattle.curve.specs.Span.{firstRecord, coordinate, recordsFrom, sixfoldControls, weighted, point}
 use Rattle.shape.specs.Shape.{basisOf, recordsOf, spansOf, lastUsing, allowed, pointsOf}
 use Rattle.shape.specs.Refusals.{judge, seek, planOf, outside}
-use Rattle.spans.specs.Numbers.{number}
+use Rattle.spans.specs.Numbers.{sumOf, number, remainderOf, noughts}
 use Rattle.outline.specs.Outline.{draws}
 use Rattle.outline.specs.Cases.{onX}
 use Rattle.doubles.specs.Exact.{dyadic}
 use Rattle.doubles.specs.Number.{within, measure}
 use Rattle.edit.specs.Cases.{flat}
-use Rattle.asked.specs.Edits.{asked, runOf, isFresh, pointAt}
+use Rattle.asked.specs.Edits.{asked, runOf, isFresh, exactFresh, pointAt}
 use Rattle.edit.specs.Reading.{edits}
 use Rattle.promises.specs.Cases.{Case, cases}
 
 -- for every case the definitions give what the paper gives
 pub cases-hold : map (λ (c : Case). c .given) cases ≡ map (λ (c : Case). c .paper) cases
-unfolding tab point sixfoldControls weighted weights dot nearest halfUp firstRecord coordinate recordsFrom basisOf recordsOf spansOf lastUsing allowed pointsOf judge seek planOf outside number draws onX dyadic within measure asked runOf isFresh pointAt edits flat
+unfolding tab point sixfoldControls weighted weights dot nearest halfUp firstRecord coordinate recordsFrom basisOf recordsOf spansOf lastUsing allowed pointsOf judge seek planOf outside sumOf number remainder remainderOf noughts draws onX dyadic within measure asked runOf isFresh exactFresh pointAt edits flat
 cases-hold = refl

@@ -1,9 +1,12 @@
 -- Demand 3, one edit, in terms of its answer and for any contents of the lent points: it works afresh exactly the spans that it touches, and every other span holds what an
 -- old one held, in place or one span on or back. What any sequence of edits leaves is in `Sequences`.
-use mathlib.Core.Path.{_≡_, _∙_}
+use mathlib.Core.Path.{_≡_, ap, _∙_}
+use mathlib.Core.Bool.{cond}
 use mathlib.Core.Logic.{_↔_}
 use mathlib.Core.List.{List}
 use Prim.Native.Nat.{ℕ, _+_, _*_, _/_, _^_, _≤_, _<_}
+use native.Mathlib.Omega.{arith}
+use borrow.Author.Tests.{lt-ltb, le-ltb}
 use lib.IntN.{ℤ, pos}
 use lib.ListN.{getD, length}
 use Rattle.whole.specs.Outcome.{outcome}
@@ -14,15 +17,16 @@ use Rattle.shape.specs.Refusals.{planOf}
 use Rattle.spans.specs.Numbers.{perSpan}
 use Rattle.outline.specs.Outline.{points}
 use Rattle.asked.specs.declared.Edit.{Edit}
-use Rattle.asked.specs.Edits.{asked}
+use Rattle.asked.specs.Edits.{asked, freshNumbers, exactFresh}
 use Rattle.edit.specs.declared.Change.{Change}
 use Rattle.edit.specs.declared.Edited.the-variants.{Done}
 use Rattle.edit.specs.Reading.{shapeAfter, edits}
 use Rattle.sequences.specs.Touched.{Touched, InRun, Fresh, oldSpan}
 use Rattle.sequences.proofs.Touched.{held-within}
-use Rattle.sequences.proofs.Answered.{answered-shape, answered-controls, answered-run, answered-nought, answered-every, answered-fresh, answered-other, answered-past, answered-past-controls, answered-records, answered-needed}
-use Rattle.promises.specs.Points.{publishedNumber}
+use Rattle.sequences.proofs.Answered.{answered-shape, answered-controls, answered-run, answered-nought, answered-exact, answered-every, answered-fresh, answered-other, answered-past, answered-past-controls, answered-records, answered-needed}
+use Rattle.promises.specs.Points.{publishedNumber, wholeValues}
 use Rattle.promises.proofs.Points.{number-published}
+use Rattle.promises.proofs.Exact.{exact-whole}
 
 -- The call answered c, and left the controls `new` and the points `held`.
 module _ (e : Edit) (s : Shape) (j : ℕ) (controls lent : List ℤ) (c : Change) (new held : List ℤ) (done : edits e s j controls lent ≡ outcome (Done c) (new, held)) where
@@ -54,6 +58,15 @@ module _ (e : Edit) (s : Shape) (j : ℕ) (controls lent : List ℤ) (c : Change
   -- such a number is the published curve's for the controls as they then stand
   pub fresh-points : (q : ℕ) → Fresh c k q → getD held q (pos 0) ≡ publishedNumber p new q
   fresh-points q fresh = answered-fresh e s j controls lent c new held done q fresh ∙ number-published p new q
+
+  -- how many of them are exact is answered: so many of their published values are whole, from the start of the run's first span to the end of its last; none where no span is fresh
+  pub fresh-exact : (0 < c .fresh → c .exact ≡ wholeValues p new (c .first * w) (c .fresh * w + 2)) × (c .fresh ≡ 0 → c .exact ≡ 0)
+  unfolding exactFresh wholeValues
+  fresh-exact =
+      let is = answered-exact e s j controls lent c new held done ∙ exact-whole p new (c .first * w) (freshNumbers (record { first = c .first; count = c .fresh }) k) in (
+        (λ some. is ∙ ap (λ t. wholeValues p new (c .first * w) (cond t (c .fresh * w + 2) 0)) (lt-ltb 0 (c .fresh) some)),
+        (λ none. is ∙ ap (λ t. wholeValues p new (c .first * w) (cond t (c .fresh * w + 2) 0)) (le-ltb 0 (c .fresh) (omega (arith, none)))),
+      )
 
   -- number i of a span is, where it is not fresh, what number i of the old span held: the same one, the one before (insert) or the one after (remove)
   pub other-points : (t i : ℕ) → t < p .spans → i < w + 2 → (Fresh c k (t * w + i) → ⊥) → getD held (t * w + i) (pos 0) ≡ getD lent (oldSpan e j t * w + i) (pos 0)

@@ -1,6 +1,7 @@
 -- The promises, in document 01's order. The curve, exactly:
 pub mod Rounding
 pub mod Points
+pub mod Exact
 pub mod Limits
 -- Editing an outline:
 pub mod Editing

@@ -14,7 +14,8 @@ use Rattle.curve.specs.Span.{point}
 use Rattle.curve.proofs.Limits as curve
 use Rattle.shape.specs.declared.Shape.{Shape}
 use Rattle.shape.specs.Refusals.{planOf}
-use Rattle.outline.specs.declared.Drawn.the-variants.{Points}
+use Rattle.outline.specs.declared.Drawn.the-variants.{Done}
+use Rattle.outline.specs.declared.Figures.{Figures}
 use Rattle.outline.specs.Outline.{points, draws}
 use Rattle.outline.proofs.Within as outline
 use Rattle.sequences.specs.Played.{Call, state, played}
@@ -32,11 +33,11 @@ pub within-reach : (b : Basis) (k i : ℕ) (q : Four) → i ≤ 2 ^ k → Inside
 within-reach = curve.point-size
 
 -- so every number of the outline does, as it stands in the lent list after an accepted drawing
-pub drawn-within : (s : Shape) (controls lent : List ℤ) (n : ℕ) (held : List ℤ) → draws s controls lent ≡ outcome (Points n) held → (q : ℕ) → q < 2 * n → natAbs (getD held q (pos 0)) ≤ reach
+pub drawn-within : (s : Shape) (controls lent : List ℤ) (fs : Figures) (held : List ℤ) → draws s controls lent ≡ outcome (Done fs) held → (q : ℕ) → q < 2 * fs .points → natAbs (getD held q (pos 0)) ≤ reach
 drawn-within = outline.drawn-within
 
 -- and after any sequence of edits that follow it, refused ones among them
-pub played-within : (s : Shape) (controls lent : List ℤ) (n : ℕ) (held : List ℤ) (calls : List Call) → draws s controls lent ≡ outcome (Points n) held
+pub played-within : (s : Shape) (controls lent : List ℤ) (fs : Figures) (held : List ℤ) (calls : List Call) → draws s controls lent ≡ outcome (Done fs) held
     → (q : ℕ) → q < 2 * points (planOf (played (state s controls held) calls .shape))
     → natAbs (getD (played (state s controls held) calls .held) q (pos 0)) ≤ reach
 played-within = sequences.drawn-played-within

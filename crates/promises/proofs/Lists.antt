@@ -7,7 +7,8 @@ use lib.Ieee.{Float}
 use Rattle.whole.specs.Outcome.{outcome}
 use Rattle.shape.specs.declared.Shape.{Shape}
 use Rattle.shape.specs.Lists.{Keeps}
-use Rattle.outline.specs.declared.Drawn.the-variants.{Points}
+use Rattle.outline.specs.declared.Drawn.the-variants.{Done}
+use Rattle.outline.specs.declared.Figures.{Figures}
 use Rattle.outline.specs.Outline.{draws}
 use Rattle.outline.proofs.Lists as outline
 use Rattle.preview.specs.declared.Previewed.the-variants.{Drawn}
@@ -22,8 +23,8 @@ use Rattle.drawing.specs.declared.Stepped.the-variants.{Next}
 use Rattle.drawing.specs.Reading as steps
 use Rattle.drawing.proofs.Lists as step-lists
 
--- a drawing of n points keeps every number past the last point
-pub drawing-keeps : (s : Shape) (controls lent : List ℤ) (n : ℕ) (held : List ℤ) → draws s controls lent ≡ outcome (Points n) held → Keeps 0 (2 * n) lent held
+-- an accepted drawing keeps every number past the last point
+pub drawing-keeps : (s : Shape) (controls lent : List ℤ) (fs : Figures) (held : List ℤ) → draws s controls lent ≡ outcome (Done fs) held → Keeps 0 (2 * fs .points) lent held
 drawing-keeps = outline.drawn-keeps
 
 -- so does a preview

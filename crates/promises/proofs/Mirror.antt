@@ -8,9 +8,12 @@ use lib.IntN.{ℤ, pos, negℤ}
 use lib.ListN.{getD, length}
 use Rattle.whole.specs.Outcome.{Outcome, outcome}
 use Rattle.shape.specs.declared.Shape.{Shape}
+use Rattle.shape.specs.declared.Plan.{Plan}
 use Rattle.spans.specs.declared.run.Way.{Way}
+use Rattle.spans.specs.Numbers.{remainderOf}
 use Rattle.outline.specs.declared.Drawn.{Drawn}
-use Rattle.outline.specs.declared.Drawn.the-variants.{Points}
+use Rattle.outline.specs.declared.Drawn.the-variants.{Done}
+use Rattle.outline.specs.declared.Figures.{Figures}
 use Rattle.outline.specs.Outline.{draws}
 use Rattle.outline.specs.View.{partOf, viewed}
 use Rattle.asked.specs.declared.Edit.{Edit}
@@ -26,6 +29,7 @@ use Rattle.preview.specs.declared.Previewed.the-variants as preview
 use Rattle.preview.specs.Preview.{previewing}
 use Rattle.mirror.specs.Mirror.{Axis, across, mirrored, mirror, mirrorDrawn, mirrorEdit, mirrorEdited, mirrorState, mirrorCall}
 use Rattle.mirror.specs.Steps.{minusMeasure, mirrorStep, mirrorDrawing, mirrorStepped, mirrorHeld, opposite, mirrorPreviewed}
+use Rattle.mirror.proofs.Points as numbers
 use Rattle.mirror.proofs.Drawings as drawings
 use Rattle.mirror.proofs.Edits as edited
 use Rattle.mirror.proofs.Sequences as sequences
@@ -39,20 +43,24 @@ use Rattle.mirror.proofs.Preview as previews
 pub mirror-draws : (axis : Axis) (s : Shape) (controls lent : List ℤ) → draws s (mirror axis controls) (mirror axis lent) ≡ mirrorDrawn axis (draws s controls lent)
 mirror-draws = drawings.mirror-draws
 
--- so it is accepted on one side exactly when on the other, with as many points, and refused under the same number and place
+-- so it is accepted on one side exactly when on the other, with as many points and as many coordinates exact, and refused under the same number and place
 pub same-answer : (axis : Axis) (s : Shape) (controls lent : List ℤ) → draws s (mirror axis controls) (mirror axis lent) .answer ≡ draws s controls lent .answer
 same-answer axis s controls lent = ap (λ o. o .answer) (mirror-draws axis s controls lent)
 
 -- into any other list as long: all points on the axis are negated, and those on the other stay
 pub mirror-points :
-    (axis : Axis) (s : Shape) (controls lent : List ℤ) (n : ℕ) (held : List ℤ)
-    → draws s controls lent ≡ outcome (Points n) held
+    (axis : Axis) (s : Shape) (controls lent : List ℤ) (fs : Figures) (held : List ℤ)
+    → draws s controls lent ≡ outcome (Done fs) held
     → (other : List ℤ)
     → length other ≡ length lent
     → (held′ : List ℤ)
-    × (draws s (mirror axis controls) other ≡ outcome (Points n) held′)
-    × ((q : ℕ) → q < 2 * n → getD held′ q (pos 0) ≡ across negℤ axis q (getD held q (pos 0)))
+    × (draws s (mirror axis controls) other ≡ outcome (Done fs) held′)
+    × ((q : ℕ) → q < 2 * fs .points → getD held′ q (pos 0) ≡ across negℤ axis q (getD held q (pos 0)))
 mirror-points = drawings.mirror-points
+
+-- and so are the remainders: what is left over of a number on the axis is negated, and of one on the other it is the same (document 02, request 9)
+pub mirror-remainders : (axis : Axis) (p : Plan) (controls : List ℤ) (q : ℕ) → remainderOf p (mirror axis controls) q ≡ across negℤ axis q (remainderOf p controls q)
+mirror-remainders = numbers.remainder-mirror
 
 -- and this is said of the code: of two drawing calls, each by whichever way
 pub code-mirror-draws :

@@ -16,11 +16,12 @@ use Rattle.curve.proofs.Ways.{halving-agrees, differences-agree}
 use Rattle.shape.specs.declared.Shape.{Shape}
 use Rattle.shape.specs.declared.Plan.{Plan}
 use Rattle.shape.specs.Refusals.{planOf}
-use Rattle.spans.specs.Numbers.{number}
-use Rattle.outline.specs.declared.Drawn.the-variants.{Points}
+use Rattle.spans.specs.Numbers.{sumOf, number}
+use Rattle.outline.specs.declared.Drawn.the-variants.{Done}
+use Rattle.outline.specs.declared.Figures.{Figures}
 use Rattle.outline.specs.Outline.{points, draws}
 use Rattle.outline.proofs.Held.{held-number}
-use Rattle.promises.specs.Points.{publishedNumber}
+use Rattle.promises.specs.Points.{publishedValue, publishedNumber}
 
 -- a point of a span is the published value, rounded once
 pub point-published : (b : Basis) (k : ℕ) (p : Four) (i : ℕ) → point b k p i ≡ nearest (published b p (pos i) (pos (2 ^ k))) (denominator b * 2 ^ (3 * k))
@@ -28,19 +29,19 @@ point-published = curve.point-published
 
 -- so each number of an outline is
 pub number-published : (p : Plan) (controls : List ℤ) (q : ℕ) → number p controls q ≡ publishedNumber p controls q
-unfolding number publishedNumber
+unfolding sumOf number point publishedValue publishedNumber
 number-published p controls q =
     let s = min (q / 2 / 2 ^ p .depth) (p .spans - 1) in point-published (p .basis) (p .depth) (records (p .basis) s (coordinate controls (q % 2))) (q / 2 - s * 2 ^ p .depth)
 
 -- after an accepted drawing, by whichever way: the three calls have this one reading
 pub drawn-published :
-    (s : Shape) (controls lent : List ℤ) (n : ℕ) (held : List ℤ)
-    → draws s controls lent ≡ outcome (Points n) held
+    (s : Shape) (controls lent : List ℤ) (fs : Figures) (held : List ℤ)
+    → draws s controls lent ≡ outcome (Done fs) held
     → (q : ℕ)
     → q < 2 * points (planOf s)
     → getD held q (pos 0) ≡ publishedNumber (planOf s) controls q
-drawn-published s controls lent n held e q h =
-    held-number s controls lent n held e q h ∙ number-published (planOf s) controls q
+drawn-published s controls lent fs held e q h =
+    held-number s controls lent fs held e q h ∙ number-published (planOf s) controls q
 
 -- the three ways list the same sums of a span, at any depth
 pub three-ways : (k : ℕ) (q : Four) → (byHalving k q ≡ byWeights k q) × (byDifferences k q ≡ byWeights k q)

@@ -1,9 +1,9 @@
 -- Demand 1, for each kind of call: a refusal's number and place are given exactly when its row is the first of the call's table that holds, and then every lent list, and of a
 -- step the state, is as it came; 0 is given exactly when no row holds, and then come the call's values and what it writes; one of the two happens (`shape/specs/Exactly`).
 -- Each call's contract says that what came out is its reading (`draws`, `edits`, ..), for every input; `told` is the paper's number and values of its answer.
-use mathlib.Core.List.{List, [], _∷_}
+use mathlib.Core.List.{List}
 use Prim.Native.Nat.{ℕ}
-use lib.IntN.{ℤ, pos}
+use lib.IntN.{ℤ}
 use lib.Ieee.{Float}
 use lib.ListN.{length}
 use Rattle.shape.specs.declared.Shape.{Shape}
@@ -23,13 +23,14 @@ use Rattle.drawing.proofs.Exactly as steps-exactly
 use Rattle.record_file.specs.Rows as file
 use Rattle.record_file.proofs.Exactly as file-exactly
 
--- drawing, by whichever way: the number of points, and all points in the lent list
+-- drawing, by whichever way: the number of points, how many coordinates are exact, and all points in the lent list
 pub drawing : (s : Shape) (controls lent : List ℤ) →
     let out = outline.draws s controls lent in
-    Exactly (outline.drawRows s controls lent) (outline.told (out .answer)) lent (out .held) (pos (outline.points (planOf s)) ∷ []) (outline.drawn (planOf s) controls lent)
+    let done = outline.accepts (planOf s) controls lent in
+    Exactly (outline.drawRows s controls lent) (outline.told (out .answer)) lent (out .held) (values (outline.told (done .answer))) (done .held)
 drawing = outline-exactly.exactly
 
--- an edit: the new shape, the first span worked afresh and how many, and both lent lists
+-- an edit: the new shape, the first span worked afresh, how many and how many of their coordinates are exact, and both lent lists
 pub editing : (e : Edit) (s : Shape) (j : ℕ) (controls lent : List ℤ) →
     let out = edit.edits e s j controls lent in
     let done = edit.accepts e s (planOf (edit.shapeAfter e s)) j controls lent in

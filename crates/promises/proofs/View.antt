@@ -12,7 +12,8 @@ use Rattle.shape.specs.declared.Plan.{Plan}
 use Rattle.shape.specs.declared.Judged.the-variants.{Sound}
 use Rattle.shape.specs.Shape.{pointsOf}
 use Rattle.shape.specs.Refusals.{judgeShape, planOf}
-use Rattle.outline.specs.declared.Drawn.the-variants.{Points}
+use Rattle.outline.specs.declared.Drawn.the-variants.{Done}
+use Rattle.outline.specs.declared.Figures.{Figures}
 use Rattle.outline.specs.Outline.{draws}
 use Rattle.outline.specs.View.{partOf, viewed, Unseen}
 use Rattle.outline.proofs.Views as outline
@@ -29,7 +30,7 @@ pub good-view : (s : Shape) (p : Plan) (t : ℕ) (l : List ℤ) → judgeShape s
 good-view = outline.good-view
 
 -- after an accepted drawing it is the span's published points, the first of them and the last
-pub drawn-view : (s : Shape) (controls lent : List ℤ) (n : ℕ) (held : List ℤ) → draws s controls lent ≡ outcome (Points n) held → (t : ℕ) → t < planOf s .spans
+pub drawn-view : (s : Shape) (controls lent : List ℤ) (fs : Figures) (held : List ℤ) → draws s controls lent ≡ outcome (Done fs) held → (t : ℕ) → t < planOf s .spans
     → viewed (partOf s t held) held ≡ publishedSpan (planOf s .basis) (planOf s .depth) controls t
-drawn-view s controls lent n held answered t there =
-    outline.drawn-view s controls lent n held answered t there ∙ tab-same _ _ 0 0 (2 * (2 ^ planOf s .depth + 1)) (λ j h. point-published (planOf s .basis) (planOf s .depth) _ _)
+drawn-view s controls lent fs held answered t there =
+    outline.drawn-view s controls lent fs held answered t there ∙ tab-same _ _ 0 0 (2 * (2 ^ planOf s .depth + 1)) (λ j h. point-published (planOf s .basis) (planOf s .depth) _ _)

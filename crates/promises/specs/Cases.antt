@@ -7,7 +7,7 @@ use lib.ListN.{replicate}
 use Rattle.whole.specs.Outcome.{Outcome, outcome}
 use Rattle.curve.specs.Numbers.{neg}
 use Rattle.outline.specs.declared.Drawn.{Drawn}
-use Rattle.outline.specs.declared.Drawn.the-variants.{Points}
+use Rattle.outline.specs.declared.Drawn.the-variants as drawing
 use Rattle.outline.specs.Outline as outline
 use Rattle.outline.specs.Outline.{draws}
 use Rattle.outline.specs.Cases as outline-cases
@@ -32,12 +32,12 @@ toldDrawn o = pos (answer.number (outline.told (o .answer))) ∷ answer.values (
 abbrev pub ofDrawing : outline-cases.Case → Case
 ofDrawing c = record { given = toldDrawn (outline-cases.given c); paper = toldDrawn (outline-cases.paper c) }
 
--- The cardinal outline 0, 10, 20, 30, 40, 50, which gives 10, 20, 30, 40 and from which each of the next three starts.
+-- The cardinal outline 0, 10, 20, 30, 40, 50, which gives 10, 20, 30, 40, every coordinate exact, and from which each of the next three starts.
 abbrev pub start : Case
 start =
     record {
       given = toldDrawn (draws (edit.cardinal 6) edit.controlsBefore (replicate 10 (neg 1)));
-      paper = toldDrawn (outcome (Points 4) edit.heldBefore);
+      paper = toldDrawn (outcome (drawing.Done (record { points = 4; exact = 8 })) edit.heldBefore);
     }
 
 -- P9 to P11: what an edit of it comes to.
@@ -48,7 +48,7 @@ abbrev pub ofEdit : edit.Case → Case
 ofEdit c =
     record {
       given = told (edits (c .edit) (edit.cardinal 6) (c .place) edit.controlsBefore edit.heldBefore);
-      paper = told (outcome (Done (record { shape = edit.cardinal (c .count); first = c .first; fresh = c .fresh })) (c .controls, c .held));
+      paper = told (outcome (Done (record { shape = edit.cardinal (c .count); first = c .first; fresh = c .fresh; exact = c .exact })) (c .controls, c .held));
     }
 
 -- P12: 0.0625 mm is 63, -0.0625 mm is -63 (document 02, request 1); 4000.00048828125 mm is accepted, 4000.0009765625 mm gives 11. These doubles are 1/2^4, -1/2^4, 4000 + 1/2^11 and
