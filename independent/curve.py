@@ -6,7 +6,7 @@ the basis and G holds the span's four records.  Nothing is rounded before the en
 
 from fractions import Fraction
 from math import floor
-from typing import List, Sequence, Tuple
+from typing import Iterable, List, Sequence, Tuple
 
 from shape import B_SPLINE, BEZIER, CARDINAL, HERMITE, Shape, point_count, span_records, spans
 
@@ -93,6 +93,11 @@ def span_cubics(shape: Shape, controls: Sequence[int], span: int) -> List[List[F
     """The cubic of a span in x and the one in y."""
     records = span_records(shape, span)
     return [cubic(shape.basis, [controls[2 * j + axis] for j in records]) for axis in (0, 1)]
+
+
+def whole_values(values: Iterable[Fraction]) -> int:
+    """How many of the values are whole numbers before anything is rounded (document 02, request 9)."""
+    return sum(1 for value in values if value.denominator == 1)
 
 
 def nearest(value: Fraction) -> int:

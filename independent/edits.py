@@ -4,12 +4,14 @@ Each edit says for every span of the new shape whether it is worked afresh or
 which old span it holds.  Where a fresh span meets another, the point is fresh.
 """
 
+from fractions import Fraction
 from typing import Callable, List, NamedTuple, Optional, Tuple
 
 import refusal
 from checks import (Record, check_controls_room, check_limits, check_new_record, check_offered, check_place,
                     check_points_room, check_shape)
-from outline import formula_points
+from curve import exact_outline, whole_values
+from outline import rounded
 from refusal import Refusal
 from shape import (B_SPLINE, CARDINAL, MOST_RECORDS, SPAN_RECORDS, Shape, numbers_of, span_points,
                    span_records, spans)
@@ -21,11 +23,12 @@ BASES_THAT_GROW = (B_SPLINE, CARDINAL)
 
 
 class Edited(NamedTuple):
-    """The new shape, the first span worked afresh, and how many; 0 and 0 for none."""
+    """The new shape, the first span worked afresh, how many, and how many of their coordinates are exact; 0, 0 and 0 for none."""
 
     shape: Shape
     first: int
     fresh: int
+    exact: int
 
 
 def move(shape: Shape, controls: List[int], points: List[int], place: int, record: Record) -> Edited:
@@ -87,7 +90,8 @@ def check_lists(old: Shape, new: Shape, controls: List[int], points: List[int], 
 
 def accept(shape: Shape, controls: List[int], points: List[int], changed: List[int], source: Source) -> Edited:
     """Write the changed controls, and the points of the new shape from their sources."""
-    outline = formula_points(shape, changed)
+    values = exact_outline(shape, changed)
+    outline = rounded(values)
     held, fresh = by_source(shape, source)
     old = list(points)
     for span, old_span in held:
@@ -96,7 +100,13 @@ def accept(shape: Shape, controls: List[int], points: List[int], changed: List[i
         part = numbers_of(span_points(shape, span))
         points[part] = outline[part]
     controls[:len(changed)] = changed
-    return Edited(shape, fresh[0] if fresh else 0, len(fresh))
+    return Edited(shape, fresh[0] if fresh else 0, len(fresh), exact_numbers(shape, values, fresh))
+
+
+def exact_numbers(shape: Shape, values: List[Fraction], fresh: List[int]) -> int:
+    """How many numbers of the fresh spans' points are exact; the point where two of them meet is counted once."""
+    numbers = {number for span in fresh for number in range(len(values))[numbers_of(span_points(shape, span))]}
+    return whole_values(values[number] for number in numbers)
 
 
 def by_source(shape: Shape, source: Source) -> Tuple[List[Tuple[int, int]], List[int]]:

@@ -1,20 +1,33 @@
 """The calls that read an outline's controls or points: draw, view and preview."""
 
-from typing import List, Sequence
+from fractions import Fraction
+from typing import List, NamedTuple, Sequence
 
 from checks import check_controls_room, check_limits, check_offered, check_points_room, check_shape
-from curve import exact_outline, nearest
+from curve import exact_outline, nearest, whole_values
 from refusal import Refusal
 from shape import BEZIER, Shape, numbers_of, point_count, span_points, spans
 
 
 def formula_points(shape: Shape, controls: Sequence[int]) -> List[int]:
     """The numbers of the outline that the formulas give."""
-    return [nearest(value) for value in exact_outline(shape, controls)]
+    return rounded(exact_outline(shape, controls))
 
 
-def draw(shape: Shape, controls: Sequence[int], points: List[int]) -> int:
-    """Fill the points with the outline and answer how many there are.
+def rounded(values: Sequence[Fraction]) -> List[int]:
+    """The numbers of an outline from its exact values: each rounded once."""
+    return [nearest(value) for value in values]
+
+
+class Drawn(NamedTuple):
+    """How many points there are, and how many of their coordinates are exact."""
+
+    points: int
+    exact: int
+
+
+def draw(shape: Shape, controls: Sequence[int], points: List[int]) -> Drawn:
+    """Fill the points with the outline and answer how many there are and how many coordinates are exact.
 
     Weights, halving and differences are three ways to this one result.
     """
@@ -22,9 +35,9 @@ def draw(shape: Shape, controls: Sequence[int], points: List[int]) -> int:
     check_controls_room(controls, shape.count)
     check_limits(controls, shape.count)
     check_points_room(points, shape)
-    outline = formula_points(shape, controls)
-    points[:len(outline)] = outline
-    return point_count(shape)
+    values = exact_outline(shape, controls)
+    points[:len(values)] = rounded(values)
+    return Drawn(point_count(shape), whole_values(values))
 
 
 def view(shape: Shape, points: Sequence[int], span: int) -> Sequence[int]:

@@ -17,7 +17,7 @@ from checks import CONTROL_LIMIT  # noqa: E402
 from curve import cubic, exact_outline, nearest, powers, product  # noqa: E402
 from drawing import NOTHING_DRAWN, State, Step, micrometres, take  # noqa: E402
 from edits import BASES_THAT_GROW, insert, move, remove  # noqa: E402
-from make_trials import defects, drawings, edits, files  # noqa: E402
+from make_trials import defects, drawings, edits, exact, files  # noqa: E402
 from make_trials.dice import ALL_BASES, Dice  # noqa: E402
 from make_trials.halves import ALL_SIDES, AXES, mirrored, sides  # noqa: E402
 from make_trials.script import ACCEPTED, CALLS, Script, encode, file_of  # noqa: E402
@@ -28,28 +28,28 @@ from shape import B_SPLINE, BEZIER, CARDINAL, HERMITE, Shape, point_count, spans
 from sums import sums  # noqa: E402
 
 SUMS = """\
-P1 Bezier 0 0 0 4 depth 1: 0 1 4
-P2 Bezier 0 0 0 -4 depth 1: 0 -1 -4
-P3 B-spline 0 6 12 18 depth 1: 6 9 12
-P4 B-spline 0 1 0 0 depth 1: 1 0 0
-P5 cardinal 0 1000 1000 0 depth 1: 1000 1125 1000
-P6 cardinal -4000000 4000000 4000000 -4000000 depth 1: 4000000 5000000 4000000
-P7 Hermite 0 0 1000 0 depth 2: 0 156 500 844 1000
-P8 Hermite 0 8 0 -8 depth 1: 0 2 0
-cardinal 0 10 20 30 40 50 depth 0: 10 20 30 40
-P9 insert 60 at 6: 10 20 30 40 50 first 3 count 1
-P10 remove at 0: 20 30 40 first 0 count 0 fourth 40
-P11 move 3 to 33: 10 20 33 40 first 0 count 3
+P1 Bezier 0 0 0 4 depth 1: 0 1 4 exact 5
+P2 Bezier 0 0 0 -4 depth 1: 0 -1 -4 exact 5
+P3 B-spline 0 6 12 18 depth 1: 6 9 12 exact 6
+P4 B-spline 0 1 0 0 depth 1: 1 0 0 exact 3
+P5 cardinal 0 1000 1000 0 depth 1: 1000 1125 1000 exact 6
+P6 cardinal -4000000 4000000 4000000 -4000000 depth 1: 4000000 5000000 4000000 exact 6
+P7 Hermite 0 0 1000 0 depth 2: 0 156 500 844 1000 exact 8
+P8 Hermite 0 8 0 -8 depth 1: 0 2 0 exact 6
+cardinal 0 10 20 30 40 50 depth 0: 10 20 30 40 exact 8
+P9 insert 60 at 6: 10 20 30 40 50 first 3 count 1 exact 4
+P10 remove at 0: 20 30 40 first 0 count 0 exact 0 fourth 40
+P11 move 3 to 33: 10 20 33 40 first 0 count 3 exact 8
 P12 0.0625 mm: 63
 P12 -0.0625 mm: -63
 P12 4000.00048828125 mm: 4000000
 P12 4000.0009765625 mm: refused 11 0
-Bezier 0 0 0 4 depth 6: drawn 65
+Bezier 0 0 0 4 depth 6: drawn 65 exact 67
 Bezier 0 0 0 4 depth 7: refused 2 0
-Bezier 64 records of 0 depth 1: drawn 43
+Bezier 64 records of 0 depth 1: drawn 43 exact 86
 Bezier 5 records of 0 depth 1: refused 3 0
 Bezier 4294967296 records of 0 depth 1: refused 3 0
-Bezier 0 0 0 4000000 depth 1: 0 500000 4000000
+Bezier 0 0 0 4000000 depth 1: 0 500000 4000000 exact 6
 Bezier 0 0 0 4000001 depth 1: refused 8 3
 """
 
@@ -137,7 +137,7 @@ class Curve(unittest.TestCase):
 class Outline(unittest.TestCase):
     def test_numbers_past_the_last_point_stay(self):
         points = [JUNK] * 9
-        self.assertEqual(draw(Shape(BEZIER, 1, 4), [0, 0, 0, 0, 0, 0, 4, 4], points), 3)
+        self.assertEqual(draw(Shape(BEZIER, 1, 4), [0, 0, 0, 0, 0, 0, 4, 4], points), (3, 4))
         self.assertEqual(points, [0, 0, 1, 1, 4, 4, JUNK, JUNK, JUNK])
 
     def test_point_counts(self):
@@ -145,6 +145,17 @@ class Outline(unittest.TestCase):
         for basis, m in most.items():
             self.assertEqual(spans(Shape(basis, 6, 64)), m)
             self.assertEqual(point_count(Shape(basis, 6, 64)), m * 64 + 1)
+
+    def test_exact_coordinates(self):
+        """A coordinate is exact where the exact value stands in the points, and nowhere else."""
+        dice = Dice(SEED)
+        for _ in range(200):
+            shape = dice.shape(ALL_BASES, 3, 10)
+            controls = exact.grained(dice, shape, shape.count)
+            points = [JUNK] * (2 * point_count(shape))
+            answer = draw(shape, controls, points)
+            there = sum(1 for value, number in zip(exact_outline(shape, controls), points) if value == number)
+            self.assertEqual(answer, (point_count(shape), there))
 
     def test_view(self):
         points = list(range(14))
@@ -175,6 +186,15 @@ def point_by_point(old: List[int], shape: Shape, outline: List[int], fresh: rang
     return points
 
 
+def exact_between(shape: Shape, controls: List[int], outline: List[int], fresh: range) -> int:
+    """How many numbers from the first fresh span's start to the last one's end stand at their exact values."""
+    if not fresh:
+        return 0
+    steps = 2 ** shape.depth
+    part = slice(2 * fresh.start * steps, 2 * fresh.stop * steps + 2)
+    return sum(1 for value, number in zip(exact_outline(shape, controls)[part], outline[part]) if value == number)
+
+
 class Edits(unittest.TestCase):
     def setUp(self):
         self.dice = Dice(SEED)
@@ -182,7 +202,7 @@ class Edits(unittest.TestCase):
     def test_any_contents(self):
         for _ in range(150):
             shape = self.dice.shape(BASES_THAT_GROW, 2, 12)
-            controls = self.dice.numbers(shape.count + 2)
+            controls = exact.grained(self.dice, shape, shape.count + 2)
             points = [self.dice.junk() for _ in range(2 * point_count(shape._replace(count=shape.count + 2)))]
             self.one_insert(shape, list(controls), list(points))
             if shape.count > 4:
@@ -197,6 +217,7 @@ class Edits(unittest.TestCase):
         self.assertEqual((answer.first, answer.fresh), (fresh.start, len(fresh)))
         self.assertEqual(controls, wanted)
         outline = formula_points(answer.shape, controls)
+        self.assertEqual(answer.exact, exact_between(answer.shape, controls, outline, fresh))
         self.assertEqual(points, point_by_point(before, answer.shape, outline, fresh, place + 1, -1))
 
     def one_remove(self, shape, controls, points):
@@ -208,6 +229,7 @@ class Edits(unittest.TestCase):
         self.assertEqual((answer.first, answer.fresh), (fresh.start, len(fresh)) if fresh else (0, 0))
         self.assertEqual(controls, wanted)
         outline = formula_points(answer.shape, controls)
+        self.assertEqual(answer.exact, exact_between(answer.shape, controls, outline, fresh))
         self.assertEqual(points, point_by_point(before, answer.shape, outline, fresh, place, 1))
 
     def test_drawn_outlines_stay_drawn(self):

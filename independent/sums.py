@@ -32,8 +32,8 @@ def on_x(numbers: Sequence[int]) -> List[int]:
 def drawn(basis: int, depth: int, numbers: Sequence[int]) -> str:
     shape = Shape(basis, depth, len(numbers))
     points = [0] * ROOM
-    count = draw(shape, on_x(numbers), points)
-    return words(points[0:2 * count:2])
+    answer = draw(shape, on_x(numbers), points)
+    return f"{words(points[0:2 * answer.points:2])} exact {answer.exact}"
 
 
 def outline_sum(label: str, basis: int, depth: int, numbers: Sequence[int]) -> str:
@@ -42,7 +42,8 @@ def outline_sum(label: str, basis: int, depth: int, numbers: Sequence[int]) -> s
 
 def only_counted(depth: int, count: int, controls: Sequence[int]) -> str:
     """How many points a Bezier shape has over a controls list, which need not be as long as the shape says."""
-    return f"drawn {draw(Shape(BEZIER, depth, count), controls, [0] * ROOM)}"
+    answer = draw(Shape(BEZIER, depth, count), controls, [0] * ROOM)
+    return f"drawn {answer.points} exact {answer.exact}"
 
 
 def result(call, *arguments) -> str:
@@ -65,7 +66,7 @@ class EditSum:
     def edited(self, edit, *arguments) -> str:
         answer: Edited = edit(self.shape, self.controls, self.points, *arguments)
         points = self.points[0:2 * point_count(answer.shape):2]
-        return f"{words(points)} first {answer.first} count {answer.fresh}"
+        return f"{words(points)} first {answer.first} count {answer.fresh} exact {answer.exact}"
 
 
 def edit_sums() -> Iterator[str]:

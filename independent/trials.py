@@ -117,7 +117,7 @@ class Bench:
         return []
 
     def draw(self, *_: int) -> Lines:
-        return [f"drawn {draw(self.shape, self.controls, self.points)}"]
+        return [f"drawn {line(draw(self.shape, self.controls, self.points))}"]
 
     def move(self, place: int, x: int, y: int, *_: int) -> Lines:
         record = signed_32(x), signed_32(y)
@@ -132,7 +132,7 @@ class Bench:
 
     def edited(self, answer: Edited) -> Lines:
         self.shape = answer.shape
-        return [f"edited {line(answer.shape)} {answer.first} {answer.fresh}"]
+        return [f"edited {line(answer.shape)} {answer.first} {answer.fresh} {answer.exact}"]
 
     def view(self, span: int, *_: int) -> Lines:
         part = view(self.shape, self.points, natural(span))

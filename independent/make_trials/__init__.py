@@ -3,7 +3,7 @@
 from collections import Counter
 
 import refusal
-from make_trials import defects, drawings, edits, files, halves, outlines
+from make_trials import defects, drawings, edits, exact, files, halves, outlines
 from make_trials.script import Script
 
 SEED = 0x0123_4567_89AB_CDEF
@@ -17,6 +17,7 @@ SECTIONS = (
     drawings.numbers, drawings.number_places, drawings.drawings, drawings.closings, drawings.states,
     files.files, files.lengths, files.record_by_record, files.late_damage, files.deep_listings,
     halves.points, halves.edits, halves.numbers, halves.drawings,
+    exact.outlines, exact.edits, exact.none_fresh,
 )
 
 

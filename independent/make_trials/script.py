@@ -41,10 +41,11 @@ class Script:
         self.records: List[bytes] = []
         self.tally: Counter = Counter()
         self.last = ACCEPTED
+        self.lines: List[str] = []
 
     def keep(self, record: bytes) -> None:
         """Write a record down, play it, and count what a call answered."""
-        lines = self.bench.play(record)
+        lines = self.lines = self.bench.play(record)
         self.records.append(record)
         op = record[0]
         if op in CALLS:

@@ -100,6 +100,7 @@ fn put_edited(text: &mut Text, at: usize, edited: Edited, points: &[i32]) -> usi
                 point_count(shape),
                 change.first,
                 change.fresh,
+                change.exact,
             )
         }
         Edited::Refused(refusal) => put_refusal(text, at, refusal.number, refusal.place),
@@ -113,10 +114,12 @@ fn put_change(
     count: usize,
     first: usize,
     fresh: usize,
+    exact: usize,
 ) -> usize {
     let past_points = add_x(text, at, points, count);
     let past_first = add_phrase(text, past_points, b" first", first);
-    add_phrase(text, past_first, b" count", fresh)
+    let past_fresh = add_phrase(text, past_first, b" count", fresh);
+    add_phrase(text, past_fresh, b" exact", exact)
 }
 
 // The number of points of a shape, 0 where it is not sound.

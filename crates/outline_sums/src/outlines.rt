@@ -94,7 +94,7 @@ fn put_basis(text: &mut Text, at: usize, basis: usize) -> usize {
     }
 }
 
-// What is drawn: the x of all points, or only how many there are; or the refusal.
+// What is drawn: the x of all points, or only how many there are, and how many coordinates are exact; or the refusal.
 pub(crate) fn put_drawn(
     text: &mut Text,
     at: usize,
@@ -114,12 +114,13 @@ pub(crate) fn put_drawn(
         controls,
         &mut points,
     ) {
-        Drawn::Points(drawn) => {
-            if all {
-                add_x(text, at, &points, drawn)
+        Drawn::Done(figures) => {
+            let end = if all {
+                add_x(text, at, &points, figures.points)
             } else {
-                add_phrase(text, at, b" drawn", drawn)
-            }
+                add_phrase(text, at, b" drawn", figures.points)
+            };
+            add_phrase(text, end, b" exact", figures.exact)
         }
         Drawn::Refused(refusal) => put_refusal(text, at, refusal.number, refusal.place),
     }

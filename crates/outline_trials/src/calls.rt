@@ -37,7 +37,7 @@ pub(crate) fn go_on(is_written: bool, bench: Bench) -> Turn {
 fn say_drawn(answer: Drawn) -> bool {
     match answer {
         Drawn::Refused(refusal) => say_refusal(refusal),
-        Drawn::Points(count) => say(b"drawn", &[count]),
+        Drawn::Done(figures) => say(b"drawn", &[figures.points, figures.exact]),
     }
 }
 
@@ -64,6 +64,7 @@ fn edited(bench: Bench, answer: Edited) -> Turn {
                     shape.count,
                     change.first,
                     change.fresh,
+                    change.exact,
                 ],
             );
             go_on(is_written, bench.with_shape(shape))
