@@ -43,7 +43,7 @@ divisor-pos b k = mul-pos (lit< tt) (pow-pos (3 * k))
 pub divisor-most : (bits : ℕ) → bits ≤ mostBits → divisorOf bits ≤ divisorOf mostBits
 divisor-most bits h = mul-le-mul (le-refl sixfold) (pow-mono {i = bits} {j = mostBits} h)
 
--- So both are one fraction: each part of the sum's is `denominator` times as large as each part of the published value's is six times.
+-- So both are one fraction: `denominator` times each part of the sum's is six times each part of the published value's.
 module _ (b : Basis) (k : ℕ) (p : Four) (i : ℕ) where
   abbrev value : ℤ
   value = published b p (pos i) (pos (2 ^ k))

@@ -1,4 +1,4 @@
--- Exact sums rounded one after another: two lists of them one after the other are one list, so what a loop or a recursion still has to round, rounded to what it holds, makes the whole.
+-- Exact sums rounded one after another: two lists of them, one after the other, are one list. So what a loop or a recursion still has to round, added to what it holds, makes the whole.
 use mathlib.Core.Path.{_≡_, refl, sym, ap, _∙_}
 use mathlib.Core.List.{List, [], _∷_, _++_, map}
 use Prim.Native.Nat.{ℕ, zero, suc, _+_, _≤_}

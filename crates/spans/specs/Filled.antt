@@ -12,7 +12,7 @@ use Rattle.spans.specs.Numbers.{number, exactIn, perSpan}
 abbrev pub filled : (ℕ → ℤ) → ℕ → ℕ → List ℤ → List ℤ
 filled f q n l = sets l q (tab f q n)
 
--- What it comes to to draw n numbers of a plan's outline, from number q on: how many of them are exact, and the lent points with them.
+-- Drawing n numbers of a plan's outline, from number q on: how many of them are exact, and the lent points with them.
 abbrev pub fills : Plan → List ℤ → ℕ → ℕ → List ℤ → Outcome ℕ (List ℤ)
 fills p controls q n l = outcome (exactIn p controls q n) (filled (number p controls) q n l)
 

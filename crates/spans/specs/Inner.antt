@@ -24,13 +24,14 @@ use Rattle.spans.specs.declared.run.Way.the-variants.{Weights, Halving, 
 
 -- ---- exact sums over a divisor d, rounded one after another
 
--- What it comes to to round them into a lent list, from number q on, where n numbers were exact before: each is rounded once, and those of which nothing is left over are counted.
+-- The numbers, and what is left over of each.
 abbrev pub wholes : ℕ → List ℤ → List ℤ
 wholes d sums = map (λ z. nearest z d) sums
 
 abbrev pub remainders : ℕ → List ℤ → List ℤ
 remainders d sums = map (λ z. remainder z d) sums
 
+-- Rounding them into a lent list, from number q on, where n numbers were exact before: how many are exact then, and the list with the numbers.
 abbrev pub rounds : ℕ → List ℤ → ℕ → ℕ → List ℤ → Outcome ℕ (List ℤ)
 rounds d sums q n l = outcome (n + noughts (remainders d sums)) (sets l q (wholes d sums))
 
