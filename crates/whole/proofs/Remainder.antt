@@ -74,10 +74,10 @@ nought-multiple z m e h =
     ∙ ap (λ (k : ℕ). k % e) (natAbs-mul (pos (m * e)) n ∙ mul-comm (m * e) (natAbs n) ∙ sym (mul-assoc (natAbs n) m e))
     ∙ mul-mod-left (natAbs n * m) e
 
--- a number that is nought some times as large
+-- a number whose size is nought, and one that is nought some times as large
+pub size-nought : (z : ℤ) → natAbs z ≡ 0 → z ≡ pos 0
+size-nought (pos n) e = ap pos e
+size-nought (negsuc n) e = absurd (omega arith)
+
 pub times-nought : (m : ℕ) (z : ℤ) → 0 < m → pos m *ℤ z ≡ pos 0 → z ≡ pos 0
 times-nought m z h e = size-nought z (omega (arith, le-mul-of-pos-right (natAbs z) h, mul-comm (natAbs z) m, natAbs-mul (pos m) z, ap natAbs e))
-  where
-    size-nought : (z : ℤ) → natAbs z ≡ 0 → z ≡ pos 0
-    size-nought (pos n) e = ap pos e
-    size-nought (negsuc n) e = absurd (omega arith)

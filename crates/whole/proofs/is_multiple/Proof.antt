@@ -14,6 +14,7 @@ use mir.Syntax.{w64}
 use mir.Val.{SFits, toZ, ofZ}
 use mir.ValLaws.{toZ-pos}
 use Rattle.whole.proofs.Fit.{kept, kept-is, natAbs-neg, size-fits}
+use Rattle.whole.proofs.Remainder.{size-nought}
 use Rattle.whole.proofs.is_multiple.Statement.{statement}
 use Rattle.whole.proofs.is_multiple.Tie as tie
 
@@ -42,10 +43,6 @@ same-test (suc a) (suc b) f g = not-nought a ∙ sym (not-nought b)
   where
     not-nought : (k : ℕ) → eqb (suc k) 0 ≡ false
     not-nought k = ne-eqb (suc k) 0 (λ e. omega (arith, e))
-
-size-nought : (z : ℤ) → natAbs z ≡ 0 → z ≡ pos 0
-size-nought (pos n) e = ap pos e
-size-nought (negsuc n) e = absurd (omega arith)
 
 module _ (c : tie.Start) where
   abbrev z : ℤ
