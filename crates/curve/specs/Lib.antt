@@ -4,6 +4,7 @@ pub mod BSpline
 pub mod Span
 pub mod Ways
 pub mod Limits
+pub mod Bend
 pub mod Four
 pub mod Tab
 pub mod Inner

@@ -19,7 +19,7 @@ use Rattle.spans.specs.Inner.{wholes, remainders, rounds}
 
 -- ---- how many are nought
 
-noughts-append : (l m : List ℤ) → noughts (l ++ m) ≡ noughts l + noughts m
+pub noughts-append : (l m : List ℤ) → noughts (l ++ m) ≡ noughts l + noughts m
 unfolding noughts
 noughts-append [] m = sym (zero-add (noughts m))
 noughts-append (z ∷ l) m = ap (λ (n : ℕ). nought z + n) (noughts-append l m) ∙ sym (add-assoc (nought z) (noughts l) (noughts m))

@@ -45,14 +45,7 @@ fn put_number(points: &mut [i32], at: usize, bits: u32, sum: i64, exact: usize) 
 }
 
 // The two numbers of a point, each counted by itself.
-pub(crate) fn put_point(
-    points: &mut [i32],
-    at: usize,
-    bits: u32,
-    x: i64,
-    y: i64,
-    exact: usize,
-) -> usize
+pub fn put_point(points: &mut [i32], at: usize, bits: u32, x: i64, y: i64, exact: usize) -> usize
     requires { ⌜ bits ≤ mostBits ⌝ }
     requires { ⌜ (natAbs x ≤ divisorOf bits * reach) × (natAbs y ≤ divisorOf bits * reach) ⌝ }
     requires { ⌜ (at + 2 ≤ length (now points)) × (exact ≤ at) ⌝ }

@@ -14,6 +14,13 @@ pub fn half_up(size: u64, multiple: u32, bits: u32) -> u64
     ((size >> bits) + (multiple / 2) as u64) / multiple as u64
 }
 
+// A number without its sign. The least number's size is one more than any i64, so one is added last.
+pub fn magnitude(z: i64) -> u64
+    ensures { λ r. ⌜ r ≡ natAbs z ⌝ }
+{
+    if z < 0 { (-1 - z) as u64 + 1 } else { z as u64 }
+}
+
 // A fraction rounded once: the whole number, and what is left over, the exact value less that number, over the same divisor.
 pub struct Rounding {
     pub whole: i64,

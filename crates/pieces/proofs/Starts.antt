@@ -1,0 +1,46 @@
+-- The starts of a sound tree, kind of piece by kind of piece, and how many numbers they are: two for each flat piece, and there is one flat piece more than there are cuts.
+use mathlib.Core.Path.{_≡_, refl, sym, ap, _∙_, subst}
+use mathlib.Core.Bool.{false}
+use mathlib.Core.List.{List, [], _∷_, _++_}
+use mathlib.Core.Logic.{⊎-elim}
+use Prim.Native.Nat.{ℕ, suc, _+_, _*_, _≤_, _<_}
+use native.Mathlib.Omega.{arith}
+use lib.ListN.{length, length-append}
+use Rattle.curve.specs.declared.Four.{Four}
+use Rattle.shape.proofs.Tests.{either}
+use Rattle.pieces.specs.Tree.{finest, Piece, piece, isFlat, Tree, Flat, Rough, Cut, cuts, Sound}
+use Rattle.pieces.specs.Values.{Value, both, start, starts}
+use Rattle.pieces.specs.Inner.{divisorAt, treeAt}
+use Rattle.pieces.proofs.Trees.{at-finest}
+
+-- ---- sound trees
+
+-- a piece of one that is not flat is above the finest level
+pub sound-shallow : (tolerance level : ℕ) (x y : Four) → level ≤ finest → isFlat divisorAt tolerance (piece level x y) ≡ false → Sound (treeAt tolerance level x y) → level < finest
+unfolding Sound
+sound-shallow tolerance level x y h e sound = ⊎-elim (λ (above : level < finest). above) (λ (past : finest ≤ level). absurd (subst Sound (at-finest tolerance level x y e (omega arith)) sound)) (either level finest)
+
+-- and both its halves are sound
+pub sound-halves : (l r t : Tree) → t ≡ Cut l r → Sound t → Sound l × Sound r
+unfolding Sound
+sound-halves l r t e sound = subst Sound e sound
+
+-- ---- their starts
+
+module _ (d : ℕ → ℕ) where
+  pub starts-flat : (p : Piece) (t : Tree) → t ≡ Flat p → starts d t ≡ start d p
+  unfolding starts
+  starts-flat p t e = ap (starts d) e
+
+  pub starts-cut : (l r t : Tree) → t ≡ Cut l r → starts d t ≡ starts d l ++ starts d r
+  unfolding starts
+  starts-cut l r t e = ap (starts d) e
+
+  pub cut-length : (l r t : Tree) → t ≡ Cut l r → length (starts d t) ≡ length (starts d l) + length (starts d r)
+  cut-length l r t e = ap length (starts-cut l r t e) ∙ length-append (starts d l) (starts d r)
+
+  pub length-starts : (t : Tree) → length (starts d t) ≡ 2 * (cuts t + 1)
+  unfolding starts cuts
+  length-starts (Flat p) = refl
+  length-starts (Rough p) = refl
+  length-starts (Cut l r) = length-append (starts d l) (starts d r) ∙ omega (arith, length-starts l, length-starts r)

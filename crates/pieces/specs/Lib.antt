@@ -1,0 +1,4 @@
+pub mod Tree
+pub mod Walk
+pub mod Values
+pub mod Inner
