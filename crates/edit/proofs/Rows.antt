@@ -30,7 +30,8 @@ use Rattle.spans.specs.Numbers.{perSpan}
 use Rattle.spans.specs.Filled.{filled}
 use Rattle.spans.proofs.Filled.{length-filled, in-filled}
 use Rattle.outline.specs.Outline.{points}
-use Rattle.outline.proofs.Draws.{all-numbers, drawable}
+use Rattle.spans.proofs.Drawables.{drawable}
+use Rattle.outline.proofs.Draws.{all-numbers}
 use Rattle.asked.specs.declared.Edit.{Edit}
 use Rattle.asked.specs.declared.Edit.the-variants.{Move, Insert, Remove}
 use Rattle.asked.specs.Edits.{countAfter, spansAfter, offered, inRange, atTheEnd, newOutside, choose, controlAt, asked, pastFresh}

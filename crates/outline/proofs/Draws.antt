@@ -12,12 +12,10 @@ use Rattle.shape.specs.declared.Plan.{Plan}
 use Rattle.shape.specs.declared.Refusal.{Refusal}
 use Rattle.shape.specs.declared.Judged.the-variants.{Sound, Unsound}
 use Rattle.shape.specs.declared.Checked.the-variants.{Fine, Bad}
-use Rattle.shape.specs.Inner.{Good, Lent}
 use Rattle.shape.specs.Refusals.{judgeShape, judgeLists, planOf}
-use Rattle.shape.proofs.Refusals.{judge-first, judge-none, sound, unsound, sound-plan, bad-first, fine-none, good-records, lent-inside}
+use Rattle.shape.proofs.Refusals.{judge-first, judge-none, sound, unsound, sound-plan, bad-first, fine-none}
 use Rattle.shape.specs.Shape.{pointsOf}
 use Rattle.spans.specs.Numbers.{perSpan}
-use Rattle.spans.specs.Inner.{Drawable}
 use Rattle.outline.specs.declared.Drawn.the-variants.{Refused}
 use Rattle.outline.specs.Outline.{points, planRows, accepts, drawsPlan, draws}
 
@@ -48,13 +46,3 @@ module _ (n : ℕ) (p : Plan) (controls lent : List ℤ) where
   pub plan-drawn : judgeLists n controls (points p) (length lent) ≡ Fine → drawsPlan n p controls lent ≡ accepts p controls lent
   unfolding drawsPlan
   plan-drawn e = judge-none (planRows n p controls lent) (refuses Refused lent) (accepts p controls lent) (fine-none n controls (points p) (length lent) e)
-
--- ---- what passed checks give: the spans can be drawn
-
-pub drawable : (s : Shape) (p : Plan) → Good s p → (controls : List ℤ) (k len : ℕ) → Lent (s .count) controls k len → Drawable p controls
-drawable s p good controls k len lent =
-    record {
-      few = omega (arith, good .spans-most, good .records-most);
-      held = λ t h. omega (arith, good-records s p good t h, lent .room);
-      inside = λ t axis h a. lent-inside (s .count) controls k len lent axis _ a (good-records s p good t h);
-    }

@@ -1,14 +1,17 @@
 -- The starts of a sound tree, kind of piece by kind of piece, and how many numbers they are: two for each flat piece, and there is one flat piece more than there are cuts.
 use mathlib.Core.Path.{_≡_, refl, sym, ap, _∙_, subst}
-use mathlib.Core.Bool.{false}
+use mathlib.Core.Bool.{Bool, true, false, cond}
 use mathlib.Core.List.{List, [], _∷_, _++_}
 use mathlib.Core.Logic.{⊎-elim}
-use Prim.Native.Nat.{ℕ, suc, _+_, _*_, _≤_, _<_}
+use Prim.Native.Nat.{ℕ, zero, suc, _+_, _*_, _^_, _≤_, _<_}
 use native.Mathlib.Omega.{arith}
+use lib.Dec.{lit<}
 use lib.ListN.{length, length-append}
+use lib.Pow.{pow-pos}
 use Rattle.curve.specs.declared.Four.{Four}
-use Rattle.shape.proofs.Tests.{either}
-use Rattle.pieces.specs.Tree.{finest, Piece, piece, isFlat, Tree, Flat, Rough, Cut, cuts, Sound}
+use Rattle.curve.proofs.Powers.{doubled}
+use Rattle.shape.proofs.Tests.{either, passes}
+use Rattle.pieces.specs.Tree.{finest, Piece, piece, leftPiece, rightPiece, isFlat, Tree, Flat, Rough, Cut, tree, cuts, Sound}
 use Rattle.pieces.specs.Values.{Value, both, start, starts}
 use Rattle.pieces.specs.Inner.{divisorAt, treeAt}
 use Rattle.pieces.proofs.Trees.{at-finest}
@@ -44,3 +47,16 @@ module _ (d : ℕ → ℕ) where
   length-starts (Flat p) = refl
   length-starts (Rough p) = refl
   length-starts (Cut l r) = length-append (starts d l) (starts d r) ∙ omega (arith, length-starts l, length-starts r)
+
+-- ---- how many cuts there can be: fewer than the pieces of the finest level
+
+pub cuts-most : (d : ℕ → ℕ) (tolerance left : ℕ) (p : Piece) → cuts (tree d tolerance left p) < 2 ^ left
+unfolding tree cuts
+cuts-most d tolerance zero p = ⊎-elim (λ (t : isFlat d tolerance p ≡ true). subst (λ (b : Bool). cuts (cond b (Flat p) (Rough p)) < 1) (sym t) (lit< tt)) (λ (f : isFlat d tolerance p ≡ false). subst (λ (b : Bool). cuts (cond b (Flat p) (Rough p)) < 1) (sym f) (lit< tt)) (passes (isFlat d tolerance p))
+cuts-most d tolerance (suc left) p =
+    let l = tree d tolerance left (leftPiece p) in
+    let r = tree d tolerance left (rightPiece p) in
+    ⊎-elim (λ (t : isFlat d tolerance p ≡ true). subst (λ (b : Bool). cuts (cond b (Flat p) (Cut l r)) < 2 ^ suc left) (sym t) (pow-pos (suc left)))
+    (λ (f : isFlat d tolerance p ≡ false).
+    subst (λ (b : Bool). cuts (cond b (Flat p) (Cut l r)) < 2 ^ suc left) (sym f) (omega (arith, cuts-most d tolerance left (leftPiece p), cuts-most d tolerance left (rightPiece p), doubled left)))
+    (passes (isFlat d tolerance p))

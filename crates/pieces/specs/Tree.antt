@@ -1,6 +1,7 @@
 -- Steps chosen by tolerance (document 02, request 3): "an outline that cuts a span at its midpoint only while needed". A piece of a span is flat, or it is cut at its middle into a left
 -- and a right piece, and so on: a tree. Nothing in it is rounded or divided. Definitions only.
 use mathlib.Core.Bool.{Bool, cond, _&&_}
+use mathlib.Core.List.{List, [], _∷_}
 use Prim.Native.Nat.{ℕ, zero, suc, _+_, _*_}
 use lib.Dec.{leb}
 use Rattle.curve.specs.declared.Four.{Four}
@@ -60,6 +61,11 @@ unfoldable pub cuts : Tree → ℕ
 cuts (Flat p) = 0
 cuts (Rough p) = 0
 cuts (Cut l r) = suc (cuts l + cuts r)
+
+-- Each span is a tree of its own; their cuts are counted together.
+unfoldable pub allCuts : List Tree → ℕ
+allCuts [] = 0
+allCuts (t ∷ trees) = cuts t + allCuts trees
 
 -- Every piece of it is flat or cut: none is refused.
 unfoldable pub Sound : Tree → Type 0

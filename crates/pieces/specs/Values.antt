@@ -29,6 +29,11 @@ starts d (Flat p) = start d p
 starts d (Rough p) = start d p
 starts d (Cut l r) = starts d l ++ starts d r
 
+-- Those of trees, one after another.
+unfoldable pub allStarts : (ℕ → ℕ) → List Tree → List Value
+allStarts d [] = []
+allStarts d (t ∷ trees) = starts d t ++ allStarts d trees
+
 -- A span ends at its last control.
 abbrev pub end : (ℕ → ℕ) → Four → Four → List Value
 end d x y = both (d 0) (x .d) (y .d)

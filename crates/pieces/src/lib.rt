@@ -7,6 +7,9 @@ pub mod walk;
 // No piece is cut more often than this. A number of its own, not the depth that outlines may have.
 pub const FINEST: usize = 6;
 
+// A tolerance is at most this, in micrometres.
+pub const MOST_TOLERANCE: usize = 10_000;
+
 // How a walk ended: all its pieces were met, with so many cuts made by then; at a piece at the finest level that is not flat; or at a cut past the caller's most.
 pub enum Walked {
     Cuts(usize),

@@ -20,7 +20,7 @@ use Rattle.shape.specs.declared.Refusal.{Refusal}
 use Rattle.shape.specs.declared.Judged.the-variants.{Sound, Unsound}
 use Rattle.shape.specs.declared.Checked.the-variants.{Fine, Bad}
 use Rattle.shape.specs.Shape.{lastBasis, basisOf, spansOf, allowed}
-use Rattle.shape.specs.Refusals.{Row, judge, First, NoRow, shapeRows, planOf, judgeShape, outside, firstOutside, limitsRow, listRows, judgeLists}
+use Rattle.shape.specs.Refusals.{Row, judge, First, NoRow, shapeRows, planOf, judgeShape, outside, firstOutside, limitsRow, controlRows, judgeControls, listRows, judgeLists}
 use Rattle.shape.specs.Inner.{Good, Lent}
 use Rattle.shape.proofs.Tests.{passes, and-true, or-false}
 use Rattle.shape.proofs.Spans.{allowed-facts, spans-below, last-record}
@@ -205,6 +205,21 @@ module _ (rows : List Row) where
   pub rows-fine {ℓ} : {A : Type ℓ} → judge rows Bad Fine ≡ Fine → (rest : List Row) (f : Refusal → A) (a : A) → judge (rows ++ rest) f a ≡ judge rest f a
   rows-fine e rest f a = judge-append rows rest f a ∙ judge-none rows f (judge rest f a) (rows-none e)
 
+-- ---- the controls, in a call whose table goes on from them
+
+module _ (n : ℕ) (controls : List ℤ) where
+  pub controls-bad {ℓ} : {A : Type ℓ} (r : Refusal) → judgeControls n controls ≡ Bad r → (rest : List Row) (f : Refusal → A) (a : A) → judge (controlRows n n controls ++ rest) f a ≡ f r
+  unfolding judgeControls
+  controls-bad r e rest f a = rows-bad (controlRows n n controls) r e rest f a
+
+  pub controls-fine {ℓ} : {A : Type ℓ} → judgeControls n controls ≡ Fine → (rest : List Row) (f : Refusal → A) (a : A) → judge (controlRows n n controls ++ rest) f a ≡ judge rest f a
+  unfolding judgeControls
+  controls-fine e rest f a = rows-fine (controlRows n n controls) e rest f a
+
+  pub controls-none : judgeControls n controls ≡ Fine → NoRow (controlRows n n controls)
+  unfolding judgeControls
+  controls-none e = rows-none (controlRows n n controls) e
+
 module _ (n : ℕ) (controls : List ℤ) (points len : ℕ) where
   pub bad-first : (r : Refusal) → judgeLists n controls points len ≡ Bad r → First (listRows n controls points len) r
   unfolding judgeLists
@@ -240,6 +255,12 @@ module _ (n : ℕ) (controls : List ℤ) (points len : ℕ) where
   none-facts none =
       let rows = listRows n controls points len in
       lent-facts (ltb-false (length controls) (2 * n) (row-fails 7 rows none)) (row-fails 8 rows none) (ltb-false len (2 * points) (row-fails 9 rows none))
+
+  -- the controls' rows alone, where the points are known to have room
+  pub controls-facts : NoRow (controlRows n n controls) → 2 * points ≤ len → Lent n controls points len
+  controls-facts none points-room =
+      let rows = controlRows n n controls in
+      lent-facts (ltb-false (length controls) (2 * n) (row-fails 7 rows none)) (row-fails 8 rows none) points-room
 
   pub fine-facts : judgeLists n controls points len ≡ Fine → Lent n controls points len
   fine-facts e = none-facts (fine-none e)

@@ -88,6 +88,9 @@ limitsRow n controls = row (ltb (firstOutside controls n) n) 8 (firstOutside con
 abbrev pub controlRows : ℕ → ℕ → List ℤ → List Row
 controlRows most n controls = controlsRow most controls ∷ limitsRow n controls ∷ []
 
+unfoldable pub judgeControls : ℕ → List ℤ → Checked
+judgeControls n controls = judge (controlRows n n controls) Bad Fine
+
 -- ---- row 9: the points
 
 -- A list of `len` numbers holds `points` points.

@@ -5,7 +5,7 @@ ghost use Prim.Native.Nat.{_*_, _^_, _≤_};
 ghost use lib.ListN.{length};
 ghost use Rattle.curve.specs.Ways.{deepest};
 ghost use Rattle.shape.specs.Shape.{basisOf, shared, spansOf, lastUsing, recordsOf, allowed, pointsOf, mostRecords, mostPoints};
-ghost use Rattle.shape.specs.Refusals.{judgeShape, judgeLists, firstOutside};
+ghost use Rattle.shape.specs.Refusals.{judgeShape, judgeControls, judgeLists, firstOutside};
 use curve::Basis;
 use curve::DEEPEST;
 use curve::LIMIT;
@@ -192,11 +192,10 @@ pub fn first_outside(controls: &[i32], count: usize) -> usize
     count
 }
 
-// The checks of the lent lists in the paper's order, 7, 8, 9: `count` records in `controls`, inside the limits, and room for `points` points in a list of `len` numbers.
-// For crates that have checked the shape.
-pub fn check_lists(count: usize, controls: &[i32], points: usize, len: usize) -> Checked
-    requires { ⌜ (count ≤ mostRecords) × (points ≤ mostPoints) ⌝ }
-    ensures { λ r. ⌜ r ≡ judgeLists count (now (controls .entry)) points len ⌝ }
+// The checks of the lent controls in the paper's order, 7 and 8: `count` records in the list, inside the limits. For crates that have checked the shape.
+pub fn check_controls(count: usize, controls: &[i32]) -> Checked
+    requires { ⌜ count ≤ mostRecords ⌝ }
+    ensures { λ r. ⌜ r ≡ judgeControls count (now (controls .entry)) ⌝ }
 {
     if controls.len() < 2 * count {
         return Checked::Bad(Refusal {
@@ -210,6 +209,17 @@ pub fn check_lists(count: usize, controls: &[i32], points: usize, len: usize) ->
             number: 8,
             place: at,
         });
+    }
+    Checked::Fine
+}
+
+// The checks of the lent lists, 7, 8, 9: the controls, and room for `points` points in a list of `len` numbers. For crates that have checked the shape.
+pub fn check_lists(count: usize, controls: &[i32], points: usize, len: usize) -> Checked
+    requires { ⌜ (count ≤ mostRecords) × (points ≤ mostPoints) ⌝ }
+    ensures { λ r. ⌜ r ≡ judgeLists count (now (controls .entry)) points len ⌝ }
+{
+    if let Checked::Bad(refusal) = check_controls(count, controls) {
+        return Checked::Bad(refusal);
     }
     if len < 2 * points {
         return Checked::Bad(Refusal {

@@ -1,10 +1,14 @@
--- What a list of controls that spans can be drawn from gives: each span's sixfold controls are ready on both axes, over the divisor of the basis.
+-- Passed checks give a list of controls that spans can be drawn from, and that gives each span's sixfold controls, ready on both axes, over the divisor of the basis.
 use mathlib.Core.List.{List}
 use Prim.Native.Nat.{ℕ, _<_}
+use native.Mathlib.Omega.{arith}
 use lib.IntN.{ℤ}
 use Rattle.curve.specs.Span.{coordinate, records, divisor}
 use Rattle.curve.proofs.Limits.{sum-size, sixfold-inside}
+use Rattle.shape.specs.declared.Shape.{Shape}
 use Rattle.shape.specs.declared.Plan.{Plan}
+use Rattle.shape.specs.Inner.{Good, Lent}
+use Rattle.shape.proofs.Refusals.{good-records, lent-inside}
 use Rattle.spans.specs.Inner.{Ready, Drawable}
 use Rattle.spans.proofs.Numbers.{spanControls}
 
@@ -13,3 +17,11 @@ span-ready p controls d s axis h a =
     let q = records (p .basis) s (coordinate controls axis) in
     let inside = d .inside s axis h a in
     record { inside = sixfold-inside (p .basis) q inside; near = λ i n. sum-size (p .basis) (p .depth) i q n inside }
+
+pub drawable : (s : Shape) (p : Plan) → Good s p → (controls : List ℤ) (k len : ℕ) → Lent (s .count) controls k len → Drawable p controls
+drawable s p good controls k len lent =
+    record {
+      few = omega (arith, good .spans-most, good .records-most);
+      held = λ t h. omega (arith, good-records s p good t h, lent .room);
+      inside = λ t axis h a. lent-inside (s .count) controls k len lent axis _ a (good-records s p good t h);
+    }

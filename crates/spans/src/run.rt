@@ -31,7 +31,7 @@ pub enum Way {
 }
 
 // The sixfold controls of a span on an axis: 0 is x, 1 is y.
-fn span_controls(controls: &[i32], plan: Plan, span: usize, axis: usize) -> Four
+pub fn span_controls(controls: &[i32], plan: Plan, span: usize, axis: usize) -> Four
     requires { ⌜ (span < plan .spans) × (axis < 2) ⌝ }
     requires { ⌜ Drawable plan (now controls) ⌝ }
     ensures { λ r. ⌜ r ≡ sixfoldControls (plan .basis) (records (plan .basis) span (coordinate (now (controls .entry)) axis)) ⌝ }

@@ -18,9 +18,10 @@ use Rattle.shape.proofs.Spans.{points-at-most}
 use Rattle.spans.specs.Numbers.{perSpan}
 use Rattle.spans.specs.Filled.{fills, fillsRun}
 use Rattle.spans.specs.Inner.{Drawable}
+use Rattle.spans.proofs.Drawables.{drawable}
 use Rattle.outline.specs.declared.Drawn.the-variants.{Done}
 use Rattle.outline.specs.Outline.{points}
-use Rattle.outline.proofs.Draws.{all-numbers, plan-bad, plan-drawn, drawable}
+use Rattle.outline.proofs.Draws.{all-numbers, plan-bad, plan-drawn}
 use Rattle.outline.proofs.draw_plan.Statement.{statement}
 use Rattle.outline.proofs.draw_plan.Tie as tie
 

@@ -1,61 +1,56 @@
--- Each return is where a row of the table is the first that holds, or where none does; the place of row 8 is what the search found.
-use mathlib.Core.Path.{_≡_, refl, sym, subst}
-use mathlib.Core.Bool.{false}
-use mathlib.Core.Logic.{inl, inr}
-use Prim.Native.Nat.{_*_, _≤_, _<_}
-use borrow.Author.Tests.{lt-ltb, le-ltb}
-use lib.Dec.{ltb}
-use lib.ListN.{length}
-use Rattle.shape.specs.Refusals.{firstOutside}
-use Rattle.shape.proofs.Refusals.{first-bad, none-fine}
+-- The controls' rows by their own check, and then row 9.
+use mathlib.Core.Path.{_≡_, sym, ap, _∙_}
+use mathlib.Core.Bool.{cond}
+use Prim.Native.Nat.{_*_}
 use borrow.Author.Needs.{needs}
+use borrow.Author.Tests.{lt-ltb, le-ltb}
+use Rattle.shape.specs.declared.Checked.the-variants.{Fine, Bad}
+use Rattle.shape.specs.Refusals.{judge, judgeLists, pointRows}
+use Rattle.shape.proofs.Refusals.{controls-bad, controls-fine}
 use Rattle.shape.proofs.check_lists.Statement.{statement}
 use Rattle.shape.proofs.check_lists.Tie as tie
+
+check-controls-requires : tie.Need-check-controls-requires
+check-controls-requires c κs = search needs
+
+enum-known-refusal : tie.Need-enum-known-refusal
+enum-known-refusal c = search needs
+
+returns : tie.Need-returns
+unfolding judgeLists
+returns c =
+    let k = c .before .before .before in
+    let a = k .before .args in
+    sym (controls-bad (a .count) (a .controls .now) (c .before .refusal .given .0 .0) (sym (k .check-controls .ensures) ∙ c .before .refusal .given .1) (pointRows (a .points) (a .len)) Bad Fine)
+
+enum-told : tie.Need-enum-told
+enum-told c = search needs
+
+-- the controls are fine: row 9 is left
+left : (c : tie.After-enum-told) → judgeLists (c .before .before .before .args .count) (c .before .before .before .args .controls .now) (c .before .before .before .args .points) (c .before .before .before .args .len)
+    ≡ judge (pointRows (c .before .before .before .args .points) (c .before .before .before .args .len)) Bad Fine
+unfolding judgeLists
+left c =
+    let k = c .before .before in
+    let a = k .before .args in
+    controls-fine (a .count) (a .controls .now) (sym (k .check-controls .ensures) ∙ c .enum-told .given .1) (pointRows (a .points) (a .len)) Bad Fine
 
 mul-if1 : tie.Need-mul-if1
 mul-if1 c = search needs
 
-returns : tie.Need-returns
-returns c =
-    let a = c .before .args in
-    sym (first-bad (a .count) (a .controls .now) (a .points) (a .len) (record { number = 7; place = 0 }) (inl (lt-ltb (length (a .controls .now)) (2 * a .count) (c .if1 .taken), refl)))
-
-first-outside-requires : tie.Need-first-outside-requires
-first-outside-requires c κs = search needs
-
--- the tests of rows 7 and 8 that did not hold
-room : (c : tie.Else1) → ltb (length (c .before .args .controls .now)) (2 * c .before .args .count) ≡ false
-room c = le-ltb (length (c .before .args .controls .now)) (2 * c .before .args .count) (c .if1 .left)
-
-inside : (c : tie.Else2) → ltb (firstOutside (c .before .before .before .args .controls .now) (c .before .before .before .args .count)) (c .before .before .before .args .count) ≡ false
-inside c =
-    let a = c .before .before .before .args in
-    le-ltb (firstOutside (a .controls .now) (a .count)) (a .count) (subst (λ n. a .count ≤ n) (c .before .first-outside .ensures) (c .if2 .left))
-
 returns-2 : tie.Need-returns-2
+unfolding judge
 returns-2 c =
-    let a = c .before .before .before .args in
-    let at = c .before .first-outside .result in
-    let found = c .before .first-outside .ensures in
-    let holds = lt-ltb (firstOutside (a .controls .now) (a .count)) (a .count) (subst (λ n. n < a .count) found (c .if2 .taken)) in
-    sym (first-bad (a .count) (a .controls .now) (a .points) (a .len) (record { number = 8; place = at }) (inr (room (c .before .before), inl (holds, (λ k. record { number = 8; place = sym found k })))))
-
-mul-if3 : tie.Need-mul-if3
-mul-if3 c = search needs
+    let t = c .before in
+    let a = t .before .before .before .args in
+    sym (left t ∙ ap (λ b. cond b (Bad (record { number = 9; place = 0 })) Fine) (lt-ltb (a .len) (2 * a .points) (c .if1 .taken)))
 
 returns-3 : tie.Need-returns-3
+unfolding judge
 returns-3 c =
-    let a = c .before .before .before .before .args in
-    sym
-    (first-bad (a .count) (a .controls .now) (a .points) (a .len) (record { number = 9; place = 0 })
-    (inr (room (c .before .before .before), inr (inside (c .before), inl (lt-ltb (a .len) (2 * a .points) (c .if3 .taken), refl)))))
-
-returns-4 : tie.Need-returns-4
-returns-4 c =
-    let a = c .before .before .before .before .args in
-    sym (none-fine (a .count) (a .controls .now) (a .points) (a .len) (room (c .before .before .before), (inside (c .before), (le-ltb (a .len) (2 * a .points) (c .if3 .left), tt))))
+    let t = c .before in
+    let a = t .before .before .before .args in
+    sym (left t ∙ ap (λ b. cond b (Bad (record { number = 9; place = 0 })) Fine) (le-ltb (a .len) (2 * a .points) (c .if1 .left)))
 
 pub check-lists-spec : {M : Type 1} → statement M
-check-lists-spec =
-    tie.close
-    (tie.spec mul-if1 returns first-outside-requires returns-2 mul-if3 returns-3 returns-4)
+check-lists-spec = tie.close (tie.spec check-controls-requires enum-known-refusal returns enum-told mul-if1 returns-2 returns-3)
