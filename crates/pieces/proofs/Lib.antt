@@ -4,3 +4,8 @@ pub mod Walks
 pub mod Writes
 pub mod Scaled
 pub mod Starts
+pub mod Even
+pub mod Deep
+pub mod Tolerant
+pub mod Stepped
+pub mod Scans

@@ -82,7 +82,7 @@ module _ (p : Plan) (controls : List ℤ) (t j : ℕ) (there : t < p .spans) whe
   next : 2 ^ k ≡ j / 2 → q / 2 ≡ suc t * 2 ^ k + 0
   next e = omega (arith, half, suc-mul t (2 ^ k))
 
-  span-sum : j < perSpan k + 2 → sumOf p controls q ≡ sumAt b k (records b t at) (j / 2)
+  pub span-sum : j < perSpan k + 2 → sumOf p controls q ≡ sumAt b k (records b t at) (j / 2)
   span-sum within =
       ⊎-elim (λ (before : j / 2 < 2 ^ k). stands t (j / 2) (span-of t (j / 2) half before ∙ min-eq-left (omega arith)) half)
       (λ (past : 2 ^ k ≤ j / 2).

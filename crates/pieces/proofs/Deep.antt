@@ -1,0 +1,145 @@
+-- Which trees have a rough piece. With a cut the first second difference of the left half and the last one of the right half are twice as large, and no other is larger than that, while the divisor is eight
+-- times as large. So the larger second difference is a quarter with each cut, and it is all pieces that are flat at the finest level, or one of the outermost is not.
+use mathlib.Core.Path.{_≡_, refl, sym, ap, _∙_, subst}
+use mathlib.Core.Bool.{true, false, _&&_}
+use mathlib.Core.List.{List, [], _∷_}
+use mathlib.Core.Logic.{⊎-elim}
+use Prim.Native.Nat.{ℕ, zero, suc, _+_, _*_, _^_, max, _≤_}
+use native.Mathlib.Nat.{pow-suc, mul-one, mul-assoc, mul-le-mul, le-refl, le-trans, le-mul-of-pos-right, one-le-pow}
+use native.Mathlib.Omega.{arith}
+use borrow.Author.Tests.{leb-true, le-leb}
+use lib.Dec.{lit<}
+use lib.IntN.{ℤ, pos, natAbs, _+ℤ_, _*ℤ_}
+use lib.Pow.{pow-add}
+use Rattle.whole.proofs.Ring.{Ex, var, _⊗_, _⊕_, _⊖_, solve}
+use Rattle.whole.proofs.Order.{pos-injective}
+use Rattle.whole.proofs.Fit.{natAbs-add, natAbs-mul}
+use Rattle.curve.specs.declared.Four.{Four}
+use Rattle.curve.specs.Bend.{bend, firstBend, lastBend}
+use Rattle.curve.specs.Ways.{leftHalf, rightHalf}
+use Rattle.curve.proofs.Reflect.{Fourᵉ, p, num, leftᵉ, rightᵉ}
+use Rattle.shape.proofs.Tests.{passes, and-true, true-is-not-false}
+use Rattle.pieces.specs.Tree.{Piece, leftPiece, rightPiece, flatOn, isFlat, Tree, Flat, Rough, Cut, tree, Sound}
+use Rattle.pieces.specs.Inner.{divisorAt}
+use Rattle.pieces.proofs.Trees.{tree-flat, tree-rough, tree-cut}
+
+-- ---- the second differences of the halves
+
+abbrev firstᵉ : Fourᵉ → Ex
+firstᵉ q = q .a ⊖ num 2 ⊗ q .b ⊕ q .c
+
+abbrev lastᵉ : Fourᵉ → Ex
+lastᵉ q = q .b ⊖ num 2 ⊗ q .c ⊕ q .d
+
+module _ (q : Four) where
+  abbrev r : List ℤ
+  r = q .a ∷ q .b ∷ q .c ∷ q .d ∷ []
+
+  left-first : firstBend (leftHalf q) ≡ pos 2 *ℤ firstBend q
+  unfolding leftHalf
+  left-first = solve r (firstᵉ (leftᵉ p)) (num 2 ⊗ firstᵉ p) tt
+
+  left-last : lastBend (leftHalf q) ≡ firstBend q +ℤ lastBend q
+  unfolding leftHalf
+  left-last = solve r (lastᵉ (leftᵉ p)) (firstᵉ p ⊕ lastᵉ p) tt
+
+  right-first : firstBend (rightHalf q) ≡ firstBend q +ℤ lastBend q
+  unfolding rightHalf
+  right-first = solve r (firstᵉ (rightᵉ p)) (firstᵉ p ⊕ lastᵉ p) tt
+
+  right-last : lastBend (rightHalf q) ≡ pos 2 *ℤ lastBend q
+  unfolding rightHalf
+  right-last = solve r (lastᵉ (rightᵉ p)) (num 2 ⊗ lastᵉ p) tt
+
+  -- in size
+  twice-first : natAbs (firstBend (leftHalf q)) ≡ 2 * natAbs (firstBend q)
+  twice-first = ap natAbs left-first ∙ natAbs-mul (pos 2) (firstBend q)
+
+  twice-last : natAbs (lastBend (rightHalf q)) ≡ 2 * natAbs (lastBend q)
+  twice-last = ap natAbs right-last ∙ natAbs-mul (pos 2) (lastBend q)
+
+  -- neither half's is more than twice as large
+  pub left-bend : bend (leftHalf q) ≤ 2 * bend q
+  unfolding bend
+  left-bend = omega (arith, twice-first, ap natAbs left-last, natAbs-add (firstBend q) (lastBend q))
+
+  pub right-bend : bend (rightHalf q) ≤ 2 * bend q
+  unfolding bend
+  right-bend = omega (arith, twice-last, ap natAbs right-first, natAbs-add (firstBend q) (lastBend q))
+
+  -- and one of the two's is
+  pub halves-bend : 2 * bend q ≤ max (bend (leftHalf q)) (bend (rightHalf q))
+  unfolding bend
+  halves-bend = omega (arith, twice-first, twice-last)
+
+-- ---- how large they may be, with some levels left
+
+-- four times the tolerance, over the divisor of a level, and four times as much with each level left
+abbrev pub bound : ℕ → ℕ → ℕ → ℕ
+bound tolerance level left = 4 * (tolerance * (divisorAt level * 4 ^ left))
+
+next-bound : (tolerance level left : ℕ) → bound tolerance (level + 1) left ≡ 2 * bound tolerance level (suc left)
+next-bound tolerance level left =
+    let finer : divisorAt (level + 1) ≡ divisorAt level * 8 =
+    let three : 3 * (level + 1) ≡ 3 * level + 3 = omega arith in
+    ap (λ (n : ℕ). 6 * 2 ^ n) three ∙ ap (λ (n : ℕ). 6 * n) (pow-add 2 (3 * level) 3) ∙ sym (mul-assoc 6 (2 ^ (3 * level)) 8) in
+    let t = pos tolerance in
+    let d = pos (divisorAt level) in
+    let e = pos (4 ^ left) in
+    ap (λ (n : ℕ). 4 * (tolerance * (n * 4 ^ left))) finer
+    ∙ pos-injective (solve (t ∷ d ∷ e ∷ []) (num 4 ⊗ (var 0 ⊗ (var 1 ⊗ num 8 ⊗ var 2))) (num 2 ⊗ (num 4 ⊗ (var 0 ⊗ (var 1 ⊗ (var 2 ⊗ num 4))))) tt)
+    ∙ ap (λ (n : ℕ). 2 * (4 * (tolerance * (divisorAt level * n)))) (sym (pow-suc 4 left))
+
+-- where none is left, that is the test of a flat piece
+none-left : (tolerance level : ℕ) → bound tolerance level 0 ≡ 4 * (tolerance * divisorAt level)
+none-left tolerance level = ap (λ (n : ℕ). 4 * (tolerance * n)) (mul-one (divisorAt level))
+
+more-left : (tolerance level left : ℕ) → 4 * (tolerance * divisorAt level) ≤ bound tolerance level left
+more-left tolerance level left = mul-le-mul (le-refl 4) (mul-le-mul (le-refl tolerance) (le-mul-of-pos-right (divisorAt level) (one-le-pow left 4 (lit< tt))))
+
+-- both axes within it
+pub record Within (n : ℕ) (p : Piece) : Type 0 where
+  pub on-x : 3 * bend (p .x) ≤ n
+  pub on-y : 3 * bend (p .y) ≤ n
+
+pub flat-within : (tolerance : ℕ) (p : Piece) → isFlat divisorAt tolerance p ≡ true → Within (4 * (tolerance * divisorAt (p .level))) p
+unfolding isFlat
+flat-within tolerance p e =
+    let (x, y) = and-true (flatOn (divisorAt (p .level)) tolerance (p .x)) (flatOn (divisorAt (p .level)) tolerance (p .y)) e in
+    record { on-x = leb-true _ _ x; on-y = leb-true _ _ y }
+
+pub within-flat : (tolerance : ℕ) (p : Piece) → Within (4 * (tolerance * divisorAt (p .level))) p → isFlat divisorAt tolerance p ≡ true
+unfolding isFlat
+within-flat tolerance p w = λ i. le-leb _ _ (w .on-x) i && le-leb _ _ (w .on-y) i
+
+-- ---- a tree is sound exactly where its piece is within the bound
+
+pub within-sound : (tolerance left : ℕ) (p : Piece) → Within (bound tolerance (p .level) left) p → Sound (tree divisorAt tolerance left p)
+unfolding Sound
+within-sound tolerance zero p w =
+    let e = none-left tolerance (p .level) in
+    subst Sound (sym (tree-flat divisorAt tolerance p 0 (within-flat tolerance p (subst (λ (n : ℕ). Within n p) e w)))) tt
+within-sound tolerance (suc left) p w =
+    let e = next-bound tolerance (p .level) left in
+    let l = within-sound tolerance left (leftPiece p) (record { on-x = omega (arith, e, w .on-x, left-bend (p .x)); on-y = omega (arith, e, w .on-y, left-bend (p .y)) }) in
+    let r = within-sound tolerance left (rightPiece p) (record { on-x = omega (arith, e, w .on-x, right-bend (p .x)); on-y = omega (arith, e, w .on-y, right-bend (p .y)) }) in
+    ⊎-elim (λ (flat : isFlat divisorAt tolerance p ≡ true). subst Sound (sym (tree-flat divisorAt tolerance p (suc left) flat)) tt)
+    (λ (not : isFlat divisorAt tolerance p ≡ false). subst Sound (sym (tree-cut divisorAt tolerance p left not)) (l, r))
+    (passes (isFlat divisorAt tolerance p))
+
+pub sound-within : (tolerance left : ℕ) (p : Piece) → Sound (tree divisorAt tolerance left p) → Within (bound tolerance (p .level) left) p
+unfolding Sound
+sound-within tolerance zero p s =
+    ⊎-elim (λ (flat : isFlat divisorAt tolerance p ≡ true). subst (λ (n : ℕ). Within n p) (sym (none-left tolerance (p .level))) (flat-within tolerance p flat))
+    (λ (not : isFlat divisorAt tolerance p ≡ false). absurd (subst Sound (tree-rough divisorAt tolerance p not) s))
+    (passes (isFlat divisorAt tolerance p))
+sound-within tolerance (suc left) p s =
+    let e = next-bound tolerance (p .level) left in
+    let more = more-left tolerance (p .level) (suc left) in
+    ⊎-elim (λ (flat : isFlat divisorAt tolerance p ≡ true). let w = flat-within tolerance p flat in record { on-x = le-trans (w .on-x) more; on-y = le-trans (w .on-y) more })
+    (λ (not : isFlat divisorAt tolerance p ≡ false).
+    let (l, r) = subst Sound (tree-cut divisorAt tolerance p left not) s in
+    let u = sound-within tolerance left (leftPiece p) l in
+    let v = sound-within tolerance left (rightPiece p) r in
+    record { on-x = omega (arith, e, u .on-x, v .on-x, halves-bend (p .x)); on-y = omega (arith, e, u .on-y, v .on-y, halves-bend (p .y)) })
+    (passes (isFlat divisorAt tolerance p))
