@@ -1,10 +1,10 @@
 -- How large second differences and divisors are at the levels that pieces have.
-use mathlib.Core.Path.{_≡_, refl, sym, ap, _∙_}
+use mathlib.Core.Path.{_≡_}
 use mathlib.Core.List.{[], _∷_}
 use Prim.Native.Nat.{ℕ, _+_, _*_, _%_, _^_, _≤_, _<_}
-use native.Mathlib.Nat.{le-refl, le-trans, mul-le-mul, mod-eq-of-lt, lt-of-le-of-lt}
+use native.Mathlib.Nat.{le-refl, mul-le-mul, mod-eq-of-lt, lt-of-le-of-lt}
 use native.Mathlib.Omega.{arith}
-use lib.Dec.{lit≤, lit<}
+use lib.Dec.{lit<}
 use lib.IntN.{pos, natAbs}
 use lib.Pow.{pow-mono}
 use Rattle.whole.proofs.Ring.{var, lit, _⊕_, _⊖_, _⊗_}

@@ -1,6 +1,6 @@
 -- Which trees have a rough piece. With a cut the first second difference of the left half and the last one of the right half are twice as large, and no other is larger than that, while the divisor is eight
 -- times as large. So the larger second difference is a quarter with each cut, and it is all pieces that are flat at the finest level, or one of the outermost is not.
-use mathlib.Core.Path.{_≡_, refl, sym, ap, _∙_, subst}
+use mathlib.Core.Path.{_≡_, sym, ap, _∙_, subst}
 use mathlib.Core.Bool.{true, false, _&&_}
 use mathlib.Core.List.{List, [], _∷_}
 use mathlib.Core.Logic.{⊎-elim}
@@ -18,8 +18,8 @@ use Rattle.curve.specs.declared.Four.{Four}
 use Rattle.curve.specs.Bend.{bend, firstBend, lastBend}
 use Rattle.curve.specs.Ways.{leftHalf, rightHalf}
 use Rattle.curve.proofs.Reflect.{Fourᵉ, p, num, leftᵉ, rightᵉ}
-use Rattle.shape.proofs.Tests.{passes, and-true, true-is-not-false}
-use Rattle.pieces.specs.Tree.{Piece, leftPiece, rightPiece, flatOn, isFlat, Tree, Flat, Rough, Cut, tree, Sound}
+use Rattle.shape.proofs.Tests.{passes, and-true}
+use Rattle.pieces.specs.Tree.{Piece, leftPiece, rightPiece, flatOn, isFlat, tree, Sound}
 use Rattle.pieces.specs.Inner.{divisorAt}
 use Rattle.pieces.proofs.Trees.{tree-flat, tree-rough, tree-cut}
 

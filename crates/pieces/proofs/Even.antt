@@ -2,14 +2,13 @@
 -- levels left carries them down the tree. Each is rounded to the same number, and is exact where that is.
 use mathlib.Core.Path.{_≡_, refl, sym, ap, _∙_, subst}
 use mathlib.Core.Bool.{true, false}
-use mathlib.Core.List.{List, [], _∷_, _++_, map, map-append}
+use mathlib.Core.List.{List, [], _∷_, _++_, map-append}
 use mathlib.Core.Logic.{⊎-elim}
 use Prim.Native.Nat.{ℕ, zero, suc, _+_, _*_, _-_, _^_, _≤_, _<_}
 use native.Mathlib.Nat.{add-zero, add-assoc, mul-pos, suc-mul}
 use native.Mathlib.Omega.{arith}
 use lib.Dec.{lit<}
 use lib.IntN.{ℤ, pos, negsuc, negℤ, _*ℤ_}
-use lib.ListN.{length}
 use lib.Pow.{pow-pos}
 use Rattle.whole.specs.Nearest.{nearest, remainder}
 use Rattle.whole.proofs.Nearest.{nearest-scale}
@@ -23,13 +22,12 @@ use Rattle.shape.proofs.Tests.{passes}
 use Rattle.spans.specs.Numbers.{nought, noughts}
 use Rattle.spans.specs.Inner.{wholes, remainders}
 use Rattle.spans.proofs.Rounds.{noughts-append}
-use Rattle.pieces.specs.Tree.{finest, Piece, piece, leftPiece, rightPiece, isFlat, Tree, Flat, Rough, Cut, tree}
-use Rattle.pieces.specs.Values.{Value, value, both, start, starts, numbers, exactOf}
+use Rattle.pieces.specs.Tree.{finest, Piece, leftPiece, rightPiece, isFlat, Tree, tree}
+use Rattle.pieces.specs.Values.{Value, both, start, starts, numbers, exactOf}
 use Rattle.pieces.specs.Steps.{stepsIn}
 use Rattle.pieces.specs.Inner.{divisorAt}
 use Rattle.pieces.proofs.Trees.{tree-flat, tree-rough, tree-cut}
 use Rattle.pieces.proofs.Scaled.{finer, start-sum}
-use Rattle.pieces.proofs.Starts.{starts-cut}
 use Rattle.pieces.proofs.Writes.{numbers-append, exact-append}
 
 -- the sums of both axes at some steps, x then y

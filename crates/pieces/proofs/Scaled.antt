@@ -1,9 +1,8 @@
 -- The start of a piece, and the sum of the even outline at the finest level there: the same fraction, with both parts as many times as large as cuts are left. So it is rounded to the same
 -- number, is exact where that is, and is within the reach of its own divisor.
 use mathlib.Core.Path.{_≡_, sym, ap, _∙_, subst}
-use mathlib.Core.List.{[], _∷_}
-use Prim.Native.Nat.{ℕ, _+_, _*_, _-_, _^_, _≤_, _<_}
-use native.Mathlib.Nat.{mul-assoc, mul-comm, mul-left-comm, mul-pos, le-of-mul-le-mul-left}
+use Prim.Native.Nat.{ℕ, _+_, _*_, _-_, _^_, _≤_}
+use native.Mathlib.Nat.{mul-assoc, mul-left-comm, le-of-mul-le-mul-left}
 use native.Mathlib.Omega.{arith}
 use lib.IntN.{ℤ, pos, natAbs, _*ℤ_}
 use lib.Pow.{pow-pos, pow-add}

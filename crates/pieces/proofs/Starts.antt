@@ -1,7 +1,7 @@
 -- The starts of a sound tree, kind of piece by kind of piece, and how many numbers they are: two for each flat piece, and there is one flat piece more than there are cuts.
 use mathlib.Core.Path.{_≡_, refl, sym, ap, _∙_, subst}
 use mathlib.Core.Bool.{Bool, true, false, cond}
-use mathlib.Core.List.{List, [], _∷_, _++_}
+use mathlib.Core.List.{_++_}
 use mathlib.Core.Logic.{⊎-elim}
 use Prim.Native.Nat.{ℕ, zero, suc, _+_, _*_, _^_, _≤_, _<_}
 use native.Mathlib.Omega.{arith}
@@ -12,7 +12,7 @@ use Rattle.curve.specs.declared.Four.{Four}
 use Rattle.curve.proofs.Powers.{doubled}
 use Rattle.shape.proofs.Tests.{either, passes}
 use Rattle.pieces.specs.Tree.{finest, Piece, piece, leftPiece, rightPiece, isFlat, Tree, Flat, Rough, Cut, tree, cuts, Sound}
-use Rattle.pieces.specs.Values.{Value, both, start, starts}
+use Rattle.pieces.specs.Values.{start, starts}
 use Rattle.pieces.specs.Inner.{divisorAt, treeAt}
 use Rattle.pieces.proofs.Trees.{at-finest}
 

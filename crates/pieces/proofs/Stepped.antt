@@ -3,7 +3,7 @@ use mathlib.Core.Path.{_≡_, refl, sym, ap, _∙_, subst}
 use mathlib.Core.Bool.{true, false}
 use mathlib.Core.List.{List, [], _∷_, _++_}
 use mathlib.Core.Logic.{⊎-elim}
-use Prim.Native.Nat.{ℕ, zero, suc, _+_, _*_, _^_, _≤_, _<_}
+use Prim.Native.Nat.{ℕ, zero, suc, _+_, _^_, _≤_}
 use native.Mathlib.Nat.{le-trans}
 use native.Mathlib.Omega.{arith}
 use lib.ListN.{length, length-append}
@@ -45,6 +45,10 @@ steps-begin left from (Rough p) = ([], refl)
 steps-begin zero from (Cut l r) = ([], refl)
 steps-begin (suc left) from (Cut l r) = let (rest, e) = steps-begin left from l in (rest ++ stepsIn left (from + 2 ^ left) r, ap (λ a. a ++ stepsIn left (from + 2 ^ left) r) e)
 
+-- the rule of all steps
+abbrev pub itself : ℕ → ℕ
+itself n = n
+
 -- ---- of a tree with `left` levels: one for each piece, and all of them where every piece above the finest level is cut
 
 module _ (d : ℕ → ℕ) (tolerance : ℕ) where
@@ -63,10 +67,6 @@ module _ (d : ℕ → ℕ) (tolerance : ℕ) where
       subst P (sym (tree-cut d tolerance p left not))
       (length-append (stepsIn left from l) (stepsIn left (from + 2 ^ left) r) ∙ omega (arith, steps-count left from (leftPiece p), steps-count left (from + 2 ^ left) (rightPiece p))))
       (passes (isFlat d tolerance p))
-
-  -- all steps, as many as there are
-  abbrev itself : ℕ → ℕ
-  itself n = n
 
   pub steps-all : (left from : ℕ) (p : Piece) → cuts (tree d tolerance left p) + 1 ≡ 2 ^ left → stepsIn left from (tree d tolerance left p) ≡ tab itself from (2 ^ left)
   unfolding stepsIn cuts tab

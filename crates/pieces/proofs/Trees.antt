@@ -1,14 +1,14 @@
 -- The tree of a piece by its level: a flat piece is a leaf, one at the finest level that is not flat is rough, and any other is cut; its halves can be cut on.
-use mathlib.Core.Path.{_≡_, refl, sym, ap, _∙_, subst}
+use mathlib.Core.Path.{_≡_, sym, ap, _∙_, subst}
 use mathlib.Core.Bool.{true, false, cond}
-use Prim.Native.Nat.{ℕ, zero, suc, _+_, _-_, _^_, _≤_, _<_}
+use Prim.Native.Nat.{ℕ, zero, suc, _+_, _-_, _^_, _<_}
 use native.Mathlib.Omega.{arith}
 use Rattle.curve.specs.declared.Four.{Four}
 use Rattle.curve.specs.Limits.{Inside}
 use Rattle.curve.specs.Ways.{leftHalf, rightHalf}
 use Rattle.spans.specs.Inner.{Cuttable}
 use Rattle.spans.proofs.Halves.{cut-on, cuttable-small}
-use Rattle.pieces.specs.Tree.{finest, Piece, piece, leftPiece, rightPiece, isFlat, Tree, Flat, Rough, Cut, tree}
+use Rattle.pieces.specs.Tree.{finest, Piece, piece, leftPiece, rightPiece, isFlat, Flat, Rough, Cut, tree}
 use Rattle.pieces.specs.Inner.{divisorAt, treeAt, Walkable}
 
 -- ---- what can be cut on

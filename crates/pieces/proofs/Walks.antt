@@ -1,7 +1,7 @@
 -- The walk of a tree and of trees: what each kind of piece makes of it, and that it ends with the tree's cuts exactly where every piece is flat or cut and the cuts are within the caller's most.
 use mathlib.Core.Path.{_≡_, refl, sym, ap, _∙_, subst}
 use mathlib.Core.Bool.{cond}
-use mathlib.Core.List.{List, [], _∷_}
+use mathlib.Core.List.{[], _∷_}
 use mathlib.Core.Logic.{⊎-elim}
 use Prim.Native.Nat.{ℕ, zero, suc, _+_, _≤_, _<_}
 use native.Mathlib.Omega.{arith}

@@ -1,12 +1,12 @@
 -- Exact values rounded one after another into a list: two lists of them, one after the other, are one list; so what a recursion or a loop still has to write, after what it has written, makes the whole.
-use mathlib.Core.Path.{_≡_, refl, sym, ap, _∙_}
+use mathlib.Core.Path.{_≡_, sym, ap, _∙_}
 use mathlib.Core.List.{List, [], _∷_, _++_, map, map-append}
 use Prim.Native.Nat.{ℕ, _+_, _≤_}
 use native.Mathlib.Nat.{add-zero, add-assoc}
 use native.Mathlib.Omega.{arith}
 use lib.IntN.{ℤ}
 use lib.ListN.{length, length-map, length-append}
-use lib.Seq.{sets, length-sets}
+use lib.Seq.{sets}
 use Rattle.whole.specs.Nearest.{nearest, remainder}
 use Rattle.whole.specs.Outcome.{Outcome, outcome}
 use Rattle.whole.proofs.Writes.{sets-append}

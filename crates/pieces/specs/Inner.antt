@@ -1,7 +1,6 @@
 -- For contracts inside the project alone: no public contract uses what is here.
 -- A piece on its way through the code: its tree by its level, and its starts written into a lent list.
 use mathlib.Core.List.{List}
-use mathlib.Core.Path.{_≡_}
 use Prim.Native.Nat.{ℕ, _+_, _*_, _-_, _≤_}
 use lib.IntN.{ℤ}
 use lib.ListN.{length}

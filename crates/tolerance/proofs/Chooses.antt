@@ -1,5 +1,5 @@
 -- The call's reading, taken row by row: the checks that passed drop their rows, and the first that did not is the refusal.
-use mathlib.Core.Path.{_≡_, refl, sym, ap, _∙_}
+use mathlib.Core.Path.{_≡_, sym, ap, _∙_}
 use mathlib.Core.Bool.{cond}
 use mathlib.Core.List.{List, _∷_, _++_}
 use Prim.Native.Nat.{ℕ, _*_, _≤_, _<_}
@@ -12,7 +12,7 @@ use Rattle.shape.specs.declared.Plan.{Plan}
 use Rattle.shape.specs.declared.Refusal.{Refusal}
 use Rattle.shape.specs.declared.Judged.the-variants.{Sound, Unsound}
 use Rattle.shape.specs.declared.Checked.the-variants.{Fine, Bad}
-use Rattle.shape.specs.Refusals.{Row, judge, judgeShape, judgeControls, pointRows, planOf}
+use Rattle.shape.specs.Refusals.{judge, judgeShape, judgeControls, pointRows, planOf}
 use Rattle.shape.proofs.Refusals.{sound, unsound, sound-plan, controls-bad, controls-fine}
 use Rattle.pieces.specs.declared.Walked.{Walked}
 use Rattle.pieces.specs.declared.Walked.the-variants.{Cuts, TooDeep, TooMany}

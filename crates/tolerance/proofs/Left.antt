@@ -8,17 +8,16 @@ use lib.IntN.{ℤ, pos, natAbs}
 use lib.ListN.{length, length-append}
 use Rattle.whole.proofs.Ring.{var, lit, _⊗_, solve}
 use Rattle.curve.specs.declared.Four.{Four}
-use Rattle.curve.specs.Limits.{Inside, reach}
+use Rattle.curve.specs.Limits.{reach}
 use Rattle.curve.specs.Inner.{widest}
-use Rattle.curve.specs.Span.{divisor, divisorOf, weighted}
+use Rattle.curve.specs.Span.{divisor, weighted}
 use Rattle.curve.specs.Tab.{tab}
 use Rattle.curve.proofs.Span.{weighted-end}
 use Rattle.curve.proofs.Tab.{length-tab}
 use Rattle.shape.specs.declared.Plan.{Plan}
-use Rattle.spans.specs.Inner.{Drawable, Ready}
+use Rattle.spans.specs.Inner.{Ready}
 use Rattle.spans.proofs.Drawables.{span-ready}
 use Rattle.spans.proofs.Halves.{ready-cuttable}
-use Rattle.pieces.specs.declared.Walked.{Walked}
 use Rattle.pieces.specs.declared.Walked.the-variants.{Cuts}
 use Rattle.pieces.specs.Tree.{finest, piece, Tree, cuts, allCuts}
 use Rattle.pieces.specs.Walk.{andThen, walk, walkAll}

@@ -1,2 +1,9 @@
 pub mod Left
 pub mod Chooses
+pub mod Exactly
+pub mod Unique
+pub mod Answered
+pub mod Along
+pub mod Evenly
+pub mod More
+pub mod Edges

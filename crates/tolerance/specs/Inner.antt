@@ -1,7 +1,6 @@
 -- For contracts inside the project alone: no public contract uses what is here.
 -- What a caller knows once the walk has found every piece flat or cut.
 use mathlib.Core.List.{List}
-use mathlib.Core.Path.{_≡_}
 use Prim.Native.Nat.{ℕ, _<_, _≤_}
 use lib.IntN.{ℤ}
 use Rattle.shape.specs.declared.Plan.{Plan}

@@ -11,7 +11,7 @@ use Rattle.shape.proofs.Refusals.{controls-none, controls-facts}
 use Rattle.spans.proofs.Drawables.{drawable}
 use Rattle.pieces.specs.Tree.{Sound, allCuts}
 use Rattle.pieces.proofs.Walks.{Counted, walk-all-counted}
-use Rattle.tolerance.specs.Reading.{treeOf, treesOf, cutsOf}
+use Rattle.tolerance.specs.Reading.{treeOf, treesOf}
 use Rattle.tolerance.specs.Inner.{Walkable}
 use Rattle.tolerance.proofs.Chooses.{plan-bad, plan-far, plan-deep, plan-many, plan-last}
 use Rattle.tolerance.proofs.choose_plan.Statement.{statement}

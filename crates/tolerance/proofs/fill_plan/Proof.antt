@@ -5,7 +5,7 @@ use native.Mathlib.Omega.{arith}
 use borrow.Author.Needs.{needs}
 use lib.ListN.{length}
 use Rattle.whole.specs.Outcome.{outcome}
-use Rattle.tolerance.specs.declared.Chosen.the-variants.{Done, Refused}
+use Rattle.tolerance.specs.declared.Chosen.the-variants.{Done}
 use Rattle.tolerance.specs.Reading.{cutsOf, pointsFor}
 use Rattle.tolerance.proofs.Left.{values-length, cuts-below}
 use Rattle.tolerance.proofs.Chooses.{last-short, last-room}

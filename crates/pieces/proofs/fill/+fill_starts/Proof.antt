@@ -3,7 +3,6 @@ use mathlib.Core.Path.{_≡_, sym, ap, _∙_, subst}
 use mathlib.Core.List.{[], _∷_}
 use Prim.Native.Nat.{ℕ, _+_, _*_, _-_, _≤_, _<_}
 use native.Mathlib.Omega.{arith}
-use borrow.Author.Needs.{needs}
 use borrow.Fn.Kinds.{In}
 use borrow.Fn.PlainCycle.{Measures, is, falls, and}
 use lib.IntN.{natAbs}
@@ -21,8 +20,8 @@ use Rattle.spans.proofs.Halves.{leaf-fits}
 use Rattle.spans.proofs.point.put_point.Reads as put-point-reads
 use Rattle.pieces.specs.Tree.{finest, piece, Flat, Cut, Sound}
 use Rattle.pieces.specs.Values.{starts}
-use Rattle.pieces.specs.Inner.{divisorAt, treeAt, writes, Walkable}
-use Rattle.pieces.proofs.Trees.{walkable-small, walkable-same, same-tree, walkable-left, walkable-right, at-flat, at-finest, at-cut}
+use Rattle.pieces.specs.Inner.{divisorAt, treeAt, writes}
+use Rattle.pieces.proofs.Trees.{walkable-small, walkable-same, same-tree, walkable-left, walkable-right, at-flat, at-cut}
 use Rattle.pieces.proofs.Writes.{onward, writes-append, writes-both, writes-next, writes-most}
 use Rattle.pieces.proofs.Scaled.{start-near}
 use Rattle.pieces.proofs.Starts.{sound-shallow, sound-halves, starts-flat, starts-cut, cut-length}

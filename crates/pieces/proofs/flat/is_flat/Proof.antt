@@ -1,5 +1,5 @@
 -- Where the test on x fails the piece is not flat; else it is what the test on y says.
-use mathlib.Core.Path.{_≡_, sym, ap, _∙_}
+use mathlib.Core.Path.{sym, ap, _∙_}
 use mathlib.Core.Bool.{_&&_}
 use borrow.Author.Needs.{needs}
 use Rattle.pieces.specs.Tree.{flatOn, isFlat}

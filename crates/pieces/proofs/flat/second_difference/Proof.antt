@@ -1,5 +1,5 @@
 -- Four times 2^59 is inside 64 bits, and the machine's sum is the definition's (`Fit`).
-use mathlib.Core.Path.{_≡_, ap, _∙_}
+use mathlib.Core.Path.{ap, _∙_}
 use mathlib.Core.List.{List, [], _∷_}
 use Prim.Native.Nat.{ℕ, _^_}
 use borrow.Author.Needs.{needs}

@@ -1,5 +1,5 @@
 -- An induction on the levels left: each return is what the walk of the piece's tree comes to (`Trees`, `Walks`).
-use mathlib.Core.Path.{_≡_, sym, ap, _∙_, subst}
+use mathlib.Core.Path.{_≡_, sym, ap, _∙_}
 use Prim.Native.Nat.{ℕ, _+_, _-_, _<_}
 use native.Mathlib.Omega.{arith}
 use borrow.Author.Needs.{needs}
@@ -11,7 +11,7 @@ use Rattle.curve.proofs.Four.right_half.Reads as right-half-reads
 use Rattle.pieces.specs.Tree.{finest, Cut}
 use Rattle.pieces.specs.declared.Walked.{Walked}
 use Rattle.pieces.specs.Walk.{andThen, walk}
-use Rattle.pieces.specs.Inner.{treeAt, Walkable}
+use Rattle.pieces.specs.Inner.{treeAt}
 use Rattle.pieces.proofs.Trees.{walkable-small, walkable-same, walkable-left, walkable-right, at-flat, at-finest, at-cut}
 use Rattle.pieces.proofs.Walks.{ended, walk-flat, walk-rough, walk-too-many, walk-cut}
 use Rattle.pieces.proofs.flat.is_flat.Reads as is-flat-reads

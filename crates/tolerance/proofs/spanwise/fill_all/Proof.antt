@@ -1,11 +1,10 @@
 -- What is left to write, after what is written, makes the whole; a turn takes the next span's starts off, and after the last one its end is left.
 use mathlib.Core.Path.{_≡_, refl, sym, ap, _∙_, subst}
 use mathlib.Core.List.{List, [], _∷_, _++_}
-use Prim.Native.Nat.{ℕ, _+_, _*_, _-_, _^_, _≤_, _<_}
+use Prim.Native.Nat.{ℕ, _+_, _*_, _-_, _≤_, _<_}
 use native.Mathlib.Nat.{zero-add}
 use native.Mathlib.Omega.{arith}
-use borrow.Author.Needs.{needs}
-use lib.Dec.{lit<, lit≤}
+use lib.Dec.{lit<}
 use lib.IntN.{ℤ, natAbs}
 use lib.ListN.{length, length-append}
 use lib.Seq.{sets}
@@ -22,11 +21,10 @@ use Rattle.spans.specs.Inner.{rounds}
 use Rattle.pieces.specs.declared.Filled.{Filled}
 use Rattle.pieces.specs.Tree.{Sound}
 use Rattle.pieces.specs.Values.{Value, starts, allStarts, end, numbers, exactOf}
-use Rattle.pieces.specs.Inner.{divisorAt, treeAt, writes}
+use Rattle.pieces.specs.Inner.{divisorAt, writes}
 use Rattle.pieces.proofs.Trees.{walkable-same}
 use Rattle.pieces.proofs.Writes.{onward, writes-append, writes-both, writes-next, writes-most}
 use Rattle.tolerance.specs.Reading.{controlsOf, treeOf, valuesOf}
-use Rattle.tolerance.specs.Inner.{Walkable}
 use Rattle.tolerance.proofs.Left.{span-walkable, end-near, end-inside, same-span, starts-next, starts-done}
 use Rattle.tolerance.proofs.spanwise.fill_all.Statement.{statement}
 use Rattle.tolerance.proofs.spanwise.fill_all.Tie as tie
