@@ -73,7 +73,7 @@ module _ (p : Plan) (controls : List ℤ) (q : ℕ) where
       ((λ e. whole .0 (nought-published .0 e)), (λ e. nought-published .1 (whole .1 e)))
 
   -- and counts one there
-  counts-whole : nought (remainderOf p controls q) ≡ cond (isWhole value under) 1 0
+  pub counts-whole : nought (remainderOf p controls q) ≡ cond (isWhole value under) 1 0
   counts-whole =
       let r = remainderOf p controls q in
       ⊎-elim

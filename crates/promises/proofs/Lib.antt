@@ -10,6 +10,8 @@ pub mod Sequences
 pub mod View
 pub mod Preview
 pub mod Drawing
+-- Steps chosen by tolerance (document 02, request 3):
+pub mod Tolerance
 -- Left and right doors (document 02, request 1):
 pub mod Mirror
 -- Record file, and its listing:

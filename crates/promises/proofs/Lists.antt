@@ -11,6 +11,10 @@ use Rattle.outline.specs.declared.Drawn.the-variants.{Done}
 use Rattle.outline.specs.declared.Figures.{Figures}
 use Rattle.outline.specs.Outline.{draws}
 use Rattle.outline.proofs.Lists as outline
+use Rattle.tolerance.specs.declared.Chosen.the-variants as chosen
+use Rattle.tolerance.specs.declared.Steps.{Steps}
+use Rattle.tolerance.specs.Reading.{chooses}
+use Rattle.tolerance.proofs.Answered as tolerance
 use Rattle.preview.specs.declared.Previewed.the-variants.{Drawn}
 use Rattle.preview.specs.Preview as preview
 use Rattle.preview.proofs.Lists as preview-lists
@@ -26,6 +30,10 @@ use Rattle.drawing.proofs.Lists as step-lists
 -- an accepted drawing keeps every number past the last point
 pub drawing-keeps : (s : Shape) (controls lent : List ℤ) (fs : Figures) (held : List ℤ) → draws s controls lent ≡ outcome (Done fs) held → Keeps 0 (2 * fs .points) lent held
 drawing-keeps = outline.drawn-keeps
+
+-- so does one by tolerance
+pub choosing-keeps : (s : Shape) (t most : ℕ) (controls lent : List ℤ) (f : Steps) (held : List ℤ) → chooses s t most controls lent ≡ outcome (chosen.Done f) held → Keeps 0 (2 * f .points) lent held
+choosing-keeps = tolerance.answered-keeps
 
 -- so does a preview
 pub preview-keeps : (s : Shape) (controls : List ℤ) (lent : List Float) (n : ℕ) (held : List Float) → preview.previewing s controls lent ≡ outcome (Drawn n) held → Keeps 0 (2 * n) lent held

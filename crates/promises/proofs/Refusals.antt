@@ -11,6 +11,8 @@ use Rattle.shape.specs.Refusals.{planOf}
 use Rattle.shape.specs.Exactly.{values, Exactly}
 use Rattle.outline.specs.Outline as outline
 use Rattle.outline.proofs.Exactly as outline-exactly
+use Rattle.tolerance.specs.Reading as tolerance
+use Rattle.tolerance.proofs.Exactly as tolerance-exactly
 use Rattle.asked.specs.declared.Edit.{Edit}
 use Rattle.edit.specs.Reading as edit
 use Rattle.edit.proofs.Exactly as edit-exactly
@@ -29,6 +31,13 @@ pub drawing : (s : Shape) (controls lent : List ℤ) →
     let done = outline.accepts (planOf s) controls lent in
     Exactly (outline.drawRows s controls lent) (outline.told (out .answer)) lent (out .held) (values (outline.told (done .answer))) (done .held)
 drawing = outline-exactly.exactly
+
+-- drawing by tolerance: the number of points, the number of cuts, how many coordinates are exact, and the chosen points in the lent list
+pub choosing : (s : Shape) (t most : ℕ) (controls lent : List ℤ) →
+    let out = tolerance.chooses s t most controls lent in
+    let done = tolerance.accepts (planOf s) t controls lent in
+    Exactly (tolerance.chooseRows s t most controls lent) (tolerance.told (out .answer)) lent (out .held) (values (tolerance.told (done .answer))) (done .held)
+choosing = tolerance-exactly.exactly
 
 -- an edit: the new shape, the first span worked afresh, how many and how many of their coordinates are exact, and both lent lists
 pub editing : (e : Edit) (s : Shape) (j : ℕ) (controls lent : List ℤ) →

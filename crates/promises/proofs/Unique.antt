@@ -17,6 +17,9 @@ use Rattle.outline.proofs.by_differences.Kinds as by-differences-kinds
 use Rattle.outline.proofs.by_differences.Reads as by-differences-reads
 use Rattle.outline.proofs.view.Kinds as view-kinds
 use Rattle.outline.proofs.view.Reads as view-reads
+use Rattle.tolerance.proofs.Unique as tolerance
+use Rattle.tolerance.proofs.by_tolerance.Kinds as by-tolerance-kinds
+use Rattle.tolerance.proofs.by_tolerance.Reads as by-tolerance-reads
 use Rattle.edit.proofs.Unique as edit
 use Rattle.edit.proofs.move_record.Kinds as move-record-kinds
 use Rattle.edit.proofs.move_record.Reads as move-record-reads
@@ -64,7 +67,7 @@ use Rattle.listing.proofs.list_refusal.Reads as list-refusal-reads
 pub check-shape : Unique 0 check-shape-kinds.ps check-shape-kinds.r check-shape-reads.Post
 check-shape = shape.check-shape-unique
 
--- ---- drawing, three ways, and the view
+-- ---- drawing, three ways and by tolerance, and the view
 
 pub by-weights : Unique 2 by-weights-kinds.ps by-weights-kinds.r by-weights-reads.Post
 by-weights = outline.by-weights-unique
@@ -74,6 +77,9 @@ by-halving = outline.by-halving-unique
 
 pub by-differences : Unique 2 by-differences-kinds.ps by-differences-kinds.r by-differences-reads.Post
 by-differences = outline.by-differences-unique
+
+pub by-tolerance : Unique 2 by-tolerance-kinds.ps by-tolerance-kinds.r by-tolerance-reads.Post
+by-tolerance = tolerance.by-tolerance-unique
 
 -- where the part lies in memory and what stands there
 pub view : (κs : Lfts 1) (a : Dens κs view-kinds.ps) (x y : resT view-kinds.r κs .Denot) (u v : Lasts (endedOf 1 view-kinds.ps view-kinds.r) κs a)

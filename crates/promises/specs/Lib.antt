@@ -1,3 +1,4 @@
 pub mod Cases
 pub mod Points
+pub mod Tolerance
 pub mod Sequences
