@@ -1,13 +1,17 @@
-"""The house record file and its listing: document 01, "Record file" and "Sums to hold it to"."""
+"""The house record file and its two listings: document 01, "Record file" and "Sums to hold it to".
+
+A file is listed evenly, or with points chosen by tolerance (document 02, request 3).
+"""
 
 import struct
-from typing import List
+from typing import List, Sequence
 
 import refusal
 from checks import check_controls_room, check_limits, check_shape
-from outline import formula_points
+from outline import formula_points, rounded
 from refusal import Refusal
 from shape import MOST_RECORDS, Shape, spans
+from tolerance import chosen
 
 # Basis, depth, two spare bytes, x and y, low byte first.
 RECORD = struct.Struct("<BBHii")
@@ -49,6 +53,21 @@ def listing(file: bytes) -> List[str]:
         outline = formula_points(shape, controls)
     except Refusal as refused:
         return [str(refused)]
-    points = list(zip(outline[0::2], outline[1::2]))
-    head = f"{shape.basis} {shape.depth} {spans(shape)} {len(points)}"
-    return [head] + [f"{number} {x} {y}" for number, (x, y) in enumerate(points)]
+    return [f"{shape.basis} {shape.depth} {spans(shape)} {len(outline) // 2}"] + point_lines(outline)
+
+
+def cut_listing(file: bytes, tolerance: int, most: int) -> List[str]:
+    """What outline-cut writes for a file, a tolerance and the most cuts, line by line."""
+    controls = [0] * (2 * MOST_RECORDS)
+    try:
+        shape = read(file, controls)
+        values, cuts = chosen(shape, controls, tolerance, most)
+    except Refusal as refused:
+        return [str(refused)]
+    head = f"{shape.basis} {tolerance} {spans(shape)} {len(values) // 2} {cuts}"
+    return [head] + point_lines(rounded(values))
+
+
+def point_lines(outline: Sequence[int]) -> List[str]:
+    """Each point's number, x and y."""
+    return [f"{number} {x} {y}" for number, (x, y) in enumerate(zip(outline[0::2], outline[1::2]))]

@@ -1,4 +1,4 @@
-"""Refusals: the numbers of document 01, "Refusal numbers", and how a call gives one."""
+"""Refusals: the numbers of document 01, "Refusal numbers", and of document 02, and how a call gives one."""
 
 BASIS = 1
 DEPTH = 2
@@ -15,6 +15,9 @@ STEP_ORDER = 12
 FILE_LENGTH = 13
 SPARE_BYTES = 14
 UNLIKE_FIRST = 15
+TOLERANCE = 20
+NOT_FLAT = 21
+CUTS = 22
 
 
 class Refusal(Exception):

@@ -1,34 +1,58 @@
-"""The command line: `python3 run.py list|trials|sums|make-trials [SEED]`, standard input to standard output."""
+"""The command line, standard input to standard output: `python3 run.py` and one of
+
+list | cut TOLERANCE MOST | trials | sums | make-trials [SEED]
+"""
 
 import sys
 
 sys.dont_write_bytecode = True
 
 from make_trials import make_trials  # noqa: E402
-from record_file import listing  # noqa: E402
+from record_file import cut_listing, listing  # noqa: E402
 from sums import sums  # noqa: E402
 from trials import play  # noqa: E402
+
+USAGE = "usage: run.py list | cut TOLERANCE MOST | trials | sums | make-trials [SEED]"
 
 
 def text(lines) -> bytes:
     return "".join(f"{line}\n" for line in lines).encode("ascii")
 
 
+def seeded(seed: int) -> bytes:
+    """Another trials file of the same kind for each number from 1 to 2^64 - 1."""
+    if not 0 < seed < 2 ** 64:
+        sys.exit(USAGE)
+    return make_trials(seed)
+
+
+# Each command by its name and how many numbers follow it.
 COMMANDS = {
-    "list": lambda: text(listing(sys.stdin.buffer.read())),
-    "trials": lambda: text(play(sys.stdin.buffer.read())),
-    "sums": lambda: text(sums()),
-    "make-trials": make_trials,
+    ("list", 0): lambda: text(listing(sys.stdin.buffer.read())),
+    ("cut", 2): lambda tolerance, most: text(cut_listing(sys.stdin.buffer.read(), tolerance, most)),
+    ("trials", 0): lambda: text(play(sys.stdin.buffer.read())),
+    ("sums", 0): lambda: text(sums()),
+    ("make-trials", 0): make_trials,
+    ("make-trials", 1): seeded,
 }
 
 
+def number(digits: str) -> int:
+    """A number of any length, digit by digit: Python reads only so many at once."""
+    if not (digits.isascii() and digits.isdigit()):
+        sys.exit(USAGE)
+    value = 0
+    for digit in digits:
+        value = 10 * value + int(digit)
+    return value
+
+
 def main() -> None:
-    """A seed is for make-trials alone: another file of the same kind for each number from 1 to 2^64 - 1."""
-    words = sys.argv[1:]
-    seeded = len(words) == 2 and words[0] == "make-trials" and words[1].isdecimal() and 0 < int(words[1]) < 2 ** 64
-    if not seeded and (len(words) != 1 or words[0] not in COMMANDS):
-        sys.exit(f"usage: run.py {'|'.join(COMMANDS)} [SEED]")
-    sys.stdout.buffer.write(make_trials(int(words[1])) if seeded else COMMANDS[words[0]]())
+    name, *numbers = sys.argv[1:] or [""]
+    command = COMMANDS.get((name, len(numbers)))
+    if command is None:
+        sys.exit(USAGE)
+    sys.stdout.buffer.write(command(*map(number, numbers)))
 
 
 if __name__ == "__main__":

@@ -13,6 +13,7 @@ from outline import draw, preview, view
 from record_file import listing, read
 from refusal import Refusal
 from shape import Shape
+from tolerance import cut
 
 RECORD_BYTES = 56
 WHOLES = struct.Struct("<B7x6q")
@@ -119,6 +120,9 @@ class Bench:
     def draw(self, *_: int) -> Lines:
         return [f"drawn {line(draw(self.shape, self.controls, self.points))}"]
 
+    def cut(self, tolerance: int, most: int, *_: int) -> Lines:
+        return [f"cut {line(cut(self.shape, self.controls, self.points, natural(tolerance), natural(most)))}"]
+
     def move(self, place: int, x: int, y: int, *_: int) -> Lines:
         record = signed_32(x), signed_32(y)
         return self.edited(move(self.shape, self.controls, self.points, natural(place), record))
@@ -170,7 +174,7 @@ class Bench:
 
 
 LEND, SET_SHAPE, SET_CONTROL, SET_POINT, EMPTY_FILE, MORE_FILE = 1, 2, 3, 4, 5, 6
-WEIGHTS, HALVING, DIFFERENCES = 10, 11, 12
+WEIGHTS, HALVING, DIFFERENCES, CUT = 10, 11, 12, 13
 MOVE, INSERT, REMOVE = 20, 21, 22
 VIEW = 30
 PREVIEW = 40
@@ -181,7 +185,7 @@ SHOW_CONTROLS, SHOW_POINTS, SHOW_PREVIEW = 60, 61, 62
 PLAIN: Dict[int, Callable[..., Lines]] = {
     LEND: Bench.lend, SET_SHAPE: Bench.set_shape, SET_CONTROL: Bench.set_control, SET_POINT: Bench.set_point,
     EMPTY_FILE: Bench.empty_file,
-    WEIGHTS: Bench.draw, HALVING: Bench.draw, DIFFERENCES: Bench.draw,
+    WEIGHTS: Bench.draw, HALVING: Bench.draw, DIFFERENCES: Bench.draw, CUT: Bench.cut,
     MOVE: Bench.move, INSERT: Bench.insert, REMOVE: Bench.remove,
     VIEW: Bench.view, PREVIEW: Bench.draw_preview,
     SET_STATE: Bench.set_state, READ_FILE: Bench.read_file, LIST_FILE: Bench.list_file,
