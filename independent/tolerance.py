@@ -68,14 +68,17 @@ def piece_controls(piece: Piece) -> List[List[Fraction]]:
     return [bezier_controls(cubic_over(cubic, piece.part * width, width)) for cubic in piece.cubics]
 
 
-def greater_bend(four: Sequence[Fraction]) -> Fraction:
-    """The larger, in size, of the two second differences of Bezier controls."""
+def second_differences(four: Sequence[Fraction]) -> Tuple[Fraction, Fraction]:
     b0, b1, b2, b3 = four
-    return max(abs(b0 - 2 * b1 + b2), abs(b1 - 2 * b2 + b3))
+    return b0 - 2 * b1 + b2, b1 - 2 * b2 + b3
+
+
+def flat_on_axis(four: Sequence[Fraction], tolerance: int) -> bool:
+    return 3 * max(abs(difference) for difference in second_differences(four)) <= 4 * tolerance
 
 
 def flat(piece: Piece, tolerance: int) -> bool:
-    return all(3 * greater_bend(four) <= 4 * tolerance for four in piece_controls(piece))
+    return all(flat_on_axis(four, tolerance) for four in piece_controls(piece))
 
 
 def flat_pieces(piece: Piece, tolerance: int, most: int, cuts: int) -> Tuple[List[Piece], int]:

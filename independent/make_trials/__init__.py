@@ -3,12 +3,13 @@
 from collections import Counter
 
 import refusal
-from make_trials import defects, drawings, edits, exact, files, halves, outlines
+from make_trials import defects, drawings, edits, exact, files, halves, outlines, tolerance
 from make_trials.script import Script
 
 SEED = 0x0123_4567_89AB_CDEF
 FEWEST_CALLS = 2000
 FEWEST_OF_EACH_REFUSAL = 3
+GIVEN = (*range(refusal.BASIS, refusal.UNLIKE_FIRST + 1), *range(refusal.TOLERANCE, refusal.CUTS + 1))
 
 SECTIONS = (
     outlines.every_way, outlines.ties, outlines.longest, outlines.views, outlines.previews, outlines.long_previews,
@@ -18,6 +19,9 @@ SECTIONS = (
     files.files, files.lengths, files.record_by_record, files.late_damage, files.deep_listings,
     halves.points, halves.edits, halves.numbers, halves.drawings,
     exact.outlines, exact.edits, exact.none_fresh,
+    tolerance.outlines, tolerance.refusals, tolerance.rooms, tolerance.numbers, tolerance.rules, tolerance.walks,
+    tolerance.flat_spans, tolerance.thresholds, tolerance.parabolas, tolerance.all_cut, tolerance.longest,
+    tolerance.lines, tolerance.roughest, tolerance.depths, tolerance.roundings, tolerance.figures,
 )
 
 
@@ -30,5 +34,5 @@ def make_trials(seed: int = SEED) -> bytes:
     for (_, number), times in script.tally.items():
         given[number] += times
     assert sum(given.values()) >= FEWEST_CALLS
-    assert all(given[number] >= FEWEST_OF_EACH_REFUSAL for number in range(refusal.BASIS, refusal.UNLIKE_FIRST + 1))
+    assert all(given[number] >= FEWEST_OF_EACH_REFUSAL for number in GIVEN)
     return b"".join(script.records)
