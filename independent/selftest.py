@@ -2,16 +2,18 @@
 
 Document 01's sums stand here as they are printed there, P2 and P12 as document 02's
 request 1 has them.  The curve is computed again by other published formulas, the
-edits are read again point by point, and every call is made again in the mirror.
+edits are read again point by point, the pieces of the outline by tolerance are made
+again by halving, and every call is made again in the mirror.
 """
 
 import sys
 import unittest
 from fractions import Fraction
-from typing import List, Sequence
+from typing import List, Sequence, Tuple
 
 sys.dont_write_bytecode = True
 
+import refusal  # noqa: E402
 import trials  # noqa: E402
 from checks import CONTROL_LIMIT  # noqa: E402
 from curve import cubic, exact_outline, nearest, powers, product  # noqa: E402
@@ -21,11 +23,13 @@ from make_trials import defects, drawings, edits, exact, files  # noqa: E402
 from make_trials.dice import ALL_BASES, Dice  # noqa: E402
 from make_trials.halves import ALL_SIDES, AXES, mirrored, sides  # noqa: E402
 from make_trials.script import ACCEPTED, CALLS, Script, encode, file_of  # noqa: E402
+from make_trials.tolerance import ANY_CUTS, any_outline, refusals  # noqa: E402
 from outline import draw, formula_points, preview, view  # noqa: E402
-from record_file import listing, read  # noqa: E402
+from record_file import cut_listing, listing, read  # noqa: E402
 from refusal import Refusal  # noqa: E402
-from shape import B_SPLINE, BEZIER, CARDINAL, HERMITE, Shape, point_count, spans  # noqa: E402
+from shape import B_SPLINE, BEZIER, CARDINAL, HERMITE, Shape, point_count, span_records, spans  # noqa: E402
 from sums import sums  # noqa: E402
+from tolerance import FINEST, MOST_TOLERANCE, chosen, cut  # noqa: E402
 
 SUMS = """\
 P1 Bezier 0 0 0 4 depth 1: 0 1 4 exact 5
@@ -371,10 +375,134 @@ class Mirror(unittest.TestCase):
         self.assertGreater(zeros, 0)
 
 
+def bezier_of_b_spline(p0, p1, p2, p3) -> List[Fraction]:
+    """Document 01, "The curve, exactly", without the six."""
+    return [Fraction(six, 6) for six in (p0 + 4 * p1 + p2, 4 * p1 + 2 * p2, 2 * p1 + 4 * p2, p1 + 4 * p2 + p3)]
+
+
+BEZIER_OF = {
+    BEZIER: lambda *four: [Fraction(number) for number in four],
+    B_SPLINE: bezier_of_b_spline,
+    CARDINAL: lambda *four: bezier_of_hermite(*hermite_of_cardinal(*four)),
+    HERMITE: bezier_of_hermite,
+}
+
+Fours = List[List[Fraction]]
+
+
+def midpoint_halves(four: Sequence[Fraction]) -> Tuple[List[Fraction], List[Fraction]]:
+    """Document 003: midpoints of midpoints of midpoints."""
+    left, right = [], []
+    while four:
+        left.append(four[0])
+        right.append(four[-1])
+        four = [(p + q) / 2 for p, q in zip(four, four[1:])]
+    return left, right[::-1]
+
+
+def flat_fours(fours: Fours, tolerance: int, depth: int = 0) -> List[Fours]:
+    """The flat pieces of a span's tree, each as its Bezier controls in x and in y."""
+    bends = [abs(p - 2 * q + r) for four in fours for p, q, r in zip(four, four[1:], four[2:])]
+    if max(bends) <= Fraction(4 * tolerance, 3):
+        return [fours]
+    if depth == FINEST:
+        raise Refusal(refusal.NOT_FLAT)
+    left, right = zip(*map(midpoint_halves, fours))
+    return flat_fours(left, tolerance, depth + 1) + flat_fours(right, tolerance, depth + 1)
+
+
+def by_halving(shape: Shape, controls: Sequence[int], tolerance: int) -> Tuple[List[Fraction], int]:
+    """The chosen points by midpoints, and the cuts that give so many pieces."""
+    pieces: List[Fours] = []
+    for span in range(spans(shape)):
+        records = span_records(shape, span)
+        fours = [BEZIER_OF[shape.basis](*(controls[2 * j + axis] for j in records)) for axis in AXES]
+        pieces += flat_fours(fours, tolerance)
+    starts = [four[0] for fours in pieces for four in fours]
+    return starts + [four[-1] for four in pieces[-1]], len(pieces) - spans(shape)
+
+
+class Tolerance(unittest.TestCase):
+    """Document 02, request 3: the tree by halving, and what follows from the tree."""
+
+    def setUp(self):
+        self.dice = Dice(SEED)
+
+    def calls(self):
+        """Outlines of every basis and size with a tolerance each, and spans with all their records at limits."""
+        for basis in ALL_BASES:
+            for _ in range(15):
+                size = self.dice.pick((9, 1000, 100_000, CONTROL_LIMIT))
+                yield *any_outline(self.dice, basis, size), self.dice.between(0, 1 + size // 400)
+            for _ in range(5):
+                controls = [self.dice.sign() * CONTROL_LIMIT for _ in range(8)]
+                yield Shape(basis, 0, 4), controls, self.dice.pick((0, 1000, 2929, 2930, MOST_TOLERANCE))
+
+    def test_halving_gives_the_same_tree(self):
+        refused = 0
+        for shape, controls, tolerance in self.calls():
+            told = answer(chosen, shape, controls, tolerance, ANY_CUTS)
+            self.assertEqual(told, answer(by_halving, shape, controls, tolerance))
+            refused += isinstance(told, str)
+        self.assertTrue(10 < refused < 60)
+
+    def test_counts_and_points(self):
+        """One point more than pieces, each of them a point of the even outline, and all past them kept."""
+        for shape, controls, tolerance in self.calls():
+            even = formula_points(shape._replace(depth=FINEST), controls)
+            lent = [JUNK] * (len(even) + 1)
+            told = answer(cut, shape, controls, lent, tolerance, ANY_CUTS)
+            if isinstance(told, str):
+                self.assertEqual((told, lent), ("refused 21 0", [JUNK] * len(lent)))
+                continue
+            self.assertEqual(told.points, spans(shape) + told.cuts + 1)
+            written, kept = lent[:2 * told.points], lent[2 * told.points:]
+            evenly = iter(zip(even[::2], even[1::2]))
+            self.assertTrue(all(point in evenly for point in zip(written[::2], written[1::2])))
+            self.assertEqual((written[-2:], set(kept)), (even[-2:], {JUNK}))
+            self.assertEqual(cut(shape, controls, lent, tolerance, told.cuts), told)
+            for fewer in range(told.cuts)[-1:]:
+                self.assertEqual(answer(cut, shape, controls, lent, tolerance, fewer), "refused 22 0")
+
+    def test_more_tolerance_never_more_cuts(self):
+        for shape, controls, _ in self.calls():
+            cuts = [chosen(shape, controls, tolerance, ANY_CUTS)[1] for tolerance in (2930, 3500, 6000, MOST_TOLERANCE)]
+            self.assertEqual(cuts, sorted(cuts, reverse=True))
+
+    def test_mirror(self):
+        for shape, controls, tolerance in self.calls():
+            lent = [JUNK] * (2 * point_count(shape._replace(depth=FINEST)))
+            told = answer(cut, shape, controls, lent, tolerance, ANY_CUTS)
+            for axis in AXES:
+                other = mirrored([JUNK] * len(lent), axis)
+                self.assertEqual(answer(cut, shape, mirrored(controls, axis), other, tolerance, ANY_CUTS), told)
+                self.assertEqual(other, mirrored(lent, axis))
+
+    def test_order_of_refusals(self):
+        line, far = [0, 0, 0, 0, 5462, 0, 5462, 0], [0, 0, 0, 0, 5462, 0, 5462, CONTROL_LIMIT + 1]
+        good, endless = Shape(BEZIER, 6, 4), 2 ** 99
+        for shape, controls, tolerance, most, text in (
+                (Shape(5, 7, 5), far[1:], 10_001, 0, "1 0"), (Shape(BEZIER, 7, 5), far[1:], 10_001, 0, "2 0"),
+                (Shape(BEZIER, 6, 5), far[1:], 10_001, 0, "3 0"), (good, far[1:], 10_001, 0, "7 0"),
+                (good, far, 10_001, 0, "8 3"), (good, line, 10_001, 0, "20 0"), (good, line, endless, endless, "20 0"),
+                (good, line, 1, 5, "22 0"), (good, line, 1, 6, "21 0"), (good, line, 1, endless, "21 0"),
+                (good, line, 2, endless, "9 0")):
+            self.assertEqual(answer(cut, shape, controls, [], tolerance, most), f"refused {text}")
+
+
 class RecordFile(unittest.TestCase):
     def test_listing(self):
         file = file_of(Shape(BEZIER, 1, 4), [0, 0, 0, 8, 8, 8, 8, 0])
         self.assertEqual(listing(file), ["1 1 1 3", "0 0 0", "1 4 6", "2 8 0"])
+
+    def test_cut_listing(self):
+        file = file_of(Shape(BEZIER, 1, 4), [0, 0, 0, 8, 8, 8, 8, 0])
+        self.assertEqual(cut_listing(file, 6, 0), ["1 6 1 2 0", "0 0 0", "1 8 0"])
+        self.assertEqual(cut_listing(file, 5, 1), ["1 5 1 3 1", "0 0 0", "1 4 6", "2 8 0"])
+        self.assertEqual(cut_listing(file, 5, 0), ["refused 22 0"])
+        self.assertEqual(cut_listing(file, 0, 6), ["refused 21 0"])
+        self.assertEqual(cut_listing(file, 10_001, 6), ["refused 20 0"])
+        self.assertEqual(cut_listing(file[:-1], 10_001, 6), ["refused 13 0"])
 
     def test_order_of_refusals(self):
         good = file_of(Shape(BEZIER, 1, 4), [0] * 8)
@@ -407,7 +535,7 @@ class WatchedScript(Script):
 class Trials(unittest.TestCase):
     def test_refusals_change_nothing(self):
         script = WatchedScript(SEED)
-        for section in (defects.any_defects, edits.rooms, drawings.states, files.files):
+        for section in (defects.any_defects, edits.rooms, drawings.states, files.files, refusals):
             section(script)
         self.assertGreater(sum(times for (_, number), times in script.tally.items() if number != ACCEPTED), 300)
 
@@ -416,6 +544,7 @@ class Trials(unittest.TestCase):
         for bad in (encode(7, ()), encode(0, ()), encode(trials.LEND, (161,)), encode(trials.LEND, (-1,)),
                     encode(trials.SET_CONTROL, (8, 0)), encode(trials.SET_POINT, (0, 2 ** 31)),
                     encode(trials.MORE_FILE, (41,)), encode(trials.MORE_FILE, (0,)),
+                    encode(trials.CUT, (-1, 0)), encode(trials.CUT, (0, -1)),
                     encode(trials.MOVE, (-1, 0, 0)), encode(trials.MOVE, (0, 0, -2 ** 31 - 1)),
                     encode(trials.SET_STATE, (0, 0, 0, 0, 0, 2)), encode(trials.SET_SHAPE, (1, 2 ** 32, 4))):
             self.assertEqual(list(trials.play(lend + show + bad + show)), [f"{JUNK} {JUNK}", "bad record 2"])
