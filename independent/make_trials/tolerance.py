@@ -15,8 +15,7 @@ from curve import whole_values
 from make_trials.defects import bad_shape
 from make_trials.dice import ALL_BASES, Dice
 from make_trials.exact import grained, other_counts
-from make_trials.halves import (ALL_SIDES, AXES, MIRRORS, X, Y, controls_at_halves, mirrored, sides,
-                                told_apart)
+from make_trials.halves import ALL_SIDES, AXES, MIRRORS, X, Y, controls_at_halves, mirrored, sides, told_apart
 from make_trials.rules import (ANEW_EACH_SPAN, AXES_ADDED, EXCHANGED, FIRST_CUT_FREE, LAST_CUTS_FREE, MOST_FIRST,
                                ONLY_FIRST, ONLY_LAST, ONLY_X, ONLY_Y, RIGHT, RIGHT_FIRST, ROUNDED, STRICT, Rule, Walk,
                                bends)
@@ -30,6 +29,8 @@ ANY_CUTS = 2 ** 63 - 1
 ALL_CUTS = 2 ** FINEST - 1
 
 ONE_SPAN = Shape(BEZIER, 0, SPAN_RECORDS)
+# One number less than the two ends of a span.
+TOO_LITTLE_ROOM = 3
 OTHER_AXIS_ALONE = {X: ONLY_Y, Y: ONLY_X}
 
 # One axis of a span whose second differences are both 1, and of one whose steps are equal.
@@ -62,17 +63,17 @@ def lay(script: Script, shape: Shape, controls: Sequence[int], room: int) -> Non
 
 
 def lay_for(script: Script, shape: Shape, controls: Sequence[int], tolerance: int) -> Walk:
-    """The same with as much room as the tolerance needs, or little where it is refused; and how it comes out."""
+    """The same with as much room as the tolerance needs, or too little where the walk is refused; and that walk."""
     walk = Walk(RIGHT, shape, controls, tolerance, ANY_CUTS)
-    lay(script, shape, controls, len(walk.values) or 2 * spans(shape) + 2)
+    lay(script, shape, controls, len(walk.values) or TOO_LITTLE_ROOM)
     return walk
 
 
 def cut(script: Script, tolerance: int, most: int, *wrong: Rule) -> Walk:
     """The call, and the points after it; by each wrong rule it comes out otherwise."""
-    asked = script.bench.shape, script.bench.controls, tolerance, most
-    walk = Walk(RIGHT, *asked)
-    assert all(Walk(rule, *asked).outcome() != walk.outcome() for rule in wrong)
+    call = script.bench.shape, script.bench.controls, tolerance, most
+    walk = Walk(RIGHT, *call)
+    assert all(Walk(rule, *call).outcome() != walk.outcome() for rule in wrong)
     script.say(trials.CUT, tolerance, most)
     assert script.lines == [walk.line()]
     script.show(trials.SHOW_POINTS)
@@ -248,8 +249,8 @@ def two_spans(script: Script, axis: int, tolerance: int, bend: int) -> None:
     """A Line that stays bent and one half as long: the span that the walk comes to first decides."""
     long, short, shape = times(bend, LINE), times(bend // 2, LINE), ONE_SPAN._replace(count=2 * SPAN_RECORDS - 1)
     for first, then, number in ((long, short, refusal.NOT_FLAT), (short, long, refusal.CUTS)):
-        four = [*first, *(first[-1] - number for number in then[1:])]
-        lay_for(script, shape, on_axis(axis, four, [0] * len(four)), tolerance)
+        there_and_back = [*first, *(first[-1] - back for back in then[1:])]
+        lay_for(script, shape, on_axis(axis, there_and_back, [0] * shape.count), tolerance)
         met(script, number, tolerance, FINEST, RIGHT_FIRST)
 
 
@@ -298,17 +299,17 @@ def parabolas(script: Script) -> None:
     for basis in ALL_BASES:
         shape = Shape(basis, dice.below(DEEPEST + 1), SPAN_RECORDS)
         for depth in (1, FINEST):
-            tolerance, all_cut = 3 * dice.between(1, 20), 2 ** depth - 1
+            tolerance, cuts = 3 * dice.between(1, 20), 2 ** depth - 1
             bend = flattest(tolerance, depth)
             x, y = (times(dice.sign() * bend, PARABOLA[basis]) for _ in AXES)
             lay(script, shape, on_axis(X, x, y), room_after(depth))
-            accepted(script, all_cut, tolerance, all_cut, STRICT, EXCHANGED, AXES_ADDED)
+            accepted(script, cuts, tolerance, cuts, STRICT, EXCHANGED, AXES_ADDED)
             axis = dice.pick(AXES)
             lay(script, shape, on_axis(axis, times(bend + 1, PARABOLA[basis]), (x, y)[1 - axis]), room_after(depth))
             if depth == FINEST:
                 met(script, refusal.NOT_FLAT, tolerance, ANY_CUTS, OTHER_AXIS_ALONE[axis])
             else:
-                accepted(script, 2 * all_cut + 1, tolerance, ANY_CUTS, OTHER_AXIS_ALONE[axis])
+                accepted(script, 2 * cuts + 1, tolerance, ANY_CUTS, OTHER_AXIS_ALONE[axis])
 
 
 def all_cut(script: Script) -> None:
