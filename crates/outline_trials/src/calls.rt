@@ -20,9 +20,11 @@ use outline::Drawn;
 use preview::Previewed;
 use record_file::Reading;
 use shape::Shape;
+use tolerance::Chosen;
+use tolerance::by_tolerance;
 
-// Places are below 2^63.
-const PLACES: u64 = 9223372036854775808;
+// Places, tolerances and numbers of cuts are below 2^63.
+const PAST_LAST: u64 = 9223372036854775808;
 
 // What a call came to once its line is written: the bench afterwards. Where the line was not written the run ends.
 pub(crate) fn go_on(is_written: bool, bench: Bench) -> Turn {
@@ -48,6 +50,27 @@ pub(crate) fn draw(shape: Shape, op: u8, controls: &[i32], points: &mut [i32]) -
         11 => say_drawn(outline::by_halving(shape, controls, points)),
         _ => say_drawn(outline::by_differences(shape, controls, points)),
     }
+}
+
+// What drawing by tolerance answered, said.
+fn say_chosen(answer: Chosen) -> bool {
+    match answer {
+        Chosen::Refused(refusal) => say_refusal(refusal),
+        Chosen::Done(steps) => say(b"cut", &[steps.points, steps.cuts, steps.exact]),
+    }
+}
+
+// The outline within a tolerance, by at most so many cuts.
+pub(crate) fn cut(bench: Bench, r: Record, controls: &[i32], points: &mut [i32]) -> Turn {
+    if r.a >= PAST_LAST {
+        return Turn::Bad;
+    }
+    if r.b >= PAST_LAST {
+        return Turn::Bad;
+    }
+    let shape = bench.shape;
+    let answer = by_tolerance(shape, r.a as usize, r.b as usize, controls, points);
+    go_on(say_chosen(answer), bench)
 }
 
 // What an edit answered, said, and the shape that it leaves.
@@ -93,7 +116,7 @@ pub(crate) fn place_record(
     controls: &mut [i32],
     points: &mut [i32],
 ) -> Turn {
-    if r.a >= PLACES {
+    if r.a >= PAST_LAST {
         return Turn::Bad;
     }
     let Placed::At(at) = control(r.b, r.c) else {
@@ -111,7 +134,7 @@ pub(crate) fn remove_record(
     controls: &mut [i32],
     points: &mut [i32],
 ) -> Turn {
-    if r.a >= PLACES {
+    if r.a >= PAST_LAST {
         return Turn::Bad;
     }
     let shape = bench.shape;
@@ -121,7 +144,7 @@ pub(crate) fn remove_record(
 
 // The view of a span: its length, and its numbers where there are any.
 pub(crate) fn view(bench: Bench, r: Record, points: &[i32]) -> Turn {
-    if r.a >= PLACES {
+    if r.a >= PAST_LAST {
         return Turn::Bad;
     }
     let shape = bench.shape;

@@ -65,7 +65,7 @@ fn work_of(op: u8) -> Work {
     match op {
         1 => Work::Lists,
         2 | 5 | 50 => Work::Bench,
-        3 | 4 | 10..=12 | 20..=22 | 30 | 60 | 61 => Work::Outline,
+        3 | 4 | 10..=13 | 20..=22 | 30 | 60 | 61 => Work::Outline,
         _ => Work::Drawing,
     }
 }
@@ -88,6 +88,7 @@ fn play_outline(bench: Bench, r: Record, controls: &mut [i32], points: &mut [i32
             let shape = bench.shape;
             go_on(calls::draw(shape, op, controls, points), bench)
         }
+        13 => calls::cut(bench, r, controls, points),
         20 | 21 => calls::place_record(bench, r, controls, points),
         22 => calls::remove_record(bench, r, controls, points),
         _ => calls::view(bench, r, points),
