@@ -3,6 +3,7 @@ use mathlib.Core.Path.{_≡_, sym, ap, _∙_, subst}
 use mathlib.Core.List.{[], _∷_}
 use Prim.Native.Nat.{ℕ, _+_, _*_, _-_, _≤_, _<_}
 use native.Mathlib.Omega.{arith}
+use borrow.Author.Needs.{needs}
 use borrow.Fn.Kinds.{In}
 use borrow.Fn.PlainCycle.{Measures, is, falls, and}
 use lib.IntN.{natAbs}
@@ -72,14 +73,9 @@ put-point-requires t c κs =
     let s = f .before .before in
     let a = s .args in
     let w = s .pre .1 .0 .0 in
-    let n = divisorAt (a .level) in
-    let two = starts-flat divisorAt _ _ (flat t f) in (
-      omega (arith, w .shallow),
-      (
-        (kept-near (a .level) (a .x) (w .shallow) (w .on-x), kept-near (a .level) (a .y) (w .shallow) (w .on-y)),
-        (omega (arith, ap length two, s .pre .1 .1 .1 .1), s .pre .1 .1 .1 .0),
-      ),
-    )
+    let x = kept-near (a .level) (a .x) (w .shallow) (w .on-x) in
+    let y = kept-near (a .level) (a .y) (w .shallow) (w .on-y) in
+    let two = starts-flat divisorAt _ _ (flat t f) in (omega (arith, w .shallow), ((search needs, search needs), (omega (arith, ap length two, s .pre .1 .1 .1 .1), s .pre .1 .1 .1 .0)))
 
 add-t13 : (t : ℕ) → lts.Need-add-t13 (callees t) (here t) reads.Post
 add-t13 t c =
@@ -184,7 +180,10 @@ fill-starts-requires-2 t c κs =
         (walkable-same (a .level + 1) x y (walkable-right (a .level) (a .x) (a .y) (shallow t e) (s .pre .1 .0 .0)), subst Sound (sym same) (sound-halves _ _ _ (is-cut t e) (s .pre .1 .0 .1) .1)),
         (
           s .pre .1 .1 .0,
-          (writes-most _ _ _ _ (left-written t l) (s .pre .1 .1 .1 .0), omega (arith, ap (λ r. length (starts divisorAt r)) same, s .pre .1 .1 .1 .1, halves-length t e, next, l .fill-starts .kept .0)),
+          (
+            omega (arith, writes-most _ _ _ _ (left-written t l) (s .pre .1 .1 .1 .0), s .pre .1 .1 .1 .0),
+            omega (arith, ap (λ r. length (starts divisorAt r)) same, s .pre .1 .1 .1 .1, halves-length t e, next, l .fill-starts .kept .0),
+          ),
         ),
       ),
     )

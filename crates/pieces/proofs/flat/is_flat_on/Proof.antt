@@ -31,12 +31,10 @@ most : (tolerance level : ℕ) → level ≤ finest → tolerance ≤ mostTolera
 most tolerance level h t = subst (λ (n : ℕ). tolerance * n ≤ mostTolerance * divisorAt finest) (sym (divisor-is level h)) (mul-le-mul t (divisor-below level h))
 
 mul-result-2 : tie.Need-mul-result-2
-mul-result-2 c = let s = c .before in record { fits = lt-of-le-of-lt (most (s .args .tolerance) (s .args .level) (s .pre .1 .0) (s .pre .1 .1)) (lit< tt) }
+mul-result-2 c = let s = c .before in record { fits = omega (arith, most (s .args .tolerance) (s .args .level) (s .pre .1 .0) (s .pre .1 .1)) }
 
 mul-result-3 : tie.Need-mul-result-3
-mul-result-3 c =
-    let s = c .before in
-    record { fits = lt-of-le-of-lt (mul-le-mul (le-refl 4) (most (s .args .tolerance) (s .args .level) (s .pre .1 .0) (s .pre .1 .1))) (lit< tt) }
+mul-result-3 c = let s = c .before in record { fits = omega (arith, most (s .args .tolerance) (s .args .level) (s .pre .1 .0) (s .pre .1 .1)) }
 
 returns : tie.Need-returns
 returns c =

@@ -4,6 +4,7 @@ use mathlib.Core.List.{List, [], _∷_, _++_}
 use Prim.Native.Nat.{ℕ, _+_, _*_, _-_, _≤_, _<_}
 use native.Mathlib.Nat.{zero-add}
 use native.Mathlib.Omega.{arith}
+use borrow.Author.Needs.{needs}
 use lib.Dec.{lit<}
 use lib.IntN.{ℤ, natAbs}
 use lib.ListN.{length, length-append}
@@ -161,13 +162,10 @@ module _ (c : tie.After-fill-starts Inv-loop μ-loop) where
 put-point-requires : tie.Need-put-point-requires Inv-loop μ-loop
 put-point-requires c κs =
     let f = c .before .before .before .before .before .before in
-    let n = divisorAt 0 * reach in (
-      omega arith,
-      (
-        (subst (λ z. natAbs z ≤ n) (sym (end-x f)) (near f 0 (lit< tt)), subst (λ z. natAbs z ≤ n) (sym (end-y f)) (near f 1 (lit< tt))),
-        (omega (arith, room f, ap length (last-end (c .before .before .before))), few f),
-      ),
-    )
+    let n = divisorAt 0 * reach in
+    let x = subst (λ z. natAbs z ≤ n) (sym (end-x f)) (near f 0 (lit< tt)) in
+    let y = subst (λ z. natAbs z ≤ n) (sym (end-y f)) (near f 1 (lit< tt)) in
+    (omega arith, ((search needs, search needs), (omega (arith, room f, ap length (last-end (c .before .before .before))), few f)))
 
 same-length : tie.Need-same-length Inv-loop μ-loop
 same-length c =
