@@ -8,7 +8,7 @@ use lib.IntN.{ℤ, pos, negsuc, natAbs}
 use lib.ListN.{length, length-append}
 use Rattle.curve.specs.Tab.{tab}
 use Rattle.listing.specs.Decimal.{natural, decimal}
-use Rattle.listing.specs.Listing.{space, newline, heading, pointLine, pointLines, outlineText, refusalText}
+use Rattle.listing.specs.Listing.{space, newline, numbersLine, pointLine, pointLines, outlineText, refusalText}
 use Rattle.listing.proofs.Digits.{at-most}
 use Rattle.file_list.specs.Files.{mostListed, mostHeading}
 
@@ -51,7 +51,7 @@ point-lines f i j (suc m) few near =
       point-lines f (suc i) (suc (suc j)) m (omega arith) (λ q a b. near q (omega arith) (omega arith)),
     ))
 
-heading-length : (b k m n : ℕ) → b < 10 → k < 10 → m < 10 ^ 2 → n < 10 ^ 4 → length (heading b k m n) ≤ mostHeading
+heading-length : (b k m n : ℕ) → b < 10 → k < 10 → m < 10 ^ 2 → n < 10 ^ 4 → length (numbersLine (b ∷ k ∷ m ∷ n ∷ [])) ≤ mostHeading
 heading-length b k m n small shallow short few =
     let last = natural n ++ (newline ∷ []) in
     let third = natural m ++ (space ∷ last) in
@@ -82,7 +82,7 @@ outline-length b k s f m small shallow short few near all =
     let count : length points / 2 ≡ m = omega (arith, all) in
     omega (
       arith,
-      length-append (heading b k s (length points / 2)) (pointLines 0 points),
+      length-append (numbersLine (b ∷ k ∷ s ∷ length points / 2 ∷ [])) (pointLines 0 points),
       heading-length b k s (length points / 2) small shallow short (omega (arith, count)),
       point-lines f 0 0 m (omega arith) (λ q _ h. near q (omega arith)),
     )

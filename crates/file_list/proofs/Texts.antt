@@ -27,7 +27,7 @@ use Rattle.record_file.specs.declared.Reading.the-variants as read
 use Rattle.record_file.specs.Rows.{reading}
 use Rattle.listing.specs.declared.Put.{Put}
 use Rattle.listing.specs.declared.Put.the-variants.{End, Full}
-use Rattle.listing.specs.Listing.{outlineText, listed}
+use Rattle.listing.specs.Listing.{outlineText, listedBy, listed}
 use Rattle.listing.specs.Written.{written}
 use Rattle.file_list.specs.Files.{controls, points, refusedText, answeredText, shapeText, readText, fileText, countOf, counted, lists}
 
@@ -49,7 +49,7 @@ module _ (s : Shape) (c : List ℤ) where
 
   pub listed-text : (fs : Figures) (held : List ℤ) (text : List ℕ) → draws s c points ≡ outcome (drawn.Done fs) held
       → listed text (s .basis) (s .depth) (planOf s .spans) held (fs .points) ≡ written text 0 (shapeText s c)
-  unfolding listed
+  unfolding listedBy
   listed-text fs held text e =
       let whole = outlineText (s .basis) (s .depth) (planOf s .spans) (take (2 * fs .points) held) in
       ap (λ t. cond t (written text 0 whole) (outcome Full text)) (le-leb (2 * fs .points) (length held) (all-there fs held e))

@@ -6,6 +6,7 @@ pub mod Examples
 pub mod Fitting
 pub mod Laying
 pub mod Listed
+pub mod Numbers
 pub mod Points
 pub mod ReadsBack
 pub mod Shown

@@ -11,7 +11,7 @@ use lib.ListN.{length, take, drop, length-append}
 use lib.Seq.{length-take-le, take-at}
 use Rattle.whole.specs.Outcome.{outcome}
 use Rattle.listing.specs.declared.Put.the-variants.{End, Full}
-use Rattle.listing.specs.Listing.{outlineText, listed}
+use Rattle.listing.specs.Listing.{listedBy}
 use Rattle.listing.specs.Written.{written}
 
 pub record Shown (l : List ℕ) (at : ℕ) (text : List ℕ) (e : ℕ) (m : List ℕ) : Type 0 where
@@ -43,13 +43,13 @@ shown l at text e m = go (leb (at + length text) (length l)) refl
     go true h p = fits l at text e m (leb-true (at + length text) (length l) h) (rw h at p)
     go false h p = full e m l (rw h at p)
 
--- the listing of an outline: the first e bytes are its text
-pub listing-shown : (l : List ℕ) (basis depth spans : ℕ) (points : List ℤ) (count e : ℕ) (m : List ℕ) → outcome (End e) m ≡ listed l basis depth spans points count → (e ≤ length m) × (take e m ≡ outlineText basis depth spans (take (2 * count) points))
-unfolding listed
-listing-shown l basis depth spans points count e m = go (leb (2 * count) (length points)) refl
+-- the listing of points: the first e bytes are its text
+pub listing-shown : (text : List ℤ → List ℕ) (l : List ℕ) (points : List ℤ) (count e : ℕ) (m : List ℕ) → outcome (End e) m ≡ listedBy text l points count → (e ≤ length m) × (take e m ≡ text (take (2 * count) points))
+unfolding listedBy
+listing-shown text l points count e m = go (leb (2 * count) (length points)) refl
   where
-    go : (b : Bool) → leb (2 * count) (length points) ≡ b → outcome (End e) m ≡ listed l basis depth spans points count → (e ≤ length m) × (take e m ≡ outlineText basis depth spans (take (2 * count) points))
+    go : (b : Bool) → leb (2 * count) (length points) ≡ b → outcome (End e) m ≡ listedBy text l points count → (e ≤ length m) × (take e m ≡ text (take (2 * count) points))
     go true h p =
-        let s = shown l 0 (outlineText basis depth spans (take (2 * count) points)) e m (rw h at p) in
+        let s = shown l 0 (text (take (2 * count) points)) e m (rw h at p) in
         (s .within, s .front)
     go false h p = full e m l (rw h at p)

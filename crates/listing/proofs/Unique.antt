@@ -5,6 +5,8 @@ use Rattle.listing.proofs.number.put_decimal.Kinds as put-decimal
 use Rattle.listing.proofs.number.put_decimal.Reads as put-decimal-reads
 use Rattle.listing.proofs.number.put_natural.Kinds as put-natural
 use Rattle.listing.proofs.number.put_natural.Reads as put-natural-reads
+use Rattle.listing.proofs.outline.list_chosen.Kinds as list-chosen
+use Rattle.listing.proofs.outline.list_chosen.Reads as list-chosen-reads
 use Rattle.listing.proofs.outline.list_outline.Kinds as list-outline
 use Rattle.listing.proofs.outline.list_outline.Reads as list-outline-reads
 use Rattle.listing.proofs.refusal.list_refusal.Kinds as list-refusal
@@ -31,6 +33,11 @@ pub list-outline-unique : Unique 2 list-outline.ps list-outline.r list-outline-r
 list-outline-unique κs a x y v w p q =
     let same = p ∙ sym q in
     (λ i. same i .answer, λ i. (same i .held, (tt, (tt, (tt, (tt, (tt, tt)))))))
+
+pub list-chosen-unique : Unique 2 list-chosen.ps list-chosen.r list-chosen-reads.Post
+list-chosen-unique κs a x y v w p q =
+    let same = p ∙ sym q in
+    (λ i. same i .answer, λ i. (same i .held, (tt, (tt, (tt, (tt, (tt, (tt, tt))))))))
 
 pub list-refusal-unique : Unique 1 list-refusal.ps list-refusal.r list-refusal-reads.Post
 list-refusal-unique κs a x y v w p q =

@@ -21,3 +21,11 @@ pub record Room (room at width : ℕ) (ample : Bool) : Type 0 where
 pub record Width (text : List ℕ) (count : ℕ) : Type 0 where
   pub is : count ≡ length text
   pub few : count ≤ 20
+
+-- a first line has a number, and no more than five
+abbrev pub mostNumbers : ℕ
+mostNumbers = 5
+
+pub record Heads (numbers : List ℕ) : Type 0 where
+  pub some : 0 < length numbers
+  pub few : length numbers ≤ mostNumbers

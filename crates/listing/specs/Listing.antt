@@ -1,8 +1,9 @@
 -- The listing of an outline (document 01, "Sums to hold it to"). First line: basis, depth, spans, points. Then for each point its number, x, y.
+-- Of an outline with steps chosen by tolerance (document 02, request 3) the first line is basis, tolerance, spans, points, cuts, and the rest as ever.
 -- A refusal is one line: the word `refused`, the number, the place. Definitions only.
 use Prim.Native.Nat.{ℕ, suc, _*_, _/_}
 use mathlib.Core.Bool.{cond}
-use mathlib.Core.List.{List, [], _∷_, _++_}
+use mathlib.Core.List.{List, [], _∷_, _++_, map}
 use lib.Dec.{leb}
 use lib.IntN.{ℤ}
 use lib.ListN.{length, take}
@@ -24,9 +25,9 @@ line [] = newline ∷ []
 line (word ∷ []) = word ++ (newline ∷ [])
 line (word ∷ next ∷ words) = word ++ (space ∷ line (next ∷ words))
 
--- the first line
-abbrev pub heading : ℕ → ℕ → ℕ → ℕ → List ℕ
-heading basis depth spans points = line (natural basis ∷ natural depth ∷ natural spans ∷ natural points ∷ [])
+-- a line of natural numbers, as the first line is
+abbrev pub numbersLine : List ℕ → List ℕ
+numbersLine numbers = line (map natural numbers)
 
 -- the line of one point
 abbrev pub pointLine : ℕ → ℤ → ℤ → List ℕ
@@ -38,9 +39,17 @@ pointLines number [] = []
 pointLines number (x ∷ []) = []
 pointLines number (x ∷ y ∷ points) = pointLine number x y ++ pointLines (suc number) points
 
--- the listing of an outline, its points as one list, x then y
+-- the numbers of a first line, and points as one list, x then y
+abbrev pub textUnder : List ℕ → List ℤ → List ℕ
+textUnder numbers points = numbersLine numbers ++ pointLines 0 points
+
+-- the listing of an outline
 unfoldable pub outlineText : ℕ → ℕ → ℕ → List ℤ → List ℕ
-outlineText basis depth spans points = heading basis depth spans (length points / 2) ++ pointLines 0 points
+outlineText basis depth spans points = textUnder (basis ∷ depth ∷ spans ∷ length points / 2 ∷ []) points
+
+-- the listing of an outline with steps chosen by tolerance
+unfoldable pub chosenText : ℕ → ℕ → ℕ → ℕ → List ℤ → List ℕ
+chosenText basis tolerance spans cuts points = textUnder (basis ∷ tolerance ∷ spans ∷ length points / 2 ∷ cuts ∷ []) points
 
 -- the word `refused`
 abbrev pub refused : List ℕ
@@ -50,9 +59,16 @@ refused = 114 ∷ 101 ∷ 102 ∷ 117 ∷ 115 ∷ 101 ∷ 100 ∷ []
 abbrev pub refusalText : ℕ → ℕ → List ℕ
 refusalText number place = line (refused ∷ natural number ∷ natural place ∷ [])
 
--- what listing an outline's first `count` points answers and leaves: their listing from the start of the lent list on; where `points` holds fewer than those, `Full`, and all is kept
-unfoldable pub listed : List ℕ → ℕ → ℕ → ℕ → List ℤ → ℕ → Outcome Put (List ℕ)
-listed lent basis depth spans points count =
+-- What listing the first `count` points answers and leaves, where `text` makes the listing of points: it stands from the start of the lent list on; where `points` holds fewer than
+-- those, `Full`, and all is kept.
+unfoldable pub listedBy : (List ℤ → List ℕ) → List ℕ → List ℤ → ℕ → Outcome Put (List ℕ)
+listedBy text lent points count =
     cond (leb (2 * count) (length points))
-    (written lent 0 (outlineText basis depth spans (take (2 * count) points)))
+    (written lent 0 (text (take (2 * count) points)))
     (outcome Full lent)
+
+abbrev pub listed : List ℕ → ℕ → ℕ → ℕ → List ℤ → ℕ → Outcome Put (List ℕ)
+listed lent basis depth spans points count = listedBy (outlineText basis depth spans) lent points count
+
+abbrev pub listedChosen : List ℕ → ℕ → ℕ → ℕ → List ℤ → ℕ → ℕ → Outcome Put (List ℕ)
+listedChosen lent basis tolerance spans points count cuts = listedBy (chosenText basis tolerance spans cuts) lent points count

@@ -5,6 +5,7 @@
 // just past it; where the text does not fit it answers `Full` and changes nothing.
 ghost use Rattle.listing.specs.Inner.{Room};
 
+mod line;
 mod number;
 mod outline;
 mod refusal;
@@ -12,6 +13,7 @@ mod word;
 
 pub use number::put_decimal;
 pub use number::put_natural;
+pub use outline::list_chosen;
 pub use outline::list_outline;
 pub use refusal::list_refusal;
 pub use word::put_word;

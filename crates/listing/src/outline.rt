@@ -3,10 +3,12 @@ ghost use Prim.Native.Nat.{_+_, _*_, _≤_};
 ghost use mathlib.Core.Path.{_≡_};
 ghost use lib.ListN.{length, take};
 ghost use Rattle.whole.specs.Outcome.{outcome};
-ghost use Rattle.listing.specs.Listing.{heading, pointLine, pointLines, listed};
-ghost use Rattle.listing.specs.Inner.{Laid, Room};
+ghost use Rattle.listing.specs.Listing.{textUnder, pointLine, pointLines, listedBy, listed, listedChosen};
+ghost use Rattle.listing.specs.Inner.{Heads, Laid, Room};
 use crate::Put;
 use crate::has_room;
+use crate::line::numbers_width;
+use crate::line::write_numbers;
 use crate::number::decimal_width;
 use crate::number::width;
 use crate::number::write_decimal_and;
@@ -24,23 +26,42 @@ pub fn list_outline(
 ) -> Put
     ensures { λ r. ⌜ outcome r (now (text .exit)) ≡ listed (now (text .entry)) basis depth spans (now (points .entry)) count ⌝ }
 {
+    let heading = [basis, depth, spans, count];
+    list_under(text, &heading, points, count)
+}
+
+// The same of an outline with steps chosen by tolerance, whose heading has the tolerance where the
+// depth stands, and the cuts last.
+pub fn list_chosen(
+    text: &mut [u8],
+    basis: usize,
+    tolerance: usize,
+    spans: usize,
+    points: &[i32],
+    count: usize,
+    cuts: usize,
+) -> Put
+    ensures { λ r. ⌜ outcome r (now (text .exit)) ≡ listedChosen (now (text .entry)) basis tolerance spans (now (points .entry)) count cuts ⌝ }
+{
+    let heading = [basis, tolerance, spans, count, cuts];
+    list_under(text, &heading, points, count)
+}
+
+// The first `count` points under a heading of the given numbers.
+fn list_under(text: &mut [u8], heading: &[usize], points: &[i32], count: usize) -> Put
+    requires { ⌜ Heads (now heading) ⌝ }
+    ensures { λ r. ⌜ outcome r (now (text .exit)) ≡ listedBy (textUnder (now (heading .entry))) (now (text .entry)) (now (points .entry)) count ⌝ }
+{
     if points.len() / 2 < count {
         return Put::Full;
     }
-    let start = heading_width(basis, depth, spans, count);
+    let start = numbers_width(heading);
     if points_fit(text.len(), start, points, count) {
-        let at = write_heading(text, basis, depth, spans, count);
+        let at = write_numbers(text, 0, heading);
         Put::End(write_points(text, at, points, count))
     } else {
         Put::Full
     }
-}
-
-// How many characters the heading has: four numbers, and one after each.
-fn heading_width(basis: usize, depth: usize, spans: usize, count: usize) -> usize
-    ensures { λ r. ⌜ r ≡ length (heading basis depth spans count) ⌝ }
-{
-    width(basis as u64) + width(depth as u64) + width(spans as u64) + width(count as u64) + 4
 }
 
 // How many characters the line of a point has: three numbers, and one after each.
@@ -68,17 +89,6 @@ fn points_fit(room: usize, at: usize, points: &[i32], count: usize) -> bool
         }
     }
     end <= room
-}
-
-// Writes the heading at the start of the text, and answers the place past it.
-fn write_heading(text: &mut [u8], basis: usize, depth: usize, spans: usize, count: usize) -> usize
-    requires { ⌜ length (heading basis depth spans count) ≤ length (now text) ⌝ }
-    ensures { λ r. ⌜ Laid (now (text .entry)) 0 (heading basis depth spans count) r (now (text .exit)) ⌝ }
-{
-    let past_basis = write_natural_and(text, 0, basis as u64, b' ');
-    let past_depth = write_natural_and(text, past_basis, depth as u64, b' ');
-    let past_spans = write_natural_and(text, past_depth, spans as u64, b' ');
-    write_natural_and(text, past_spans, count as u64, b'\n')
 }
 
 // Writes the line of a point, and answers the place past it.

@@ -1,86 +1,28 @@
--- `listing::outline::list_outline` meets its contract: where the points are there and the lines fit, the heading and then the points' lines are written; else nothing is.
-use Prim.Native.Nat.{ℕ, _+_, _*_, _≤_}
-use mathlib.Core.List.{List, _++_}
-use mathlib.Core.Path.{_≡_, _∙_}
-use native.Mathlib.Omega.{arith}
+-- `listing::outline::list_outline` meets its contract: the heading that it hands on has the count where the listing's has the number of the points.
+use Prim.Native.Nat.{ℕ}
+use mathlib.Core.List.{[], _∷_}
+use mathlib.Core.Path.{_∙_}
 use borrow.Author.Needs.{needs}
-use lib.ListN.{length, length-append}
-use Rattle.listing.specs.Listing.{heading}
-use Rattle.listing.proofs.Fitting.{stands, stays}
-use Rattle.listing.proofs.Laying.{then}
-use Rattle.listing.proofs.Listed.{too-few, in-full}
-use Rattle.listing.proofs.Points.{from}
+use Rattle.listing.specs.Listing.{outlineText}
+use Rattle.listing.proofs.Listed.{counted}
 use Rattle.listing.proofs.outline.list_outline.Statement.{statement}
 use Rattle.listing.proofs.outline.list_outline.Tie as tie
 
-abbrev Heading : tie.Start → List ℕ
-Heading s = heading (s .args .basis) (s .args .depth) (s .args .spans) (s .args .count)
+slice-aggregate-list-under : tie.Need-slice-aggregate-list-under
+slice-aggregate-list-under c = search needs
 
-abbrev Lines : tie.Start → List ℕ
-Lines s = from (s .args .points .now) (s .args .count) 0
-
--- the function's entry, from behind the second test
-abbrev entry : tie.After-points-fit → tie.Start
-entry c = c .before .before .before .before
-
-enough : (c : tie.After-points-fit) → 2 * entry c .args .count ≤ length (entry c .args .points .now)
-enough c = omega (arith, c .before .before .if1 .left)
-
-both : (s : tie.Start) → length (Heading s ++ Lines s) ≡ length (Heading s) + length (Lines s)
-both s = length-append (Heading s) (Lines s)
-
-room : (c : tie.Then2) → 0 + length (Heading (entry (c .before)) ++ Lines (entry (c .before))) ≤ length (entry (c .before) .args .text .now)
-room c =
-    omega (arith, both (entry (c .before)), c .before .points-fit .ensures .yes (c .if2 .taken), c .before .before .heading-width .ensures)
-
-returns : tie.Need-returns
-returns c =
-    let a = c .before .before .args in
-    too-few (a .text .now) (a .basis) (a .depth) (a .spans) (a .points .now) (a .count) (omega (arith, c .if1 .taken))
-
-heading-width-requires : tie.Need-heading-width-requires
-heading-width-requires c κs = search needs
-
-points-fit-requires : tie.Need-points-fit-requires
-points-fit-requires c κs = search needs
-
-write-heading-requires : tie.Need-write-heading-requires
-write-heading-requires c κs = omega (arith, both (entry (c .before .before)), room (c .before))
-
-write-points-requires : tie.Need-write-points-requires
-write-points-requires c κs =
-    let w = c .before .before .before in
-    (enough (w .before .before .before), omega (arith, both (entry (w .before .before .before)), room (w .before .before), w .write-heading .ensures .past, w .write-heading .kept .0))
+list-under-requires : tie.Need-list-under-requires
+list-under-requires c κs = search needs
 
 same-length : tie.Need-same-length
 same-length c = search needs
 
-returns-2 : tie.Need-returns-2
-returns-2 c =
-    let p = c .before .before in
-    let w = p .before .before .before .before in
-    let t = w .before .before in
-    let a = entry (t .before) .args in
-    stands (then (w .write-heading .ensures) (p .write-points .ensures)) (room t)
-    ∙ in-full (a .text .now) (a .basis) (a .depth) (a .spans) (a .points .now) (a .count) (enough (t .before))
-
-returns-3 : tie.Need-returns-3
-returns-3 c =
-    let s = entry (c .before) in
-    let a = s .args in
-    stays (a .text .now) 0 (Heading s ++ Lines s)
-    (omega (arith, both s, c .before .points-fit .ensures .no (c .if2 .left), c .before .before .heading-width .ensures))
-    ∙ in-full (a .text .now) (a .basis) (a .depth) (a .spans) (a .points .now) (a .count) (enough (c .before))
+returns : tie.Need-returns
+unfolding outlineText
+returns c =
+    let a = c .before .before .before .before .before .before .args in
+    c .before .before .list-under .ensures ∙ counted (a .text .now) (a .points .now) (a .count) (λ (n : ℕ). a .basis ∷ a .depth ∷ a .spans ∷ n ∷ [])
 
 pub list-outline-spec : {M : Type 1} → statement M
 list-outline-spec =
-    tie.close
-    (tie.spec
-    returns
-    heading-width-requires
-    points-fit-requires
-    write-heading-requires
-    write-points-requires
-    same-length
-    returns-2
-    returns-3)
+    tie.close (tie.spec slice-aggregate-list-under list-under-requires same-length returns)
