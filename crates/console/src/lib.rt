@@ -1,9 +1,13 @@
-// What the programs share: standard input and output, and the lines that they write. No call has a `requires`.
+// What the programs share: their arguments, standard input and output, and the lines that they write. No call has a `requires`.
+mod argument;
 mod input;
 mod line;
 mod number;
 mod output;
 
+pub use argument::Number;
+pub use argument::number_of;
+pub use argument::read_argument;
 pub use input::Input;
 pub use input::read_input;
 pub use line::add_naturals;

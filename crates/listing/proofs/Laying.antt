@@ -3,11 +3,16 @@ use Prim.Native.Nat.{ℕ, suc, _+_, _≤_, _<_}
 use mathlib.Core.List.{List, [], _∷_, _++_}
 use mathlib.Core.Path.{_≡_, refl, sym, ap, _∙_}
 use native.Mathlib.Nat.{add-zero}
+use native.Mathlib.Numerals.{add-one}
 use native.Mathlib.Omega.{arith}
-use lib.ListN.{length, set, length-append}
-use lib.Seq.{sets, set-comm, length-sets, append-snoc}
+use lib.ListN.{length, getD, set, drop, length-append}
+use lib.Seq.{sets, set-comm, length-sets, append-snoc, drop-cons}
 use Rattle.whole.proofs.Writes.{sets-append}
 use Rattle.listing.specs.Inner.{Laid}
+
+-- a list from a place on: what stands there, and what comes after
+pub from-place : (l : List ℕ) (i : ℕ) → i < length l → drop i l ≡ getD l i 0 ∷ drop (i + 1) l
+from-place l i h = rw (add-one i) (drop-cons l i 0 h)
 
 later : (i : ℕ) (x : ℕ) (xs : List ℕ) → i + length (x ∷ xs) ≡ suc i + length xs
 later i x xs = omega arith

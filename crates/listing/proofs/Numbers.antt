@@ -1,13 +1,12 @@
 -- A line of numbers from number i on begins with number i's own text: a space and the line of the others come after it, or after the last a newline.
-use Prim.Native.Nat.{ℕ, suc, _+_, _<_, _≤_}
-use mathlib.Core.List.{List, [], _∷_, _++_, map}
+use Prim.Native.Nat.{ℕ, _+_, _<_}
+use mathlib.Core.List.{List, [], _∷_, _++_}
 use mathlib.Core.Path.{_≡_, refl, ap, _∙_}
-use native.Mathlib.Numerals.{add-one}
 use native.Mathlib.Omega.{arith}
-use lib.ListN.{length, getD, drop, drop-of-length-le, length-append, length-drop}
-use lib.Seq.{drop-cons}
+use lib.ListN.{length, getD, drop, drop-of-length-le, length-drop}
 use Rattle.listing.specs.Decimal.{natural}
-use Rattle.listing.specs.Listing.{space, newline, line, numbersLine}
+use Rattle.listing.specs.Listing.{space, newline, numbersLine}
+use Rattle.listing.proofs.Laying.{from-place}
 
 -- a number, and more after it
 then-more : (n : ℕ) (ns : List ℕ) → 0 < length ns → numbersLine (n ∷ ns) ≡ natural n ++ (space ∷ numbersLine ns)
@@ -25,10 +24,9 @@ module _ (numbers : List ℕ) where
   pub next : (i : ℕ) → i + 1 < length numbers → from i ≡ text-of i ++ (space ∷ from (i + 1))
   next i h =
       let some : 0 < length (drop (i + 1) numbers) = omega (arith, length-drop (i + 1) numbers) in
-      let at-i : drop i numbers ≡ getD numbers i 0 ∷ drop (i + 1) numbers = rw (add-one i) (drop-cons numbers i 0 (omega arith)) in
-      ap numbersLine at-i ∙ then-more (getD numbers i 0) (drop (i + 1) numbers) some
+      ap numbersLine (from-place numbers i (omega arith)) ∙ then-more (getD numbers i 0) (drop (i + 1) numbers) some
 
   pub last : (i : ℕ) → length numbers ≡ i + 1 → from i ≡ text-of i ++ (newline ∷ [])
   last i h =
-      let none : drop (suc i) numbers ≡ [] = drop-of-length-le numbers {i = suc i} (omega arith) in
-      ap numbersLine (drop-cons numbers i 0 (omega arith) ∙ ap (λ (ns : List ℕ). getD numbers i 0 ∷ ns) none)
+      let none : drop (i + 1) numbers ≡ [] = drop-of-length-le numbers {i = i + 1} (omega arith) in
+      ap numbersLine (from-place numbers i (omega arith) ∙ ap (λ (ns : List ℕ). getD numbers i 0 ∷ ns) none)

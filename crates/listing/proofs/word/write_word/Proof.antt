@@ -1,17 +1,12 @@
 -- `listing::word::write_word` meets its contract: each turn lays the next byte, and the bytes from there on are what lies ahead.
-use Prim.Native.Nat.{ℕ, _+_, _-_, _≤_, _<_}
-use mathlib.Core.List.{List, [], _∷_}
+use Prim.Native.Nat.{_+_, _-_, _≤_}
+use mathlib.Core.List.{[], _∷_}
 use mathlib.Core.Path.{_≡_}
-use native.Mathlib.Numerals.{add-one}
 use native.Mathlib.Omega.{arith}
 use lib.ListN.{length, getD, drop, drop-of-length-le}
-use lib.Seq.{drop-cons}
-use Rattle.listing.proofs.Laying.{Ahead, begin, one, piece, done}
+use Rattle.listing.proofs.Laying.{from-place, Ahead, begin, one, piece, done}
 use Rattle.listing.proofs.word.write_word.Statement.{statement}
 use Rattle.listing.proofs.word.write_word.Tie as tie
-
-next : (word : List ℕ) (i : ℕ) → i < length word → drop i word ≡ getD word i 0 ∷ drop (i + 1) word
-next word i h = rw (add-one i) (drop-cons word i 0 h)
 
 abbrev Inv-loop : tie.InvT-loop
 Inv-loop text₀ at word end₀ i₀ text end i =
@@ -43,7 +38,7 @@ loop-again c =
     let a = c .before .before .before .args in
     let l = c .before .before .loop in
     let byte = getD (a .word .now) (l .i) 0 in
-    (omega arith, omega arith, piece {xs = byte ∷ []} (rw (next (a .word .now) (l .i) (c .before .loop-test .taken)) at (l .inv .2)) (one (l .text) (l .end) byte))
+    (omega arith, omega arith, piece {xs = byte ∷ []} (rw (from-place (a .word .now) (l .i) (c .before .loop-test .taken)) at (l .inv .2)) (one (l .text) (l .end) byte))
 
 same-length : tie.Need-same-length Inv-loop μ-loop
 same-length c = c .before .loop .inv .2 .long
