@@ -23,4 +23,5 @@ pub use number::add_word;
 pub use number::end_line;
 pub use number::length_of;
 pub use output::tell;
+pub use output::write_listing;
 pub use output::write_output;

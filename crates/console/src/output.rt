@@ -11,6 +11,23 @@ pub fn write_output(text: &[u8]) -> bool {
     done
 }
 
+// Writes a listing, and tells a refusal as well.
+pub fn write_listing(text: &[u8]) {
+    let is_written = write_output(text);
+    if is_written && is_refusal(text) {
+        tell(text);
+    }
+}
+
+// A refusal's line begins with its word, a listing with a number.
+fn is_refusal(text: &[u8]) -> bool {
+    if text.len() == 0 {
+        false
+    } else {
+        text[0] == b'r'
+    }
+}
+
 // Says on standard error how the run ended, for the script that runs the program.
 pub fn tell(text: &[u8]) {
     io::write_all(STDERR_FILENO, text);
