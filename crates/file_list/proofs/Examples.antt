@@ -16,7 +16,7 @@ use Rattle.record_file.specs.Format.{word, signed}
 use Rattle.record_file.specs.Rows.{recordRows, reading}
 use Rattle.listing.specs.Decimal.{naturalIn, natural}
 use Rattle.listing.specs.Listing.{outlineText}
-use Rattle.file_list.specs.Files.{shapeText, fileText}
+use Rattle.file_list.specs.Files.{shapeText, textOf, fileText}
 
 -- basis 1, depth 1 and records (0,0), (0,8), (8,8), (8,0)
 abbrev pub file : List ℕ
@@ -37,5 +37,5 @@ listing =
     ∷ []
 
 pub paper-listed : fileText file ≡ listing
-unfolding fileText reading judge recordRows format.number sumOf number word signed tab coordinate basisOf spansOf recordsOf allowed outside seek planOf pointsOf shapeText draws firstRecord recordsFrom sixfoldControls weighted weights dot nearest halfUp point outlineText natural naturalIn
+unfolding textOf reading judge recordRows format.number sumOf number word signed tab coordinate basisOf spansOf recordsOf allowed outside seek planOf pointsOf shapeText draws firstRecord recordsFrom sixfoldControls weighted weights dot nearest halfUp point outlineText natural naturalIn
 paper-listed = refl

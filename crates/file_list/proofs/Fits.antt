@@ -25,7 +25,9 @@ use Rattle.record_file.specs.Format.{numbers}
 use Rattle.record_file.specs.Rows.{mostBytes, recordCount, lengthRows, recordRows, laterRows, fileRows}
 use Rattle.record_file.proofs.Exactly.{first-refused, none-read}
 use Rattle.listing.specs.Listing.{outlineText}
-use Rattle.file_list.specs.Files.{controls, points, mostText, fileText}
+use Rattle.file_list.specs.declared.Spacing.{Spacing}
+use Rattle.file_list.specs.declared.Spacing.the-variants.{Even}
+use Rattle.file_list.specs.Files.{controls, points, mostText, textOf, fileText}
 use Rattle.file_list.proofs.Texts.{text-then, read-text, unread-text}
 use Rattle.file_list.proofs.Read.{s, p, held, good, lent, few-points, read-drawn}
 use Rattle.file_list.proofs.Lengths.{refusal-length, outline-length}
@@ -58,10 +60,10 @@ module _ (file : List ℕ) where
       each-first Short rest (each-both Short (recordRows file 0 n) (laterRows file n controls) (records-short 0 n (omega (arith, few))) (later-short n few)) r (g .1))
       (first-either first rest r f)
 
-  refused-fits : (r : Refusal) → First (fileRows file controls) r → length (fileText file) ≤ mostText
-  refused-fits r f =
+  refused-fits : (spacing : Spacing) (r : Refusal) → First (fileRows file controls) r → length (textOf spacing file) ≤ mostText
+  refused-fits spacing r f =
       let few = refused-short r f in
-      subst (λ t. length t ≤ mostText) (sym (unread-text file r controls (first-refused file controls r f))) (omega (arith, refusal-length (r .number) (r .place) (few .number) (few .place)))
+      subst (λ t. length t ≤ mostText) (sym (unread-text spacing file r controls (first-refused file controls r f))) (omega (arith, refusal-length (r .number) (r .place) (few .number) (few .place)))
 
 -- ---- what is drawn
 
@@ -82,15 +84,14 @@ drawn-fits file none =
     let ok = good file none in
     let few = few-points file none in
     let text : fileText file ≡ outlineText (sh .basis) (sh .depth) (q .spans) (tab f 0 (2 * m)) =
-    read-text file sh c (none-read file controls none)
+    read-text Even file sh c (none-read file controls none)
     ∙ text-then sh c (outline.accepts q c points) (read-drawn file none)
     ∙ ap (outlineText (sh .basis) (sh .depth) (q .spans)) (front points f (2 * m) (omega (arith, few))) in
-    let long =
-    outline-length (sh .basis) (sh .depth) (q .spans) f m (omega (arith, ok .basis-most)) (omega (arith, ok .depth, ok .depth-most)) (omega (arith, ok .spans-most, ok .records-most)) few
+    subst (λ t. length t ≤ mostText) (sym text)
+    (outline-length (sh .basis) (q .spans) f m (omega (arith, ok .basis-most)) (omega (arith, ok .spans-most, ok .records-most)) few
     (λ i h. omega (arith, number-within sh q ok c m (length points) (lent file none) i h))
-    (length-tab f 0 (2 * m)) in
-    subst (λ t. length t ≤ mostText) (sym text) (omega (arith, long, few))
+    (sh .depth) (omega (arith, ok .depth, ok .depth-most)))
 
 -- So what `list_file` writes into a text of that length is the whole listing, for every file.
 pub fits : (file : List ℕ) → length (fileText file) ≤ mostText
-fits file = ⊎-elim (λ (v : (r : Refusal) × First (fileRows file controls) r). refused-fits file (v .0) (v .1)) (drawn-fits file) (verdict (fileRows file controls))
+fits file = ⊎-elim (λ (v : (r : Refusal) × First (fileRows file controls) r). refused-fits file Even (v .0) (v .1)) (drawn-fits file) (verdict (fileRows file controls))

@@ -1,4 +1,4 @@
--- The text of a file is never longer than the room for the longest: a heading has at most 12 characters, each point a line of at most 23, since its number has four digits and
+-- The text of a file is never longer than the room for the longest: a heading has at most 21 characters, each point a line of at most 23, since its number has four digits and
 -- its coordinates seven and a sign; and the line of a refusal has at most 14.
 use mathlib.Core.Path.{_≡_, subst}
 use mathlib.Core.List.{List, [], _∷_, _++_}
@@ -7,10 +7,11 @@ use native.Mathlib.Omega.{arith}
 use lib.IntN.{ℤ, pos, negsuc, natAbs}
 use lib.ListN.{length, length-append}
 use Rattle.curve.specs.Tab.{tab}
+use Rattle.curve.proofs.Tab.{length-tab}
 use Rattle.listing.specs.Decimal.{natural, decimal}
-use Rattle.listing.specs.Listing.{space, newline, numbersLine, pointLine, pointLines, outlineText, refusalText}
+use Rattle.listing.specs.Listing.{space, newline, numbersLine, pointLine, pointLines, textUnder, outlineText, chosenText, refusalText}
 use Rattle.listing.proofs.Digits.{at-most}
-use Rattle.file_list.specs.Files.{mostListed, mostHeading}
+use Rattle.file_list.specs.Files.{mostListed, mostHeading, mostText}
 
 decimal-at-most : (k : ℕ) (z : ℤ) → natAbs z < 10 ^ suc k → length (decimal z) ≤ suc (suc k)
 decimal-at-most k (pos n) h = omega (arith, at-most k n h)
@@ -51,38 +52,40 @@ point-lines f i j (suc m) few near =
       point-lines f (suc i) (suc (suc j)) m (omega arith) (λ q a b. near q (omega arith) (omega arith)),
     ))
 
-heading-length : (b k m n : ℕ) → b < 10 → k < 10 → m < 10 ^ 2 → n < 10 ^ 4 → length (numbersLine (b ∷ k ∷ m ∷ n ∷ [])) ≤ mostHeading
-heading-length b k m n small shallow short few =
-    let last = natural n ++ (newline ∷ []) in
-    let third = natural m ++ (space ∷ last) in
-    let second = natural k ++ (space ∷ third) in
-    omega (
-      arith,
-      word-length (natural b) space second,
-      word-length (natural k) space third,
-      word-length (natural m) space last,
-      word-length (natural n) newline [],
-      at-most 0 b small,
-      at-most 0 k shallow,
-      at-most 1 m short,
-      at-most 3 n few,
-    )
+-- a number of at most so many digits, first of a heading's or last
+first-number : (k n next : ℕ) (rest : List ℕ) → n < 10 ^ suc k → length (numbersLine (n ∷ next ∷ rest)) ≤ suc k + 1 + length (numbersLine (next ∷ rest))
+first-number k n next rest few = omega (arith, word-length (natural n) space (numbersLine (next ∷ rest)), at-most k n few)
+
+last-number : (k n : ℕ) → n < 10 ^ suc k → length (numbersLine (n ∷ [])) ≤ suc k + 1
+last-number k n few = omega (arith, word-length (natural n) newline [], at-most k n few)
 
 pub refusal-length : (a b : ℕ) → a < 10 ^ 2 → b < 10 ^ 2 → length (refusalText a b) ≤ 14
 refusal-length a b few low =
     let last = natural b ++ (newline ∷ []) in
     omega (arith, word-length (natural a) space last, word-length (natural b) newline [], at-most 1 a few, at-most 1 b low)
 
--- an outline of m points whose numbers a rule gives
-pub outline-length : (b k s : ℕ) (f : ℕ → ℤ) (m : ℕ) → b < 10 → k < 10 → s < 10 ^ 2 → m ≤ mostListed → ((q : ℕ) → q < 2 * m → natAbs (f q) < 10 ^ 7) → length (tab f 0 (2 * m)) ≡ 2 * m
-    → length (outlineText b k s (tab f 0 (2 * m))) ≤ mostHeading + 23 * m
-unfolding outlineText
-outline-length b k s f m small shallow short few near all =
-    let points = tab f 0 (2 * m) in
-    let count : length points / 2 ≡ m = omega (arith, all) in
-    omega (
-      arith,
-      length-append (numbersLine (b ∷ k ∷ s ∷ length points / 2 ∷ [])) (pointLines 0 points),
-      heading-length b k s (length points / 2) small shallow short (omega (arith, count)),
-      point-lines f 0 0 m (omega arith) (λ q _ h. near q (omega arith)),
-    )
+-- points whose numbers a rule gives, under a heading
+text-length : (heading : List ℕ) (f : ℕ → ℤ) (m : ℕ) → length (numbersLine heading) ≤ mostHeading → m ≤ mostListed → ((q : ℕ) → q < 2 * m → natAbs (f q) < 10 ^ 7) → length (textUnder heading (tab f 0 (2 * m))) ≤ mostText
+text-length heading f m short few near =
+    omega (arith, length-append (numbersLine heading) (pointLines 0 (tab f 0 (2 * m))), point-lines f 0 0 m (omega arith) (λ q _ h. near q (omega arith)))
+
+module _ (b s : ℕ) (f : ℕ → ℤ) (m : ℕ) (small : b < 10) (short : s < 10 ^ 2) (few : m ≤ mostListed) (near : (q : ℕ) → q < 2 * m → natAbs (f q) < 10 ^ 7) where
+  -- the number of points that a heading says is m
+  half : length (tab f 0 (2 * m)) / 2 ≡ m
+  half = omega (arith, length-tab f 0 (2 * m))
+
+  -- an outline of m points
+  pub outline-length : (k : ℕ) → k < 10 → length (outlineText b k s (tab f 0 (2 * m))) ≤ mostText
+  unfolding outlineText
+  outline-length k shallow =
+      let n = length (tab f 0 (2 * m)) / 2 in
+      text-length (b ∷ k ∷ s ∷ n ∷ []) f m
+      (omega (arith, half, first-number 0 b k (s ∷ n ∷ []) small, first-number 0 k s (n ∷ []) shallow, first-number 1 s n [] short, last-number 3 n (omega (arith, half)))) few near
+
+  -- the same with steps chosen by tolerance
+  pub chosen-length : (t c : ℕ) → t < 10 ^ 5 → c < 10 ^ 4 → length (chosenText b t s c (tab f 0 (2 * m))) ≤ mostText
+  unfolding chosenText
+  chosen-length t c fine sparse =
+      let n = length (tab f 0 (2 * m)) / 2 in
+      text-length (b ∷ t ∷ s ∷ n ∷ c ∷ []) f m
+      (omega (arith, half, first-number 0 b t (s ∷ n ∷ c ∷ []) small, first-number 4 t s (n ∷ c ∷ []) fine, first-number 1 s n (c ∷ []) short, first-number 3 n c [] (omega (arith, half)), last-number 3 c sparse)) few near

@@ -1,4 +1,5 @@
 pub mod Examples
+pub mod Chosen
 pub mod Texts
 pub mod Read
 pub mod Lengths

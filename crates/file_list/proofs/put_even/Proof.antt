@@ -2,12 +2,13 @@
 use mathlib.Core.Path.{sym, ap, _∙_}
 use Prim.Native.Nat.{ℕ}
 use Rattle.whole.specs.Outcome.{outcome}
+use Rattle.outline.specs.declared.Drawn.the-variants as drawn
 use Rattle.listing.specs.Listing.{listed}
 use Rattle.listing.specs.Written.{written}
-use Rattle.file_list.proofs.Texts.{refused-text, listed-text}
+use Rattle.file_list.proofs.Texts.{text-then, listed-text}
 use borrow.Author.Needs.{needs}
-use Rattle.file_list.proofs.put_outline.Statement.{statement}
-use Rattle.file_list.proofs.put_outline.Tie as tie
+use Rattle.file_list.proofs.put_even.Statement.{statement}
+use Rattle.file_list.proofs.put_even.Tie as tie
 
 slice-aggregate-by-weights : tie.Need-slice-aggregate-by-weights
 slice-aggregate-by-weights c = search needs
@@ -40,7 +41,7 @@ returns c =
     let refused = c .before .before .before .before .before .refusal .given in
     c .before .before .put-refusal .ensures
     ∙ ap (written (a .text .now) 0)
-    (sym (refused-text (a .shape) (a .controls .now) (refused .0 .0) (drew .last .1 .1 .0) (sym (drew .ensures) ∙ ap (λ r. outcome r (drew .last .1 .1 .0)) (refused .1))))
+    (sym (text-then (a .shape) (a .controls .now) (outcome (drawn.Refused (refused .0 .0)) (drew .last .1 .1 .0)) (sym (drew .ensures) ∙ ap (λ r. outcome r (drew .last .1 .1 .0)) (refused .1))))
 
 same-length-2 : tie.Need-same-length-2
 same-length-2 c = search needs
@@ -54,8 +55,8 @@ returns-2 c =
     ∙ ap (λ (m : ℕ). listed (a .text .now) (a .shape .basis) (a .shape .depth) m (drew .last .1 .1 .0) (drawn .0 .0 .points)) (c .before .before .before .before .before .before .before .before .before .before .before .before .pre)
     ∙ listed-text (a .shape) (a .controls .now) (drawn .0 .0) (drew .last .1 .1 .0) (a .text .now) (sym (drew .ensures) ∙ ap (λ r. outcome r (drew .last .1 .1 .0)) (drawn .1))
 
-pub put-outline-spec : {M : Type 1} → statement M
-put-outline-spec =
+pub put-even-spec : {M : Type 1} → statement M
+put-even-spec =
     tie.close
     (tie.spec
     slice-aggregate-by-weights

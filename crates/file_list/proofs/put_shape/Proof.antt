@@ -34,7 +34,7 @@ returns c =
     let a = c .before .before .before .before .before .before .before .before .before .args in
     let checked = c .before .before .before .before .before .before .before .check-shape in
     let refused = c .before .before .before .before .before .refusal .given in
-    c .before .before .put-refusal .ensures ∙ ap (written (a .text .now) 0) (sym (unsound-text (a .shape) (a .controls .now) (refused .0 .0) (sym (checked .ensures) ∙ refused .1)))
+    c .before .before .put-refusal .ensures ∙ ap (written (a .text .now) 0) (sym (unsound-text (a .spacing) (a .shape) (a .controls .now) (refused .0 .0) (sym (checked .ensures) ∙ refused .1)))
 
 same-length-2 : tie.Need-same-length-2
 same-length-2 c = search needs
