@@ -1,4 +1,5 @@
--- The listing of every file fits the room for the longest: a file is refused by a row whose number and place are small, or its outline is drawn and its points are near.
+-- The listing of every file fits the room for the longest, with even steps and with chosen ones: a file is refused by a row whose number and place are small, or its outline is drawn, and its
+-- points are few and near.
 use mathlib.Core.Path.{_≡_, sym, ap, _∙_, subst}
 use mathlib.Core.List.{List, _++_}
 use mathlib.Core.Logic.{⊎-elim}
@@ -6,31 +7,46 @@ use Prim.Native.Nat.{ℕ, zero, suc, _+_, _*_, _^_, _≤_, _<_}
 use native.Mathlib.Omega.{arith}
 use borrow.Author.Needs.{needs}
 use borrow.Author.Tests.{ltb-false}
+use Rattle.whole.specs.Outcome.{Outcome, refuses}
 use lib.Dec.{ltb, eqb}
 use lib.IntN.{ℤ}
 use lib.ListN.{length, take, drop}
 use lib.Seq.{sets, sets-eq, take-at}
 use Rattle.curve.specs.Tab.{tab}
 use Rattle.curve.proofs.Tab.{length-tab}
+use Rattle.shape.specs.declared.Shape.{Shape}
+use Rattle.shape.specs.declared.Plan.{Plan}
 use Rattle.shape.specs.declared.Refusal.{Refusal}
+use Rattle.shape.specs.Inner.{Good}
 use Rattle.shape.specs.Shape.{mostRecords}
 use Rattle.shape.specs.Refusals.{First, NoRow, outside}
 use Rattle.shape.proofs.Refusals.{row-fails, first-either, Each, each-both, each-first, verdict}
 use Rattle.shape.proofs.Seek.{seek-to}
 use Rattle.shape.proofs.Tests.{or-false}
 use Rattle.spans.specs.Numbers as spans
+use Rattle.spans.proofs.Drawables.{drawable}
+use Rattle.pieces.specs.Tree.{mostTolerance}
+use Rattle.pieces.specs.Values.{numbers}
+use Rattle.pieces.proofs.Writes.{length-numbers}
+use Rattle.tolerance.specs.declared.Chosen.{Chosen}
+use Rattle.tolerance.specs.declared.Chosen.the-variants as chosen
+use Rattle.tolerance.specs.Reading.{chooseRows, valuesOf, cutsOf, pointsFor, accepts, chooses}
+use Rattle.tolerance.specs.Inner.{Walkable}
+use Rattle.tolerance.proofs.Left.{values-length, cuts-below}
 use Rattle.outline.specs.Outline as outline
 use Rattle.outline.proofs.Within.{number-within}
-use Rattle.record_file.specs.Format.{numbers}
+use Rattle.record_file.specs.Format as format
 use Rattle.record_file.specs.Rows.{mostBytes, recordCount, lengthRows, recordRows, laterRows, fileRows}
 use Rattle.record_file.proofs.Exactly.{first-refused, none-read}
-use Rattle.listing.specs.Listing.{outlineText}
+use Rattle.listing.specs.Listing.{outlineText, chosenText}
 use Rattle.file_list.specs.declared.Spacing.{Spacing}
-use Rattle.file_list.specs.declared.Spacing.the-variants.{Even}
-use Rattle.file_list.specs.Files.{controls, points, mostText, textOf, fileText}
-use Rattle.file_list.proofs.Texts.{text-then, read-text, unread-text}
-use Rattle.file_list.proofs.Read.{s, p, held, good, lent, few-points, read-drawn}
-use Rattle.file_list.proofs.Lengths.{refusal-length, outline-length}
+use Rattle.file_list.specs.declared.Spacing.the-variants.{Even, ByTolerance}
+use Rattle.file_list.specs.Files.{mostSpans, mostListed, controls, points, mostText, cutText, textOf, fileText, cutFileText}
+use Rattle.file_list.proofs.Texts.{text-then, cut-then, read-text, unread-text}
+use Rattle.file_list.proofs.Read.{n, s, p, held, good, lent, few-points, read-drawn}
+use Rattle.file_list.proofs.Lengths.{refusal-length, outline-length, chosen-length}
+use Rattle.file_list.proofs.Small.{small-tab, small-chosen}
+use Rattle.file_list.proofs.Chosen.{refused-chosen, none-chosen}
 
 -- ---- a refusal's number and place have at most two digits
 
@@ -46,7 +62,7 @@ module _ (file : List ℕ) where
       (record { number = omega arith; place = omega arith }, (record { number = omega arith; place = omega arith }, records-short (suc i) m (omega arith)))
 
   later-short : (m : ℕ) → m ≤ mostRecords → Each Short (laterRows file m controls)
-  later-short m few = let found = seek-to (outside (numbers file m)) 0 m in search needs
+  later-short m few = let found = seek-to (outside (format.numbers file m)) 0 m in search needs
 
   refused-short : (r : Refusal) → First (fileRows file controls) r → Short r
   refused-short r f =
@@ -65,33 +81,91 @@ module _ (file : List ℕ) where
       let few = refused-short r f in
       subst (λ t. length t ≤ mostText) (sym (unread-text spacing file r controls (first-refused file controls r f))) (omega (arith, refusal-length (r .number) (r .place) (few .number) (few .place)))
 
+  -- what a file that was read is refused for, if its steps are chosen by tolerance
+  chosen-short : (tolerance most : ℕ) (none : NoRow (fileRows file controls)) (r : Refusal) → First (chooseRows (s file none) tolerance most (held file none) points) r → Short r
+  chosen-short tolerance most none r f =
+      let found = seek-to (outside (held file none)) 0 (n file none) in
+      let few = good file none .records-most in
+      each-first Short (chooseRows (s file none) tolerance most (held file none) points) (search needs) r f
+
 -- ---- what is drawn
 
 -- the numbers that were written at the start of a list
-front : (l : List ℤ) (f : ℕ → ℤ) (m : ℕ) → m ≤ length l → take m (sets l 0 (tab f 0 m)) ≡ tab f 0 m
-front l f m room =
-    let vs = tab f 0 m in
-    let fits : 0 + length vs ≤ length l = omega (arith, length-tab f 0 m) in
-    ap (take m) (sets-eq vs l 0 fits) ∙ take-at vs (drop (0 + length vs) l) m (length-tab f 0 m)
+front : (l vs : List ℤ) (m : ℕ) → length vs ≡ m → m ≤ length l → take m (sets l 0 vs) ≡ vs
+front l vs m long room =
+    let fits : 0 + length vs ≤ length l = omega arith in
+    ap (take m) (sets-eq vs l 0 fits) ∙ take-at vs (drop (0 + length vs) l) m long
 
-drawn-fits : (file : List ℕ) → NoRow (fileRows file controls) → length (fileText file) ≤ mostText
-drawn-fits file none =
-    let sh = s file none in
-    let q = p file none in
-    let c = held file none in
-    let m = outline.points q in
-    let f = spans.number q c in
-    let ok = good file none in
-    let few = few-points file none in
-    let text : fileText file ≡ outlineText (sh .basis) (sh .depth) (q .spans) (tab f 0 (2 * m)) =
-    read-text Even file sh c (none-read file controls none)
-    ∙ text-then sh c (outline.accepts q c points) (read-drawn file none)
-    ∙ ap (outlineText (sh .basis) (sh .depth) (q .spans)) (front points f (2 * m) (omega (arith, few))) in
-    subst (λ t. length t ≤ mostText) (sym text)
-    (outline-length (sh .basis) (q .spans) f m (omega (arith, ok .basis-most)) (omega (arith, ok .spans-most, ok .records-most)) few
-    (λ i h. omega (arith, number-within sh q ok c m (length points) (lent file none) i h))
-    (sh .depth) (omega (arith, ok .depth, ok .depth-most)))
+module _ (file : List ℕ) (none : NoRow (fileRows file controls)) where
+  abbrev sh : Shape
+  sh = s file none
 
--- So what `list_file` writes into a text of that length is the whole listing, for every file.
+  abbrev q : Plan
+  q = p file none
+
+  abbrev c : List ℤ
+  c = held file none
+
+  ok : Good sh q
+  ok = good file none
+
+  basis-short : sh .basis < 10
+  basis-short = omega (arith, ok .basis-most)
+
+  spans-few : q .spans ≤ mostSpans
+  spans-few = omega (arith, ok .spans-most, ok .records-most)
+
+  drawn-fits : length (fileText file) ≤ mostText
+  drawn-fits =
+      let m = outline.points q in
+      let f = spans.number q c in
+      let few = few-points file none in
+      let text : fileText file ≡ outlineText (sh .basis) (sh .depth) (q .spans) (tab f 0 (2 * m)) =
+      read-text Even file sh c (none-read file controls none)
+      ∙ text-then sh c (outline.accepts q c points) (read-drawn file none)
+      ∙ ap (outlineText (sh .basis) (sh .depth) (q .spans)) (front points (tab f 0 (2 * m)) (2 * m) (length-tab f 0 (2 * m)) (omega (arith, few))) in
+      subst (λ t. length t ≤ mostText) (sym text)
+      (outline-length (sh .basis) (q .spans) (tab f 0 (2 * m)) basis-short (omega (arith, spans-few)) (omega (arith, length-tab f 0 (2 * m), few))
+      (small-tab f 0 (2 * m) (λ i _ h. omega (arith, number-within sh q ok c m (length points) (lent file none) i (omega arith))))
+      (sh .depth) (omega (arith, ok .depth, ok .depth-most)))
+
+  module _ (tolerance most : ℕ) where
+    abbrev spacing : Spacing
+    spacing = ByTolerance tolerance most
+
+    read-cut : (o : Outcome Chosen (List ℤ)) → chooses sh tolerance most c points ≡ o → cutFileText tolerance most file ≡ cutText sh tolerance (o .held) (o .answer)
+    read-cut o e = read-text spacing file sh c (none-read file controls none) ∙ cut-then tolerance most sh c o e
+
+    refused-cut-fits : (r : Refusal) → First (chooseRows sh tolerance most c points) r → length (cutFileText tolerance most file) ≤ mostText
+    refused-cut-fits r f =
+        let few = chosen-short file tolerance most none r f in
+        subst (λ t. length t ≤ mostText) (sym (read-cut (refuses chosen.Refused points r) (refused-chosen sh tolerance most c points r f))) (omega (arith, refusal-length (r .number) (r .place) (few .number) (few .place)))
+
+    chosen-fits : NoRow (chooseRows sh tolerance most c points) → length (cutFileText tolerance most file) ≤ mostText
+    chosen-fits free =
+        let near : tolerance ≤ mostTolerance = ltb-false mostTolerance tolerance (row-fails 20 (chooseRows sh tolerance most c points) free) in
+        let walkable : Walkable q tolerance c = record { some = ok .spans-least; drawable = drawable sh q ok c (outline.points q) (length points) (lent file none); near = near } in
+        let vs = numbers (valuesOf q tolerance c) in
+        let made = cutsOf q tolerance c in
+        let m = pointsFor q made in
+        let sparse = cuts-below q tolerance c in
+        let long : length vs ≡ 2 * m = length-numbers (valuesOf q tolerance c) ∙ values-length q tolerance c in
+        let few : m ≤ mostListed = omega (arith, spans-few, sparse) in
+        let text : cutFileText tolerance most file ≡ chosenText (sh .basis) tolerance (q .spans) made vs =
+        read-cut (accepts q tolerance c points) (none-chosen sh tolerance most c points free)
+        ∙ ap (chosenText (sh .basis) tolerance (q .spans) made) (front points vs (2 * m) long (omega (arith, few))) in
+        subst (λ t. length t ≤ mostText) (sym text)
+        (chosen-length (sh .basis) (q .spans) vs basis-short (omega (arith, spans-few)) (omega (arith, long, few)) (small-chosen q tolerance c walkable) tolerance made (omega (arith, near)) (omega (arith, spans-few, sparse)))
+
+    cut-drawn-fits : length (cutFileText tolerance most file) ≤ mostText
+    cut-drawn-fits =
+        ⊎-elim (λ (v : (r : Refusal) × First (chooseRows sh tolerance most c points) r). refused-cut-fits (v .0) (v .1)) chosen-fits (verdict (chooseRows sh tolerance most c points))
+
+-- So what `list_file` and `cut_file` write into a text of that length is the whole listing, for every file.
 pub fits : (file : List ℕ) → length (fileText file) ≤ mostText
 fits file = ⊎-elim (λ (v : (r : Refusal) × First (fileRows file controls) r). refused-fits file Even (v .0) (v .1)) (drawn-fits file) (verdict (fileRows file controls))
+
+pub cut-fits : (tolerance most : ℕ) (file : List ℕ) → length (cutFileText tolerance most file) ≤ mostText
+cut-fits tolerance most file =
+    ⊎-elim (λ (v : (r : Refusal) × First (fileRows file controls) r). refused-fits file (ByTolerance tolerance most) (v .0) (v .1))
+    (λ (none : NoRow (fileRows file controls)). cut-drawn-fits file none tolerance most) (verdict (fileRows file controls))

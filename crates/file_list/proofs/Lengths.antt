@@ -1,13 +1,11 @@
 -- The text of a file is never longer than the room for the longest: a heading has at most 21 characters, each point a line of at most 23, since its number has four digits and
 -- its coordinates seven and a sign; and the line of a refusal has at most 14.
-use mathlib.Core.Path.{_≡_, subst}
+use mathlib.Core.Path.{_≡_}
 use mathlib.Core.List.{List, [], _∷_, _++_}
-use Prim.Native.Nat.{ℕ, zero, suc, _+_, _*_, _/_, _^_, _≤_, _<_}
+use Prim.Native.Nat.{ℕ, suc, _+_, _*_, _/_, _^_, _≤_, _<_}
 use native.Mathlib.Omega.{arith}
 use lib.IntN.{ℤ, pos, negsuc, natAbs}
 use lib.ListN.{length, length-append}
-use Rattle.curve.specs.Tab.{tab}
-use Rattle.curve.proofs.Tab.{length-tab}
 use Rattle.listing.specs.Decimal.{natural, decimal}
 use Rattle.listing.specs.Listing.{space, newline, numbersLine, pointLine, pointLines, textUnder, outlineText, chosenText, refusalText}
 use Rattle.listing.proofs.Digits.{at-most}
@@ -37,20 +35,21 @@ point-line i x y few near near' =
       decimal-at-most 6 y near',
     )
 
-point-lines : (f : ℕ → ℤ) (i j m : ℕ) → i + m ≤ 10 ^ 4 → ((q : ℕ) → j ≤ q → q < j + 2 * m → natAbs (f q) < 10 ^ 7) → length (pointLines i (tab f j (2 * m))) ≤ 23 * m
-unfolding tab
-point-lines f i j zero few near = omega arith
-point-lines f i j (suc m) few near =
-    let two : suc (suc (2 * m)) ≡ 2 * suc m = omega arith in
-    let line = pointLine i (f j) (f (suc j)) in
-    let rest = pointLines (suc i) (tab f (suc (suc j)) (2 * m)) in
-    subst (λ (k : ℕ). length (pointLines i (tab f j k)) ≤ 23 * suc m) two
-    (omega (
+-- every number of a list has at most seven digits
+abbrev pub Small : List ℤ → Type 0
+Small [] = Unit {0}
+Small (z ∷ zs) = (natAbs z < 10 ^ 7) × Small zs
+
+point-lines : (i : ℕ) (points : List ℤ) → 2 * i + length points ≤ 2 * 10 ^ 4 → Small points → 2 * length (pointLines i points) ≤ 23 * length points
+point-lines i [] few near = omega arith
+point-lines i (x ∷ []) few near = omega arith
+point-lines i (x ∷ y ∷ points) few near =
+    omega (
       arith,
-      length-append line rest,
-      point-line i (f j) (f (suc j)) (omega arith) (near j (omega arith) (omega arith)) (near (suc j) (omega arith) (omega arith)),
-      point-lines f (suc i) (suc (suc j)) m (omega arith) (λ q a b. near q (omega arith) (omega arith)),
-    ))
+      length-append (pointLine i x y) (pointLines (suc i) points),
+      point-line i x y (omega arith) (near .0) (near .1 .0),
+      point-lines (suc i) points (omega arith) (near .1 .1),
+    )
 
 -- a number of at most so many digits, first of a heading's or last
 first-number : (k n next : ℕ) (rest : List ℕ) → n < 10 ^ suc k → length (numbersLine (n ∷ next ∷ rest)) ≤ suc k + 1 + length (numbersLine (next ∷ rest))
@@ -64,28 +63,25 @@ refusal-length a b few low =
     let last = natural b ++ (newline ∷ []) in
     omega (arith, word-length (natural a) space last, word-length (natural b) newline [], at-most 1 a few, at-most 1 b low)
 
--- points whose numbers a rule gives, under a heading
-text-length : (heading : List ℕ) (f : ℕ → ℤ) (m : ℕ) → length (numbersLine heading) ≤ mostHeading → m ≤ mostListed → ((q : ℕ) → q < 2 * m → natAbs (f q) < 10 ^ 7) → length (textUnder heading (tab f 0 (2 * m))) ≤ mostText
-text-length heading f m short few near =
-    omega (arith, length-append (numbersLine heading) (pointLines 0 (tab f 0 (2 * m))), point-lines f 0 0 m (omega arith) (λ q _ h. near q (omega arith)))
+-- points under a heading
+text-length : (heading : List ℕ) (points : List ℤ) → length (numbersLine heading) ≤ mostHeading → length points ≤ 2 * mostListed → Small points → length (textUnder heading points) ≤ mostText
+text-length heading points short few near = omega (arith, length-append (numbersLine heading) (pointLines 0 points), point-lines 0 points (omega arith) near)
 
-module _ (b s : ℕ) (f : ℕ → ℤ) (m : ℕ) (small : b < 10) (short : s < 10 ^ 2) (few : m ≤ mostListed) (near : (q : ℕ) → q < 2 * m → natAbs (f q) < 10 ^ 7) where
-  -- the number of points that a heading says is m
-  half : length (tab f 0 (2 * m)) / 2 ≡ m
-  half = omega (arith, length-tab f 0 (2 * m))
+module _ (b s : ℕ) (points : List ℤ) (small : b < 10) (short : s < 10 ^ 2) (few : length points ≤ 2 * mostListed) (near : Small points) where
+  -- how many points a heading says there are
+  abbrev n : ℕ
+  n = length points / 2
 
-  -- an outline of m points
-  pub outline-length : (k : ℕ) → k < 10 → length (outlineText b k s (tab f 0 (2 * m))) ≤ mostText
+  pub outline-length : (k : ℕ) → k < 10 → length (outlineText b k s points) ≤ mostText
   unfolding outlineText
   outline-length k shallow =
-      let n = length (tab f 0 (2 * m)) / 2 in
-      text-length (b ∷ k ∷ s ∷ n ∷ []) f m
-      (omega (arith, half, first-number 0 b k (s ∷ n ∷ []) small, first-number 0 k s (n ∷ []) shallow, first-number 1 s n [] short, last-number 3 n (omega (arith, half)))) few near
+      text-length (b ∷ k ∷ s ∷ n ∷ []) points
+      (omega (arith, first-number 0 b k (s ∷ n ∷ []) small, first-number 0 k s (n ∷ []) shallow, first-number 1 s n [] short, last-number 3 n (omega arith)))
+      few near
 
-  -- the same with steps chosen by tolerance
-  pub chosen-length : (t c : ℕ) → t < 10 ^ 5 → c < 10 ^ 4 → length (chosenText b t s c (tab f 0 (2 * m))) ≤ mostText
+  pub chosen-length : (t c : ℕ) → t < 10 ^ 5 → c < 10 ^ 4 → length (chosenText b t s c points) ≤ mostText
   unfolding chosenText
   chosen-length t c fine sparse =
-      let n = length (tab f 0 (2 * m)) / 2 in
-      text-length (b ∷ t ∷ s ∷ n ∷ c ∷ []) f m
-      (omega (arith, half, first-number 0 b t (s ∷ n ∷ c ∷ []) small, first-number 4 t s (n ∷ c ∷ []) fine, first-number 1 s n (c ∷ []) short, first-number 3 n c [] (omega (arith, half)), last-number 3 c sparse)) few near
+      text-length (b ∷ t ∷ s ∷ n ∷ c ∷ []) points
+      (omega (arith, first-number 0 b t (s ∷ n ∷ c ∷ []) small, first-number 4 t s (n ∷ c ∷ []) fine, first-number 1 s n (c ∷ []) short, first-number 3 n c [] (omega arith), last-number 3 c sparse))
+      few near

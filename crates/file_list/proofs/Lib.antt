@@ -3,5 +3,6 @@ pub mod Chosen
 pub mod Texts
 pub mod Read
 pub mod Lengths
+pub mod Small
 pub mod Fits
 pub mod Unique

@@ -1,10 +1,8 @@
 -- `listing::line::write_numbers` meets its contract: each number with the character after it is the first of what lies ahead, until the last is laid and nothing does.
 use Prim.Native.Nat.{ℕ, _+_, _-_, _≤_}
-use mathlib.Core.List.{List, [], _∷_, _++_}
-use mathlib.Core.Path.{_≡_}
+use mathlib.Core.List.{[], _∷_, _++_}
 use native.Mathlib.Omega.{arith}
 use borrow.Author.Needs.{needs}
-use lib.ListN.{length}
 use Rattle.listing.specs.Listing.{space, newline}
 use Rattle.listing.proofs.Laying.{Ahead, begin, done, word-fits, word-laid}
 use Rattle.listing.proofs.Numbers.{from, text-of, next, last}
