@@ -10,8 +10,8 @@ use borrow.Author.Tests.{ltb-false}
 use Rattle.whole.specs.Outcome.{Outcome, refuses}
 use lib.Dec.{ltb, eqb}
 use lib.IntN.{ℤ}
-use lib.ListN.{length, take, drop}
-use lib.Seq.{sets, sets-eq, take-at}
+use lib.ListN.{length, take, length-take}
+use lib.Seq.{sets}
 use Rattle.curve.specs.Tab.{tab}
 use Rattle.curve.proofs.Tab.{length-tab}
 use Rattle.shape.specs.declared.Shape.{Shape}
@@ -20,33 +20,31 @@ use Rattle.shape.specs.declared.Refusal.{Refusal}
 use Rattle.shape.specs.Inner.{Good}
 use Rattle.shape.specs.Shape.{mostRecords}
 use Rattle.shape.specs.Refusals.{First, NoRow, outside}
-use Rattle.shape.proofs.Refusals.{row-fails, first-either, Each, each-both, each-first, verdict}
+use Rattle.shape.proofs.Refusals.{judge-first, row-fails, first-either, Each, each-both, each-first, verdict}
 use Rattle.shape.proofs.Seek.{seek-to}
 use Rattle.shape.proofs.Tests.{or-false}
 use Rattle.spans.specs.Numbers as spans
-use Rattle.spans.proofs.Drawables.{drawable}
-use Rattle.pieces.specs.Tree.{mostTolerance}
-use Rattle.pieces.specs.Values.{numbers}
-use Rattle.pieces.proofs.Writes.{length-numbers}
 use Rattle.tolerance.specs.declared.Chosen.{Chosen}
 use Rattle.tolerance.specs.declared.Chosen.the-variants as chosen
-use Rattle.tolerance.specs.Reading.{chooseRows, valuesOf, cutsOf, pointsFor, accepts, chooses}
-use Rattle.tolerance.specs.Inner.{Walkable}
-use Rattle.tolerance.proofs.Left.{values-length, cuts-below}
+use Rattle.tolerance.specs.Reading as steps
+use Rattle.tolerance.specs.Reading.{chooseRows, stepsOf, accepts, chooses}
+use Rattle.tolerance.proofs.Left.{cuts-below}
+use Rattle.tolerance.proofs.Exactly.{none-chosen}
+use Rattle.tolerance.proofs.Answered.{near}
+use Rattle.tolerance.proofs.Along.{written-front}
 use Rattle.outline.specs.Outline as outline
 use Rattle.outline.proofs.Within.{number-within}
 use Rattle.record_file.specs.Format as format
 use Rattle.record_file.specs.Rows.{mostBytes, recordCount, lengthRows, recordRows, laterRows, fileRows}
 use Rattle.record_file.proofs.Exactly.{first-refused, none-read}
-use Rattle.listing.specs.Listing.{outlineText, chosenText}
+use Rattle.listing.specs.Listing.{outlineText}
 use Rattle.file_list.specs.declared.Spacing.{Spacing}
 use Rattle.file_list.specs.declared.Spacing.the-variants.{Even, ByTolerance}
 use Rattle.file_list.specs.Files.{mostSpans, mostListed, controls, points, mostText, cutText, textOf, fileText, cutFileText}
 use Rattle.file_list.proofs.Texts.{text-then, cut-then, read-text, unread-text}
-use Rattle.file_list.proofs.Read.{n, s, p, held, good, lent, few-points, read-drawn}
+use Rattle.file_list.proofs.Read.{n, s, p, held, shape, good, lent, few-points, read-drawn}
 use Rattle.file_list.proofs.Lengths.{refusal-length, outline-length, chosen-length}
 use Rattle.file_list.proofs.Small.{small-tab, small-chosen}
-use Rattle.file_list.proofs.Chosen.{refused-chosen, none-chosen}
 
 -- ---- a refusal's number and place have at most two digits
 
@@ -92,9 +90,7 @@ module _ (file : List ℕ) where
 
 -- the numbers that were written at the start of a list
 front : (l vs : List ℤ) (m : ℕ) → length vs ≡ m → m ≤ length l → take m (sets l 0 vs) ≡ vs
-front l vs m long room =
-    let fits : 0 + length vs ≤ length l = omega arith in
-    ap (take m) (sets-eq vs l 0 fits) ∙ take-at vs (drop (0 + length vs) l) m long
+front l vs m long room = ap (λ (k : ℕ). take k (sets l 0 vs)) (sym long) ∙ written-front l vs (omega arith)
 
 module _ (file : List ℕ) (none : NoRow (fileRows file controls)) where
   abbrev sh : Shape
@@ -137,25 +133,24 @@ module _ (file : List ℕ) (none : NoRow (fileRows file controls)) where
     read-cut o e = read-text spacing file sh c (none-read file controls none) ∙ cut-then tolerance most sh c o e
 
     refused-cut-fits : (r : Refusal) → First (chooseRows sh tolerance most c points) r → length (cutFileText tolerance most file) ≤ mostText
+    unfolding chooses
     refused-cut-fits r f =
         let few = chosen-short file tolerance most none r f in
-        subst (λ t. length t ≤ mostText) (sym (read-cut (refuses chosen.Refused points r) (refused-chosen sh tolerance most c points r f))) (omega (arith, refusal-length (r .number) (r .place) (few .number) (few .place)))
+        let refused = judge-first (chooseRows sh tolerance most c points) (refuses chosen.Refused points) (accepts q tolerance c points) r f in
+        subst (λ t. length t ≤ mostText) (sym (read-cut (refuses chosen.Refused points r) refused)) (omega (arith, refusal-length (r .number) (r .place) (few .number) (few .place)))
 
     chosen-fits : NoRow (chooseRows sh tolerance most c points) → length (cutFileText tolerance most file) ≤ mostText
     chosen-fits free =
-        let near : tolerance ≤ mostTolerance = ltb-false mostTolerance tolerance (row-fails 20 (chooseRows sh tolerance most c points) free) in
-        let walkable : Walkable q tolerance c = record { some = ok .spans-least; drawable = drawable sh q ok c (outline.points q) (length points) (lent file none); near = near } in
-        let vs = numbers (valuesOf q tolerance c) in
-        let made = cutsOf q tolerance c in
-        let m = pointsFor q made in
-        let sparse = cuts-below q tolerance c in
-        let long : length vs ≡ 2 * m = length-numbers (valuesOf q tolerance c) ∙ values-length q tolerance c in
-        let few : m ≤ mostListed = omega (arith, spans-few, sparse) in
-        let text : cutFileText tolerance most file ≡ chosenText (sh .basis) tolerance (q .spans) made vs =
-        read-cut (accepts q tolerance c points) (none-chosen sh tolerance most c points free)
-        ∙ ap (chosenText (sh .basis) tolerance (q .spans) made) (front points vs (2 * m) long (omega (arith, few))) in
-        subst (λ t. length t ≤ mostText) (sym text)
-        (chosen-length (sh .basis) (q .spans) vs basis-short (omega (arith, spans-few)) (omega (arith, long, few)) (small-chosen q tolerance c walkable) tolerance made (omega (arith, near)) (omega (arith, spans-few, sparse)))
+        let fs = stepsOf q tolerance c in
+        let now = steps.chosen q tolerance c points in
+        let done = none-chosen sh tolerance most c points free in
+        let chose = take (2 * fs .points) now in
+        let few : fs .cuts ≤ 63 * mostSpans = omega (arith, spans-few, cuts-below q tolerance c) in
+        let long : length chose ≤ 2 * mostListed = omega (arith, length-take (2 * fs .points) now, spans-few, few) in
+        subst (λ t. length t ≤ mostText) (sym (read-cut (accepts q tolerance c points) done))
+        (chosen-length (sh .basis) (q .spans) chose basis-short (omega (arith, spans-few)) long
+        (small-chosen sh c (shape file none) (outline.points q) (length points) (lent file none) tolerance most points fs now done)
+        tolerance (fs .cuts) (omega (arith, near sh tolerance most c points free)) (omega (arith, few)))
 
     cut-drawn-fits : length (cutFileText tolerance most file) ≤ mostText
     cut-drawn-fits =

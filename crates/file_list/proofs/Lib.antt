@@ -1,5 +1,4 @@
 pub mod Examples
-pub mod Chosen
 pub mod Texts
 pub mod Read
 pub mod Lengths

@@ -43,7 +43,7 @@ module _ (file : List ℕ) (none : NoRow (fileRows file controls)) where
   later : NoRow (laterRows file n controls)
   later = none-later (recordRows file 0 n) (laterRows file n controls) (none-later (lengthRows (length file)) (recordRows file 0 n ++ laterRows file n controls) none)
 
-  shape : NoRow (shapeRows s)
+  pub shape : NoRow (shapeRows s)
   shape = none-earlier (shapeRows s) (rows.listRows file n controls) later
 
   pub good : Good s p

@@ -26,6 +26,7 @@ use Rattle.tolerance.specs.declared.Chosen.{Chosen}
 use Rattle.tolerance.specs.declared.Chosen.the-variants as chosen
 use Rattle.tolerance.specs.Reading.{chooses}
 use Rattle.tolerance.proofs.Chooses.{chooses-unsound}
+use Rattle.tolerance.proofs.Answered.{answered-keeps, answered-room}
 use Rattle.record_file.specs.declared.Reading.{Reading}
 use Rattle.record_file.specs.declared.Reading.the-variants as read
 use Rattle.record_file.specs.Rows.{reading}
@@ -36,7 +37,6 @@ use Rattle.listing.specs.Written.{written}
 use Rattle.listing.proofs.Listed.{in-full}
 use Rattle.file_list.specs.declared.Spacing.{Spacing}
 use Rattle.file_list.specs.declared.Spacing.the-variants.{Even, ByTolerance}
-use Rattle.file_list.proofs.Chosen.{done-room}
 use Rattle.file_list.specs.Files.{controls, points, refusedText, drawnText, cutText, shapeText, readText, textOf, countOf, counted, writes}
 
 -- ---- even steps
@@ -65,10 +65,14 @@ module _ (tolerance most : ℕ) (s : Shape) (c : List ℤ) where
   unfolding shapeText
   cut-then o e = ap (λ (o : Outcome Chosen (List ℤ)). cutText s tolerance (o .held) (o .answer)) e
 
+  -- the points that were answered are all there
+  all-chosen : (fs : Steps) (held : List ℤ) → chooses s tolerance most c points ≡ outcome (chosen.Done fs) held → 2 * fs .points ≤ length held
+  all-chosen fs held e = omega (arith, answered-keeps s tolerance most c points fs held e .long, answered-room s tolerance most c points fs held e)
+
   pub listed-cut : (fs : Steps) (held : List ℤ) (text : List ℕ) → chooses s tolerance most c points ≡ outcome (chosen.Done fs) held
       → listedChosen text (s .basis) tolerance (planOf s .spans) held (fs .points) (fs .cuts) ≡ written text 0 (shapeText (ByTolerance tolerance most) s c)
   listed-cut fs held text e =
-      sym (in-full text held (fs .points) (chosenText (s .basis) tolerance (planOf s .spans) (fs .cuts)) (done-room s tolerance most c points fs held e))
+      sym (in-full text held (fs .points) (chosenText (s .basis) tolerance (planOf s .spans) (fs .cuts)) (all-chosen fs held e))
       ∙ ap (written text 0) (sym (cut-then (outcome (chosen.Done fs) held) e))
 
 -- ---- a shape that is not sound is refused by either
