@@ -2,7 +2,6 @@
 ghost use Prim.Native.Nat.{_+_, _≤_, _<_};
 ghost use mathlib.Core.List.{[], _∷_, _++_};
 ghost use mathlib.Core.Path.{_≡_};
-ghost use lib.IntN.{natAbs};
 ghost use lib.ListN.{length};
 ghost use Rattle.whole.specs.Outcome.{outcome};
 ghost use Rattle.listing.specs.Decimal.{natural, decimal};
@@ -10,6 +9,7 @@ ghost use Rattle.listing.specs.Inner.{Laid, Width};
 ghost use Rattle.listing.specs.Written.{written};
 use crate::Put;
 use crate::has_room;
+use whole::magnitude;
 
 // Writes n from place `at` on, if it fits.
 pub fn put_natural(text: &mut [u8], at: usize, n: u64) -> Put
@@ -104,11 +104,4 @@ pub(crate) fn write_decimal_and(text: &mut [u8], at: usize, z: i64, mark: u8) ->
     let end = write_decimal(text, at, z);
     text[end] = mark;
     end + 1
-}
-
-// z without its sign. The least number's size is one more than any i64, so one is added last.
-fn magnitude(z: i64) -> u64
-    ensures { λ r. ⌜ r ≡ natAbs z ⌝ }
-{
-    if z < 0 { (-1 - z) as u64 + 1 } else { z as u64 }
 }

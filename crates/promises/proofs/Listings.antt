@@ -1,4 +1,5 @@
--- The listing of a record file, as outline-list writes it. What `list_file` writes is `lists`, for every file and every lent text (its contract); here is what that is never short of.
+-- The listings of a record file, as outline-list and outline-cut write them. What `list_file` writes is `lists`, and what `cut_file` writes is `cuts`, for every file and every lent text (their
+-- contracts); here is what those are never short of.
 use mathlib.Core.Path.{_≡_}
 use mathlib.Core.List.{List}
 use Prim.Native.Nat.{ℕ, _≤_}
@@ -8,7 +9,7 @@ use Rattle.shape.specs.Refusals.{NoRow, planOf}
 use Rattle.outline.specs.Outline.{accepts, draws}
 use Rattle.record_file.specs.Format.{numbers}
 use Rattle.record_file.specs.Rows.{recordCount, shapeOf, fileRows}
-use Rattle.file_list.specs.Files.{controls, points, mostText, fileText}
+use Rattle.file_list.specs.Files.{controls, points, mostText, fileText, cutFileText}
 use Rattle.file_list.proofs.Fits as fits
 use Rattle.file_list.proofs.Read as read
 use Rattle.file_list.proofs.Examples as examples
@@ -23,6 +24,10 @@ read-then-drawn = read.read-drawn
 -- the text of every file fits the program's room for it, so it is written whole
 pub always-fits : (file : List ℕ) → length (fileText file) ≤ mostText
 always-fits = fits.fits
+
+-- so does that of its outline by any tolerance, with any most
+pub cut-always-fits : (tolerance most : ℕ) (file : List ℕ) → length (cutFileText tolerance most file) ≤ mostText
+cut-always-fits = fits.cut-fits
 
 -- document 01's own file has document 01's own listing
 pub paper-listed : fileText examples.file ≡ examples.listing

@@ -50,6 +50,8 @@ use Rattle.record_file.proofs.read.Reads as read-reads
 use Rattle.file_list.proofs.Unique as listings
 use Rattle.file_list.proofs.list_file.Kinds as list-file-kinds
 use Rattle.file_list.proofs.list_file.Reads as list-file-reads
+use Rattle.file_list.proofs.cut_file.Kinds as cut-file-kinds
+use Rattle.file_list.proofs.cut_file.Reads as cut-file-reads
 use Rattle.listing.proofs.Unique as listing
 use Rattle.listing.proofs.put_word.Kinds as put-word-kinds
 use Rattle.listing.proofs.put_word.Reads as put-word-reads
@@ -59,6 +61,8 @@ use Rattle.listing.proofs.put_decimal.Kinds as put-decimal-kinds
 use Rattle.listing.proofs.put_decimal.Reads as put-decimal-reads
 use Rattle.listing.proofs.list_outline.Kinds as list-outline-kinds
 use Rattle.listing.proofs.list_outline.Reads as list-outline-reads
+use Rattle.listing.proofs.list_chosen.Kinds as list-chosen-kinds
+use Rattle.listing.proofs.list_chosen.Reads as list-chosen-reads
 use Rattle.listing.proofs.list_refusal.Kinds as list-refusal-kinds
 use Rattle.listing.proofs.list_refusal.Reads as list-refusal-reads
 
@@ -132,6 +136,9 @@ read-file = file.read-unique
 pub list-file : Unique 2 list-file-kinds.ps list-file-kinds.r list-file-reads.Post
 list-file = listings.list-file-unique
 
+pub cut-file : Unique 2 cut-file-kinds.ps cut-file-kinds.r cut-file-reads.Post
+cut-file = listings.cut-file-unique
+
 -- ---- text
 
 pub put-word : Unique 2 put-word-kinds.ps put-word-kinds.r put-word-reads.Post
@@ -145,6 +152,9 @@ put-decimal = listing.put-decimal-unique
 
 pub list-outline : Unique 2 list-outline-kinds.ps list-outline-kinds.r list-outline-reads.Post
 list-outline = listing.list-outline-unique
+
+pub list-chosen : Unique 2 list-chosen-kinds.ps list-chosen-kinds.r list-chosen-reads.Post
+list-chosen = listing.list-chosen-unique
 
 pub list-refusal : Unique 1 list-refusal-kinds.ps list-refusal-kinds.r list-refusal-reads.Post
 list-refusal = listing.list-refusal-unique
