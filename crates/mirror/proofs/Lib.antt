@@ -1,6 +1,7 @@
 pub mod Lists
 pub mod Points
 pub mod Drawings
+pub mod Cuts
 pub mod Edits
 pub mod Sequences
 pub mod Doubles

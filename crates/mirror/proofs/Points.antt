@@ -22,10 +22,10 @@ use Rattle.mirror.proofs.Lists.{across-cases, coordinate-mirror}
 
 -- ---- the sum, where -z is written 0 - z
 
-abbrev fromZero : Four → Four
+abbrev pub fromZero : Four → Four
 fromZero q = four (pos 0 -ℤ q .a) (pos 0 -ℤ q .b) (pos 0 -ℤ q .c) (pos 0 -ℤ q .d)
 
-abbrev fromZeroᵉ : Fourᵉ → Fourᵉ
+abbrev pub fromZeroᵉ : Fourᵉ → Fourᵉ
 fromZeroᵉ q = fourᵉ (num 0 ⊖ q .a) (num 0 ⊖ q .b) (num 0 ⊖ q .c) (num 0 ⊖ q .d)
 
 sum-from-zero : (b : Basis) (q : Four) (x y : ℤ) → weighted (sixfoldControls b (fromZero q)) x y ≡ pos 0 -ℤ weighted (sixfoldControls b q) x y
@@ -51,6 +51,12 @@ sixfold-minus b q x y = sum-minus (λ r. weighted (sixfoldControls b r) x y) (λ
 -- of the plain controls, as the preview has them
 pub plain-minus : (q : Four) (x y : ℤ) → weighted (negated q) x y ≡ negℤ (weighted q x y)
 plain-minus q x y = sum-minus (λ r. weighted r x y) (λ r. plain-from-zero r x y) q
+
+-- what is nought and what is not stays so
+pub nought-minus : (z : ℤ) → nought (negℤ z) ≡ nought z
+nought-minus (pos zero) = refl
+nought-minus (pos (suc n)) = refl
+nought-minus (negsuc n) = refl
 
 -- ---- every number of an outline
 
@@ -83,11 +89,6 @@ module _ (axis : Axis) (p : Plan) (controls : List ℤ) where
   remainder-mirror = of-sum (λ z. remainder z (divisor (p .basis) (p .depth))) (λ z. remainder-minus z (divisor (p .basis) (p .depth)))
 
   -- ---- so as many are exact
-
-  nought-minus : (z : ℤ) → nought (negℤ z) ≡ nought z
-  nought-minus (pos zero) = refl
-  nought-minus (pos (suc n)) = refl
-  nought-minus (negsuc n) = refl
 
   nought-mirror : (q : ℕ) → nought (remainderOf p (mirror axis controls) q) ≡ nought (remainderOf p controls q)
   nought-mirror q =

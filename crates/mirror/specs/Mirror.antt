@@ -7,6 +7,7 @@ use lib.Dec.{eqb}
 use lib.IntN.{ℤ, negℤ}
 use Rattle.whole.specs.Outcome.{Outcome, outcome}
 use Rattle.outline.specs.declared.Drawn.{Drawn}
+use Rattle.tolerance.specs.declared.Chosen.{Chosen}
 use Rattle.asked.specs.declared.Edit.{Edit}
 use Rattle.asked.specs.declared.Edit.the-variants.{Move, Insert, Remove}
 use Rattle.edit.specs.declared.Edited.{Edited}
@@ -45,6 +46,11 @@ mirror axis l = mirrored negℤ axis l
 
 abbrev pub mirrorDrawn : Axis → Outcome Drawn (List ℤ) → Outcome Drawn (List ℤ)
 mirrorDrawn axis o = outcome (o .answer) (mirror axis (o .held))
+
+-- ---- the same by tolerance
+
+abbrev pub mirrorChosen : Axis → Outcome Chosen (List ℤ) → Outcome Chosen (List ℤ)
+mirrorChosen axis o = outcome (o .answer) (mirror axis (o .held))
 
 -- ---- edits: the new record, and what they leave in both lent lists
 

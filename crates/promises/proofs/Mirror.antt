@@ -1,4 +1,4 @@
--- Left and right doors mirror (document 02, request 1): drawing, viewing, editing, drawing steps and previews of mirrored numbers come to the mirror of what they came to, refusals too.
+-- Left and right doors mirror (document 02, request 1): drawing, evenly and by tolerance, viewing, editing, drawing steps and previews of mirrored numbers come to the mirror of what they came to, refusals too.
 -- Mirrored are the numbers on one axis, x or y, which are negated; `mirror` has lists of them, x then y.
 use mathlib.Core.Path.{_≡_, ap}
 use mathlib.Core.List.{List, map}
@@ -16,6 +16,7 @@ use Rattle.outline.specs.declared.Drawn.the-variants.{Done}
 use Rattle.outline.specs.declared.Figures.{Figures}
 use Rattle.outline.specs.Outline.{draws}
 use Rattle.outline.specs.View.{partOf, viewed}
+use Rattle.tolerance.specs.Reading.{chooses}
 use Rattle.asked.specs.declared.Edit.{Edit}
 use Rattle.edit.specs.Reading.{edits}
 use Rattle.sequences.specs.Played.{State, Call, played}
@@ -27,10 +28,11 @@ use Rattle.drawing.specs.Reading.{stepped}
 use Rattle.drawing.specs.Sequences.{begin, drawn}
 use Rattle.preview.specs.declared.Previewed.the-variants as preview
 use Rattle.preview.specs.Preview.{previewing}
-use Rattle.mirror.specs.Mirror.{Axis, across, mirrored, mirror, mirrorDrawn, mirrorEdit, mirrorEdited, mirrorState, mirrorCall}
+use Rattle.mirror.specs.Mirror.{Axis, across, mirrored, mirror, mirrorDrawn, mirrorChosen, mirrorEdit, mirrorEdited, mirrorState, mirrorCall}
 use Rattle.mirror.specs.Steps.{minusMeasure, mirrorStep, mirrorDrawing, mirrorStepped, mirrorHeld, opposite, mirrorPreviewed}
 use Rattle.mirror.proofs.Points as numbers
 use Rattle.mirror.proofs.Drawings as drawings
+use Rattle.mirror.proofs.Cuts as cut
 use Rattle.mirror.proofs.Edits as edited
 use Rattle.mirror.proofs.Sequences as sequences
 use Rattle.mirror.proofs.Doubles as doubles
@@ -46,6 +48,10 @@ mirror-draws = drawings.mirror-draws
 -- so it is accepted on one side exactly when on the other, with as many points and as many coordinates exact, and refused under the same number and place
 pub same-answer : (axis : Axis) (s : Shape) (controls lent : List ℤ) → draws s (mirror axis controls) (mirror axis lent) .answer ≡ draws s controls lent .answer
 same-answer axis s controls lent = ap (λ o. o .answer) (mirror-draws axis s controls lent)
+
+-- by tolerance the same: as many cuts and points, as many coordinates exact, or the same refusal, and the lent points are mirrored
+pub mirror-chooses : (axis : Axis) (s : Shape) (tolerance most : ℕ) (controls lent : List ℤ) → chooses s tolerance most (mirror axis controls) (mirror axis lent) ≡ mirrorChosen axis (chooses s tolerance most controls lent)
+mirror-chooses = cut.mirror-chooses
 
 -- into any other list as long: all points on the axis are negated, and those on the other stay
 pub mirror-points :
