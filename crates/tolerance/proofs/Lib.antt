@@ -7,3 +7,4 @@ pub mod Along
 pub mod Evenly
 pub mod More
 pub mod Edges
+pub mod Examples

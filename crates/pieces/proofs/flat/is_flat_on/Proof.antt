@@ -1,10 +1,10 @@
 -- Both sides are far inside 64 bits, and the shift gives the level's divisor.
 use mathlib.Core.Path.{sym, subst}
 use Prim.Native.Nat.{ℕ, _*_, _%_, _^_, _≤_}
-use native.Mathlib.Nat.{le-refl, mul-le-mul, lt-of-le-of-lt}
+use native.Mathlib.Nat.{mul-le-mul}
 use native.Mathlib.Omega.{arith}
 use borrow.Author.Needs.{needs}
-use lib.Dec.{leb, lit<}
+use lib.Dec.{leb}
 use Rattle.pieces.specs.Tree.{finest, mostTolerance}
 use Rattle.pieces.specs.Inner.{divisorAt}
 use Rattle.pieces.proofs.Bends.{bend-most, divisor-below, divisor-is}
