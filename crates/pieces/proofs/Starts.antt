@@ -1,11 +1,10 @@
 -- The starts of a sound tree, kind of piece by kind of piece, and how many numbers they are: two for each flat piece, and there is one flat piece more than there are cuts.
-use mathlib.Core.Path.{_≡_, refl, sym, ap, _∙_, subst}
-use mathlib.Core.Bool.{Bool, true, false, cond}
+use mathlib.Core.Path.{_≡_, refl, ap, _∙_, subst}
+use mathlib.Core.Bool.{true, false}
 use mathlib.Core.List.{_++_}
 use mathlib.Core.Logic.{⊎-elim}
 use Prim.Native.Nat.{ℕ, zero, suc, _+_, _*_, _^_, _≤_, _<_}
 use native.Mathlib.Omega.{arith}
-use lib.Dec.{lit<}
 use lib.ListN.{length, length-append}
 use lib.Pow.{pow-pos}
 use Rattle.curve.specs.declared.Four.{Four}
@@ -14,7 +13,7 @@ use Rattle.shape.proofs.Tests.{either, passes}
 use Rattle.pieces.specs.Tree.{finest, Piece, piece, leftPiece, rightPiece, isFlat, Tree, Flat, Rough, Cut, tree, cuts, Sound}
 use Rattle.pieces.specs.Values.{start, starts}
 use Rattle.pieces.specs.Inner.{divisorAt, treeAt}
-use Rattle.pieces.proofs.Trees.{at-finest}
+use Rattle.pieces.proofs.Trees.{tree-flat, tree-rough, tree-cut, at-finest}
 
 -- ---- sound trees
 
@@ -51,12 +50,11 @@ module _ (d : ℕ → ℕ) where
 -- ---- how many cuts there can be: fewer than the pieces of the finest level
 
 pub cuts-most : (d : ℕ → ℕ) (tolerance left : ℕ) (p : Piece) → cuts (tree d tolerance left p) < 2 ^ left
-unfolding tree cuts
-cuts-most d tolerance zero p = ⊎-elim (λ (t : isFlat d tolerance p ≡ true). subst (λ (b : Bool). cuts (cond b (Flat p) (Rough p)) < 1) (sym t) (lit< tt)) (λ (f : isFlat d tolerance p ≡ false). subst (λ (b : Bool). cuts (cond b (Flat p) (Rough p)) < 1) (sym f) (lit< tt)) (passes (isFlat d tolerance p))
+unfolding cuts
+cuts-most d tolerance zero p =
+    ⊎-elim (λ (flat : isFlat d tolerance p ≡ true). omega (arith, ap cuts (tree-flat d tolerance p 0 flat))) (λ (not : isFlat d tolerance p ≡ false). omega (arith, ap cuts (tree-rough d tolerance p not)))
+    (passes (isFlat d tolerance p))
 cuts-most d tolerance (suc left) p =
-    let l = tree d tolerance left (leftPiece p) in
-    let r = tree d tolerance left (rightPiece p) in
-    ⊎-elim (λ (t : isFlat d tolerance p ≡ true). subst (λ (b : Bool). cuts (cond b (Flat p) (Cut l r)) < 2 ^ suc left) (sym t) (pow-pos (suc left)))
-    (λ (f : isFlat d tolerance p ≡ false).
-    subst (λ (b : Bool). cuts (cond b (Flat p) (Cut l r)) < 2 ^ suc left) (sym f) (omega (arith, cuts-most d tolerance left (leftPiece p), cuts-most d tolerance left (rightPiece p), doubled left)))
+    ⊎-elim (λ (flat : isFlat d tolerance p ≡ true). omega (arith, ap cuts (tree-flat d tolerance p (suc left) flat), pow-pos (suc left)))
+    (λ (not : isFlat d tolerance p ≡ false). omega (arith, ap cuts (tree-cut d tolerance p left not), cuts-most d tolerance left (leftPiece p), cuts-most d tolerance left (rightPiece p), doubled left))
     (passes (isFlat d tolerance p))

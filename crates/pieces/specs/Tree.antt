@@ -2,7 +2,7 @@
 -- and a right piece, and so on: a tree. Nothing in it is rounded or divided. Definitions only.
 use mathlib.Core.Bool.{Bool, cond, _&&_}
 use mathlib.Core.List.{List, [], _∷_}
-use Prim.Native.Nat.{ℕ, zero, suc, _+_, _*_}
+use Prim.Native.Nat.{ℕ, zero, suc, _+_, _*_, _-_, _^_}
 use lib.Dec.{leb}
 use Rattle.curve.specs.declared.Four.{Four}
 use Rattle.curve.specs.Bend.{bend}
@@ -61,6 +61,10 @@ unfoldable pub cuts : Tree → ℕ
 cuts (Flat p) = 0
 cuts (Rough p) = 0
 cuts (Cut l r) = suc (cuts l + cuts r)
+
+-- No span takes more than these: every piece above the finest level cut.
+abbrev pub mostCuts : ℕ
+mostCuts = 2 ^ finest - 1
 
 -- Each span is a tree of its own; their cuts are counted together.
 unfoldable pub allCuts : List Tree → ℕ

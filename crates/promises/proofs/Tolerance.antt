@@ -18,7 +18,7 @@ use Rattle.spans.specs.Numbers.{sumOf, number, remainderOf, noughts}
 use Rattle.spans.specs.Inner.{wholes, remainders}
 use Rattle.outline.specs.declared.Drawn.the-variants as drawn
 use Rattle.outline.specs.Outline.{draws}
-use Rattle.pieces.specs.Tree.{finest, mostTolerance, Sound}
+use Rattle.pieces.specs.Tree.{finest, mostTolerance, mostCuts, Sound}
 use Rattle.pieces.specs.Scan.{metAll, scan}
 use Rattle.pieces.specs.Steps.{Rises}
 use Rattle.pieces.proofs.Even.{sumsAt}
@@ -46,16 +46,16 @@ pub flat-exactly : (p : Plan) (tolerance : ℕ) (controls : List ℤ) (t : ℕ)
     → Sound (treeOf p tolerance controls t) ↔ ((3 * bend (controlsOf p controls t 0) ≤ 4 * (tolerance * (divisor (p .basis) 0 * 4 ^ finest))) × (3 * bend (controlsOf p controls t 1) ≤ 4 * (tolerance * (divisor (p .basis) 0 * 4 ^ finest))))
 flat-exactly = edges.sound-exactly
 
--- so a straight edge, A, A, B, B, exactly where three times its length is at most 16,384 times the tolerance, on each axis
+-- so a straight edge, A, A, B, B, exactly where three times its length is at most 4 · 4^6, 16,384, times the tolerance, on each axis
 pub edge-exactly : (p : Plan) (tolerance : ℕ) (controls : List ℤ) (t : ℕ) (ax bx ay by : ℤ)
     → p .basis ≡ Bezier
     → records (p .basis) t (coordinate controls 0) ≡ four ax ax bx bx
     → records (p .basis) t (coordinate controls 1) ≡ four ay ay by by
-    → Sound (treeOf p tolerance controls t) ↔ ((3 * natAbs (bx -ℤ ax) ≤ 16384 * tolerance) × (3 * natAbs (by -ℤ ay) ≤ 16384 * tolerance))
+    → Sound (treeOf p tolerance controls t) ↔ ((3 * natAbs (bx -ℤ ax) ≤ 4 * 4 ^ finest * tolerance) × (3 * natAbs (by -ℤ ay) ≤ 4 * 4 ^ finest * tolerance))
 edge-exactly = edges.line-exactly
 
 -- no span takes more than 63 cuts
-pub cuts-at-most : (p : Plan) (tolerance : ℕ) (controls : List ℤ) → cutsOf p tolerance controls ≤ 63 * p .spans
+pub cuts-at-most : (p : Plan) (tolerance : ℕ) (controls : List ℤ) → cutsOf p tolerance controls ≤ mostCuts * p .spans
 cuts-at-most = left.cuts-below
 
 -- the sums of the even outline at some steps, rounded, are its points there; as many of them are exact as published values are whole
@@ -99,7 +99,7 @@ module _ (s : Shape) (tolerance most : ℕ) (controls lent : List ℤ) (f : Step
   answered-exact = along.exact-along s tolerance most controls lent f held done ∙ exact-at (finestPlan p) controls steps
 
   -- where every piece above depth 6 is cut, which makes 63 cuts a span, it is the even outline at depth 6: drawing that leaves the same list and answers the same figures
-  pub answered-even : f .cuts ≡ 63 * p .spans → draws (finestShape s) controls lent ≡ outcome (drawn.Done (record { points = f .points; exact = f .exact })) held
+  pub answered-even : f .cuts ≡ mostCuts * p .spans → draws (finestShape s) controls lent ≡ outcome (drawn.Done (record { points = f .points; exact = f .exact })) held
   answered-even full = evenly.even-outline s tolerance most controls lent f held done full
 
   -- more tolerance, up to 10,000, is accepted too, and never needs more cuts

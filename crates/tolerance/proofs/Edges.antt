@@ -37,12 +37,12 @@ line-bend a b =
     ap natAbs (solve (a ∷ b ∷ []) (num 6 ⊗ var 0 ⊖ num 2 ⊗ (num 6 ⊗ var 1) ⊕ num 6 ⊗ var 1) (lit (negsuc 5) ⊗ (var 1 ⊖ var 0)) tt) ∙ natAbs-mul (negsuc 5) (b -ℤ a) in
     omega (arith, there, back)
 
--- An edge is cut by its length: it can be cut flat exactly where three times that is at most 16,384 times the tolerance, on each axis.
+-- An edge is cut by its length: it can be cut flat exactly where three times that is at most 4 · 4^6, 16,384, times the tolerance, on each axis.
 pub line-exactly : (p : Plan) (tolerance : ℕ) (controls : List ℤ) (t : ℕ) (ax bx ay by : ℤ)
     → p .basis ≡ Bezier
     → records (p .basis) t (coordinate controls 0) ≡ four ax ax bx bx
     → records (p .basis) t (coordinate controls 1) ≡ four ay ay by by
-    → Sound (treeOf p tolerance controls t) ↔ ((3 * natAbs (bx -ℤ ax) ≤ 16384 * tolerance) × (3 * natAbs (by -ℤ ay) ≤ 16384 * tolerance))
+    → Sound (treeOf p tolerance controls t) ↔ ((3 * natAbs (bx -ℤ ax) ≤ 4 * 4 ^ finest * tolerance) × (3 * natAbs (by -ℤ ay) ≤ 4 * 4 ^ finest * tolerance))
 line-exactly p tolerance controls t ax bx ay by b ex ey =
     let x : bend (controlsOf p controls t 0) ≡ 6 * natAbs (bx -ℤ ax) = (λ i. bend (sixfoldControls (b i) (ex i))) ∙ line-bend ax bx in
     let y : bend (controlsOf p controls t 1) ≡ 6 * natAbs (by -ℤ ay) = (λ i. bend (sixfoldControls (b i) (ey i))) ∙ line-bend ay by in

@@ -25,7 +25,7 @@ use Rattle.outline.specs.declared.Drawn.the-variants as drawn
 use Rattle.outline.specs.Outline as outline
 use Rattle.outline.specs.Outline.{draws}
 use Rattle.outline.proofs.Exactly.{none-drawn}
-use Rattle.pieces.specs.Tree.{finest, piece, Tree, cuts, allCuts}
+use Rattle.pieces.specs.Tree.{finest, piece, Tree, cuts, mostCuts, allCuts}
 use Rattle.pieces.specs.Values.{numbers, exactOf}
 use Rattle.pieces.specs.Inner.{divisorAt}
 use Rattle.pieces.proofs.Even.{sumsAt}
@@ -61,12 +61,12 @@ module _ (p : Plan) (tolerance : ℕ) (controls : List ℤ) where
   unfolding treeOf
   below t = cuts-most (divisor (p .basis)) tolerance finest (piece 0 (controlsOf p controls t 0) (controlsOf p controls t 1))
 
-  at-most : (s n : ℕ) → allCuts (tab f s n) ≤ 63 * n
+  at-most : (s n : ℕ) → allCuts (tab f s n) ≤ mostCuts * n
   unfolding allCuts tab
   at-most s zero = omega arith
   at-most s (suc n) = omega (arith, below s, at-most (suc s) n)
 
-  all-steps-from : (s n : ℕ) → allCuts (tab f s n) ≡ 63 * n → stepsFrom s (tab f s n) ≡ tab itself (s * 2 ^ finest) (n * 2 ^ finest)
+  all-steps-from : (s n : ℕ) → allCuts (tab f s n) ≡ mostCuts * n → stepsFrom s (tab f s n) ≡ tab itself (s * 2 ^ finest) (n * 2 ^ finest)
   unfolding allCuts stepsFrom tab treeOf
   all-steps-from s zero e = refl
   all-steps-from s (suc n) e =
@@ -79,7 +79,7 @@ module _ (p : Plan) (tolerance : ℕ) (controls : List ℤ) where
       ∙ ap (tab itself (s * 2 ^ finest)) count
 
   -- and the last end
-  all-steps : cutsOf p tolerance controls ≡ 63 * p .spans → stepsAlong p tolerance controls ≡ tab itself 0 (pointsOf finest (p .spans))
+  all-steps : cutsOf p tolerance controls ≡ mostCuts * p .spans → stepsAlong p tolerance controls ≡ tab itself 0 (pointsOf finest (p .spans))
   unfolding pointsOf tab
   all-steps e =
       let m = p .spans * 2 ^ finest in
@@ -87,14 +87,14 @@ module _ (p : Plan) (tolerance : ℕ) (controls : List ℤ) where
 
 -- ---- the even outline
 
-module _ (s : Shape) (tolerance most : ℕ) (controls lent : List ℤ) (fs : Steps) (held : List ℤ) (done : chooses s tolerance most controls lent ≡ outcome (Done fs) held) (full : fs .cuts ≡ 63 * planOf s .spans) where
+module _ (s : Shape) (tolerance most : ℕ) (controls lent : List ℤ) (fs : Steps) (held : List ℤ) (done : chooses s tolerance most controls lent ≡ outcome (Done fs) held) (full : fs .cuts ≡ mostCuts * planOf s .spans) where
   abbrev p : Plan
   p = planOf s
 
   abbrev q : Plan
   q = finestPlan p
 
-  cuts-full : cutsOf p tolerance controls ≡ 63 * p .spans
+  cuts-full : cutsOf p tolerance controls ≡ mostCuts * p .spans
   cuts-full = sym (answered-cuts s tolerance most controls lent fs held done) ∙ full
 
   some : 0 < p .spans

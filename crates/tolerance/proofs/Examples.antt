@@ -1,6 +1,6 @@
 -- Edges of the call, computed: Bezier spans on the x axis, as the even outlines' cases are. Answer and lent list, which held -1.
 use mathlib.Core.Path.{_≡_, refl}
-use mathlib.Core.List.{List, [], _∷_, _++_, map}
+use mathlib.Core.List.{List, [], _∷_, _++_}
 use Prim.Native.Nat.{ℕ, _*_, _-_}
 use lib.IntN.{ℤ, pos}
 use lib.ListN.{replicate}
@@ -11,7 +11,6 @@ use Rattle.curve.specs.Numbers.{neg}
 use Rattle.curve.specs.Span.{firstRecord, coordinate, recordsFrom, sixfoldControls}
 use Rattle.curve.specs.Tab.{tab}
 use Rattle.curve.specs.Ways.{leftHalf, rightHalf}
-use Rattle.shape.specs.declared.Shape.{Shape}
 use Rattle.shape.specs.Refusals.{judge, seek, planOf, outside}
 use Rattle.shape.specs.Shape.{basisOf, recordsOf, spansOf, allowed}
 use Rattle.spans.specs.Numbers.{noughts}

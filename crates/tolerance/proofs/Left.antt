@@ -19,7 +19,7 @@ use Rattle.spans.specs.Inner.{Ready}
 use Rattle.spans.proofs.Drawables.{span-ready}
 use Rattle.spans.proofs.Halves.{ready-cuttable}
 use Rattle.pieces.specs.declared.Walked.the-variants.{Cuts}
-use Rattle.pieces.specs.Tree.{finest, piece, Tree, cuts, allCuts}
+use Rattle.pieces.specs.Tree.{finest, piece, Tree, cuts, mostCuts, allCuts}
 use Rattle.pieces.specs.Walk.{andThen, walk, walkAll}
 use Rattle.pieces.specs.Values.{Value, starts, allStarts, end}
 use Rattle.pieces.specs.Inner.{divisorAt, treeAt}
@@ -109,13 +109,12 @@ values-length p tolerance controls =
 
 -- ---- how many cuts there can be
 
-all-cuts : (p : Plan) (tolerance : ℕ) (controls : List ℤ) (i n : ℕ) → allCuts (tab (treeOf p tolerance controls) i n) ≤ 63 * n
+all-cuts : (p : Plan) (tolerance : ℕ) (controls : List ℤ) (i n : ℕ) → allCuts (tab (treeOf p tolerance controls) i n) ≤ mostCuts * n
 unfolding allCuts tab treeOf
 all-cuts p tolerance controls i zero = omega arith
 all-cuts p tolerance controls i (suc n) =
     let here : cuts (treeOf p tolerance controls i) < 2 ^ finest = cuts-most (divisor (p .basis)) tolerance finest (piece 0 (controlsOf p controls i 0) (controlsOf p controls i 1)) in
     omega (arith, here, all-cuts p tolerance controls (suc i) n)
 
--- 63 a span at the most
-pub cuts-below : (p : Plan) (tolerance : ℕ) (controls : List ℤ) → cutsOf p tolerance controls ≤ 63 * p .spans
+pub cuts-below : (p : Plan) (tolerance : ℕ) (controls : List ℤ) → cutsOf p tolerance controls ≤ mostCuts * p .spans
 cuts-below p tolerance controls = all-cuts p tolerance controls 0 (p .spans)

@@ -5,6 +5,9 @@ ghost use Rattle.whole.specs.Outcome.{outcome};
 ghost use Rattle.shape.specs.Inner.{Good};
 ghost use Rattle.tolerance.specs.Reading.{chooses, choosesLast, choosesPlan, cutsOf};
 ghost use Rattle.tolerance.specs.Inner.{Choosable};
+
+mod spanwise;
+
 use pieces::MOST_TOLERANCE;
 use pieces::Walked;
 use shape::Checked;
@@ -16,8 +19,6 @@ use shape::check_controls;
 use shape::check_shape;
 use spanwise::count_all;
 use spanwise::fill_all;
-
-mod spanwise;
 
 // How many points stand in the list now, how many cuts chose them, and how many of their coordinates are exact.
 pub struct Steps {

@@ -1,10 +1,12 @@
 -- Row 9, or all chosen points.
 use mathlib.Core.Path.{_≡_, sym, ap, _∙_, subst}
-use Prim.Native.Nat.{ℕ, _+_, _*_, _≤_, _<_}
+use Prim.Native.Nat.{ℕ, _+_, _*_, _^_, _≤_, _<_}
 use native.Mathlib.Omega.{arith}
 use borrow.Author.Needs.{needs}
 use lib.ListN.{length}
 use Rattle.whole.specs.Outcome.{outcome}
+use Rattle.shape.specs.Shape.{mostRecords}
+use Rattle.pieces.specs.Tree.{finest}
 use Rattle.tolerance.specs.declared.Chosen.the-variants.{Done}
 use Rattle.tolerance.specs.Reading.{cutsOf, pointsFor}
 use Rattle.tolerance.proofs.Left.{values-length, cuts-below}
@@ -12,8 +14,8 @@ use Rattle.tolerance.proofs.Chooses.{last-short, last-room}
 use Rattle.tolerance.proofs.fill_plan.Statement.{statement}
 use Rattle.tolerance.proofs.fill_plan.Tie as tie
 
--- a plan has few spans, and at most 63 cuts to each
-few : (c : tie.Start) → c .args .plan .spans + c .args .cuts ≤ 4096
+-- a plan has few spans, and a span has few cuts
+few : (c : tie.Start) → c .args .plan .spans + c .args .cuts ≤ mostRecords * 2 ^ finest
 few c =
     let a = c .args in
     omega (arith, c .pre .1, cuts-below (a .plan) (a .tolerance) (a .controls .now), c .pre .0 .walkable .drawable .few)
