@@ -54,12 +54,12 @@ module _ (b : Basis) (k : ℕ) (p : Four) (i : ℕ) where
   under-pos : 0 < under
   under-pos = mul-pos (denominator-pos b) (pow-pos (3 * k))
 
-  same-value : pos (denominator b) *ℤ sumAt b k p i ≡ pos sixfold *ℤ value
+  pub same-value : pos (denominator b) *ℤ sumAt b k p i ≡ pos sixfold *ℤ value
   same-value =
       let swap : (x y : ℤ) → x *ℤ y ≡ y *ℤ x = λ x y. solve (x ∷ y ∷ []) (var 0 ⊗ var 1) (var 1 ⊗ var 0) tt in
       swap (pos (denominator b)) (sumAt b k p i) ∙ sixfold-is-published b p (pos i) (pos (2 ^ k)) ∙ swap value (pos sixfold)
 
-  same-divisor : denominator b * divisor b k ≡ sixfold * under
+  pub same-divisor : denominator b * divisor b k ≡ sixfold * under
   same-divisor = mul-left-comm (denominator b) sixfold (2 ^ (3 * k))
 
   -- a point is the published value, rounded once

@@ -84,14 +84,14 @@ same-both level h x y u v e f =
 
 -- ---- down the tree
 
--- the sums of a piece of 2^left steps are those of a rule from step `from` on
+-- the sums of a piece of 2^left steps, its end's too, are those of a rule from step `from` on
 abbrev pub Covers : ℕ → ℕ → Four → (ℕ → ℤ) → Type 0
-Covers left from q at = (i : ℕ) → i < 2 ^ left → weighted q (pos i) (pos (2 ^ left)) ≡ at (from + i)
+Covers left from q at = (i : ℕ) → i ≤ 2 ^ left → weighted q (pos i) (pos (2 ^ left)) ≡ at (from + i)
 
-covers-left : (left from : ℕ) (q : Four) (at : ℕ → ℤ) → Covers (suc left) from q at → Covers left from (leftHalf q) at
+pub covers-left : (left from : ℕ) (q : Four) (at : ℕ → ℤ) → Covers (suc left) from q at → Covers left from (leftHalf q) at
 covers-left left from q at c i h = left-half q (pos i) (pos (2 ^ left)) ∙ ap (λ (n : ℕ). weighted q (pos i) (pos n)) (doubled left) ∙ c i (omega (arith, doubled left))
 
-covers-right : (left from : ℕ) (q : Four) (at : ℕ → ℤ) → Covers (suc left) from q at → Covers left (from + 2 ^ left) (rightHalf q) at
+pub covers-right : (left from : ℕ) (q : Four) (at : ℕ → ℤ) → Covers (suc left) from q at → Covers left (from + 2 ^ left) (rightHalf q) at
 covers-right left from q at c i h =
     right-half q (pos i) (pos (2 ^ left))
     ∙ ap (λ (n : ℕ). weighted q (pos (2 ^ left + i)) (pos n)) (doubled left)
@@ -104,7 +104,7 @@ module _ (tolerance : ℕ) (x y : ℕ → ℤ) where
   leaf left from p deep cx cy =
       let levels : left ≡ finest - p .level = omega arith in
       let sum : (q : Four) (at : ℕ → ℤ) → Covers left from q at → at from ≡ pos (2 ^ (3 * (finest - p .level))) *ℤ q .a =
-      λ q at c. ap at (sym (add-zero from)) ∙ sym (c 0 (pow-pos left)) ∙ start-sum left q ∙ ap (λ (n : ℕ). pos (2 ^ (3 * n)) *ℤ q .a) levels in
+      λ q at c. ap at (sym (add-zero from)) ∙ sym (c 0 (omega arith)) ∙ start-sum left q ∙ ap (λ (n : ℕ). pos (2 ^ (3 * n)) *ℤ q .a) levels in
       same-both (p .level) (omega arith) (p .x .a) (p .y .a) (x from) (y from) (sum (p .x) x cx) (sum (p .y) y cy)
 
   pub starts-even : (left from : ℕ) (p : Piece) → p .level + left ≡ finest → Covers left from (p .x) x → Covers left from (p .y) y

@@ -1,4 +1,5 @@
 pub mod Shape
+pub mod Depth
 pub mod Table
 pub mod Refusals
 pub mod Exactly

@@ -13,10 +13,11 @@ use Rattle.curve.specs.Tab.{tab}
 use Rattle.curve.proofs.Span.{weighted-end}
 use Rattle.shape.specs.declared.Shape.{Shape}
 use Rattle.shape.specs.declared.Plan.{Plan}
+use Rattle.shape.specs.Depth.{planAt}
 use Rattle.shape.specs.Refusals.{planOf}
 use Rattle.spans.specs.Numbers.{sumOf, perSpan, noughts}
 use Rattle.spans.specs.Inner.{wholes, remainders}
-use Rattle.spans.proofs.Numbers.{span-sum}
+use Rattle.spans.proofs.Numbers.{per-span, span-sum}
 use Rattle.pieces.specs.Tree.{finest, piece, Tree, allCuts}
 use Rattle.pieces.specs.Values.{allStarts, end, numbers}
 use Rattle.pieces.specs.Steps.{stepsIn, Rises}
@@ -40,25 +41,25 @@ abbrev pub onY : Plan → List ℤ → ℕ → ℤ
 onY p controls g = sumOf (finestPlan p) controls (2 * g + 1)
 
 module _ (p : Plan) (controls : List ℤ) (t : ℕ) (there : t < p .spans) where
-  -- step i of span t
-  at-step : (i axis : ℕ) → i ≤ 2 ^ finest → axis < 2 → sumOf (finestPlan p) controls (2 * (t * 2 ^ finest + i) + axis) ≡ weighted (controlsOf p controls t axis) (pos i) (pos (2 ^ finest))
-  at-step i axis h a =
-      let place : 2 * (t * 2 ^ finest + i) + axis ≡ t * perSpan finest + (2 * i + axis) = omega arith in
+  -- step i of span t, at any depth
+  pub at-step : (k i axis : ℕ) → i ≤ 2 ^ k → axis < 2 → sumOf (planAt k p) controls (2 * (t * 2 ^ k + i) + axis) ≡ weighted (controlsOf p controls t axis) (pos i) (pos (2 ^ k))
+  at-step k i axis h a =
+      let place : 2 * (t * 2 ^ k + i) + axis ≡ t * perSpan k + (2 * i + axis) = omega (arith, per-span t k) in
       let axis-is : (2 * i + axis) % 2 ≡ axis = omega arith in
       let step-is : (2 * i + axis) / 2 ≡ i = omega arith in
-      ap (sumOf (finestPlan p) controls) place
-      ∙ span-sum (finestPlan p) controls t (2 * i + axis) there (omega arith)
-      ∙ ap (λ (n : ℕ). sumAt (p .basis) finest (records (p .basis) t (coordinate controls n)) ((2 * i + axis) / 2)) axis-is
-      ∙ ap (sumAt (p .basis) finest (records (p .basis) t (coordinate controls axis))) step-is
+      ap (sumOf (planAt k p) controls) place
+      ∙ span-sum (planAt k p) controls t (2 * i + axis) there (omega arith)
+      ∙ ap (λ (n : ℕ). sumAt (p .basis) k (records (p .basis) t (coordinate controls n)) ((2 * i + axis) / 2)) axis-is
+      ∙ ap (sumAt (p .basis) k (records (p .basis) t (coordinate controls axis))) step-is
 
   x-step : (i : ℕ) → i ≤ 2 ^ finest → onX p controls (t * 2 ^ finest + i) ≡ weighted (controlsOf p controls t 0) (pos i) (pos (2 ^ finest))
-  x-step i h = ap (sumOf (finestPlan p) controls) (omega arith) ∙ at-step i 0 h (lit< tt)
+  x-step i h = ap (sumOf (finestPlan p) controls) (omega arith) ∙ at-step finest i 0 h (lit< tt)
 
   covers-x : Covers finest (t * 2 ^ finest) (controlsOf p controls t 0) (onX p controls)
-  covers-x i h = sym (x-step i (omega arith))
+  covers-x i h = sym (x-step i h)
 
   covers-y : Covers finest (t * 2 ^ finest) (controlsOf p controls t 1) (onY p controls)
-  covers-y i h = sym (at-step i 1 (omega arith) (lit< tt))
+  covers-y i h = sym (at-step finest i 1 h (lit< tt))
 
   -- its end
   pub end-even : (m : ℕ) → m ≡ t + 1 → Same (divisorAt finest) (end divisorAt (controlsOf p controls t 0) (controlsOf p controls t 1)) (sumsAt (onX p controls) (onY p controls) (m * 2 ^ finest ∷ []))
@@ -69,7 +70,7 @@ module _ (p : Plan) (controls : List ℤ) (t : ℕ) (there : t < p .spans) where
       let y = controlsOf p controls t 1 in
       same-both 0 (omega arith) (x .d) (y .d) (onX p controls (m * 2 ^ finest)) (onY p controls (m * 2 ^ finest))
       (ap (onX p controls) last ∙ x-step (2 ^ finest) (omega arith) ∙ weighted-end x (pos (2 ^ finest)))
-      (ap (onY p controls) last ∙ at-step (2 ^ finest) 1 (omega arith) (lit< tt) ∙ weighted-end y (pos (2 ^ finest)))
+      (ap (onY p controls) last ∙ at-step finest (2 ^ finest) 1 (omega arith) (lit< tt) ∙ weighted-end y (pos (2 ^ finest)))
 
 -- ---- all chosen values are such sums
 

@@ -15,6 +15,7 @@ use Rattle.curve.specs.Tab.{tab}
 use Rattle.curve.proofs.Span.{weighted-end}
 use Rattle.curve.proofs.Tab.{length-tab}
 use Rattle.shape.specs.declared.Plan.{Plan}
+use Rattle.shape.specs.Depth.{planAt}
 use Rattle.spans.specs.Inner.{Ready}
 use Rattle.spans.proofs.Drawables.{span-ready}
 use Rattle.spans.proofs.Halves.{ready-cuttable}
@@ -30,15 +31,11 @@ use Rattle.tolerance.specs.Inner.{Walkable}
 
 -- ---- one span
 
--- the same plan at another depth
-abbrev pub atDepth : ℕ → Plan → Plan
-atDepth k p = record { basis = p .basis; depth = k; spans = p .spans }
-
 module _ (p : Plan) (tolerance : ℕ) (controls : List ℤ) (w : Walkable p tolerance controls) (s : ℕ) (h : s < p .spans) where
   ready : (k axis : ℕ) → axis < 2 → Ready k (divisorAt k) (controlsOf p controls s axis)
   ready k axis a =
       let d = w .drawable in
-      span-ready (atDepth k p) controls (record { few = d .few; held = d .held; inside = d .inside }) s axis h a
+      span-ready (planAt k p) controls (record { few = d .few; held = d .held; inside = d .inside }) s axis h a
 
   pub span-walkable : pieces.Walkable 0 (controlsOf p controls s 0) (controlsOf p controls s 1)
   span-walkable =

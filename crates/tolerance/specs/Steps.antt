@@ -5,6 +5,7 @@ use Prim.Native.Nat.{ℕ, suc, _*_, _^_}
 use lib.IntN.{ℤ}
 use Rattle.shape.specs.declared.Shape.{Shape}
 use Rattle.shape.specs.declared.Plan.{Plan}
+use Rattle.shape.specs.Depth.{shapeAt, planAt}
 use Rattle.pieces.specs.Tree.{finest, Tree}
 use Rattle.pieces.specs.Steps.{stepsIn}
 use Rattle.tolerance.specs.Reading.{treesOf}
@@ -20,7 +21,7 @@ stepsAlong p tolerance controls = stepsFrom 0 (treesOf p tolerance controls) ++ 
 
 -- The same shape at the finest depth: its even outline has a point at every step.
 abbrev pub finestShape : Shape → Shape
-finestShape s = record { basis = s .basis; depth = finest; count = s .count }
+finestShape s = shapeAt finest s
 
 abbrev pub finestPlan : Plan → Plan
-finestPlan p = record { basis = p .basis; depth = finest; spans = p .spans }
+finestPlan p = planAt finest p

@@ -1,0 +1,3 @@
+pub mod Chord
+pub mod Over
+pub mod Spans

@@ -1,0 +1,35 @@
+-- One fraction, written over two divisors: s·z is t·v where s·c is t·e, so z / c is v / e. What is within a bound, or meets it, the one way does so the other way too.
+use mathlib.Core.Path.{_≡_, sym, ap, _∙_, subst}
+use mathlib.Core.List.{[], _∷_}
+use Prim.Native.Nat.{ℕ, _*_, _-_, _<_}
+use native.Mathlib.Nat.{mul-left-comm, mul-le-mul, le-refl, le-of-mul-le-mul-left, eq-of-mul-eq-mul-left}
+use lib.IntN.{ℤ, pos, natAbs, _+ℤ_, _-ℤ_, _*ℤ_}
+use Rattle.whole.proofs.Ring.{var, _⊕_, _⊖_, _⊗_, solve}
+use Rattle.whole.proofs.Fit.{natAbs-mul}
+use Rattle.stray.specs.Chord.{Bound, Within, Meets, offChord}
+
+module _ (s t : ℕ) where
+  module _ (f : Bound) (z v : ℤ) (c e : ℕ) (some : 0 < t) (values : pos s *ℤ z ≡ pos t *ℤ v) (under : s * c ≡ t * e) where
+    size : t * (f .under * natAbs v) ≡ s * (f .under * natAbs z)
+    size =
+        mul-left-comm t (f .under) (natAbs v)
+        ∙ ap (λ (n : ℕ). f .under * n) (sym (natAbs-mul (pos t) v) ∙ ap natAbs (sym values) ∙ natAbs-mul (pos s) z)
+        ∙ mul-left-comm (f .under) s (natAbs z)
+
+    most : s * (f .over * c) ≡ t * (f .over * e)
+    most = mul-left-comm s (f .over) c ∙ ap (λ (n : ℕ). f .over * n) under ∙ mul-left-comm (f .over) t e
+
+    pub within-over : Within f z c → Within f v e
+    within-over h = le-of-mul-le-mul-left (rw (size, ← most) (mul-le-mul (le-refl s) h)) some
+
+    pub meets-over : Meets f z c → Meets f v e
+    meets-over h = eq-of-mul-eq-mul-left t some (f .under * natAbs v) (f .over * e) (size ∙ ap (λ (n : ℕ). s * n) h ∙ most)
+
+  -- a chord, and how far a value is from it
+  pub off-over : (w j : ℕ) (a c z a′ c′ z′ : ℤ) → pos s *ℤ a ≡ pos t *ℤ a′ → pos s *ℤ c ≡ pos t *ℤ c′ → pos s *ℤ z ≡ pos t *ℤ z′ → pos s *ℤ offChord w j a c z ≡ pos t *ℤ offChord w j a′ c′ z′
+  off-over w j a c z a′ c′ z′ on-a on-c on-z =
+      times (pos s) a c z ∙ (λ i. pos w *ℤ on-z i -ℤ (pos (w - j) *ℤ on-a i +ℤ pos j *ℤ on-c i)) ∙ sym (times (pos t) a′ c′ z′)
+    where
+      times : (m a c z : ℤ) → m *ℤ offChord w j a c z ≡ pos w *ℤ (m *ℤ z) -ℤ (pos (w - j) *ℤ (m *ℤ a) +ℤ pos j *ℤ (m *ℤ c))
+      times m a c z =
+          solve (m ∷ pos w ∷ pos (w - j) ∷ pos j ∷ a ∷ c ∷ z ∷ []) (var 0 ⊗ (var 1 ⊗ var 6 ⊖ (var 2 ⊗ var 4 ⊕ var 3 ⊗ var 5))) (var 1 ⊗ (var 0 ⊗ var 6) ⊖ (var 2 ⊗ (var 0 ⊗ var 4) ⊕ var 3 ⊗ (var 0 ⊗ var 5))) tt

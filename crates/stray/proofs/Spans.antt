@@ -1,0 +1,95 @@
+-- The chord theorem for a span of any basis, at the depths that steps have: n is 2^k, m is 2^l. First over the sums of document 01, then over the published curve, which is the same fraction.
+use mathlib.Core.Path.{_≡_, refl, sym, ap, _∙_, subst}
+use mathlib.Core.List.{[], _∷_}
+use Prim.Native.Nat.{ℕ, zero, suc, _+_, _*_, _^_, _≤_, _<_}
+use native.Mathlib.Nat.{pow-suc, mul-left-comm, mul-le-mul, le-refl}
+use lib.Dec.{lit<}
+use lib.IntN.{ℤ, pos, natAbs, _*ℤ_}
+use lib.Pow.{pow-add}
+use Rattle.whole.proofs.Ring.{var, _⊗_, solve}
+use Rattle.whole.proofs.Order.{pos-injective}
+use Rattle.curve.specs.declared.Four.{Four}
+use Rattle.curve.specs.declared.Basis.{Basis}
+use Rattle.curve.specs.Bend.{bend, firstBend, lastBend}
+use Rattle.curve.specs.Published.{published, denominator}
+use Rattle.curve.specs.Span.{sixfold, sixfoldControls, weighted, divisor, sumAt}
+use Rattle.curve.proofs.Powers.{cube, thrice}
+use Rattle.curve.proofs.Reflect.{num}
+use Rattle.curve.proofs.Span.{same-value, same-divisor}
+use Rattle.stray.specs.Chord.{Within, Meets, bendBound, offChord, finer}
+use Rattle.stray.proofs.Chord.{offCurve, chord-most, chord-met}
+use Rattle.stray.proofs.Over.{within-over, meets-over, off-over}
+
+-- 4^k is 2^k twice over
+fours : (k : ℕ) → 4 ^ k ≡ 2 ^ k * 2 ^ k
+fours zero = refl
+fours (suc k) =
+    pow-suc 4 k
+    ∙ ap (λ (n : ℕ). n * 4) (fours k)
+    ∙ pos-injective (solve (pos (2 ^ k) ∷ []) (var 0 ⊗ var 0 ⊗ num 4) (var 0 ⊗ num 2 ⊗ (var 0 ⊗ num 2)) tt)
+    ∙ sym (ap (λ (n : ℕ). n * n) (pow-suc 2 k))
+
+module _ (b : Basis) (p : Four) (k l i : ℕ) where
+  abbrev q : Four
+  q = sixfoldControls b p
+
+  -- ---- over the sums: how far the one at step i·2^l + j of depth k + l is from the chord between those at i and i + 1 of depth k
+
+  abbrev offSums : ℕ → ℤ
+  offSums j = offChord (2 ^ l) j (finer l (sumAt b k p i)) (finer l (sumAt b k p (i + 1))) (sumAt b (k + l) p (i * 2 ^ l + j))
+
+  off-is : (j : ℕ) → offSums j ≡ offCurve q i (2 ^ k) j (2 ^ l)
+  off-is j = λ x. offChord (2 ^ l) j (pos (thrice l x) *ℤ sumAt b k p i) (pos (thrice l x) *ℤ sumAt b k p (i + 1)) (weighted q (pos (i * 2 ^ l + j)) (pos (pow-add 2 k l x)))
+
+  -- both sides of the bound, divided by what the controls are over
+  size : (j : ℕ) → 4 * (4 ^ k * divisor b 0) * natAbs (offSums j) ≡ divisor b 0 * (4 * (2 ^ k * 2 ^ k * natAbs (offCurve q i (2 ^ k) j (2 ^ l))))
+  size j =
+      (λ x. 4 * (fours k x * divisor b 0) * natAbs (off-is j x))
+      ∙ pos-injective (solve (pos (2 ^ k) ∷ pos (divisor b 0) ∷ pos (natAbs (offCurve q i (2 ^ k) j (2 ^ l))) ∷ []) (num 4 ⊗ (var 0 ⊗ var 0 ⊗ var 1) ⊗ var 2) (var 1 ⊗ (num 4 ⊗ (var 0 ⊗ var 0 ⊗ var 2))) tt)
+
+  most : divisor b 0 * (3 * bend q * (2 ^ l * cube (2 ^ k * 2 ^ l))) ≡ 3 * bend q * (2 ^ l * divisor b (k + l))
+  most =
+      (λ x. divisor b 0 * (3 * bend q * (2 ^ l * cube (sym (pow-add 2 k l) x))))
+      ∙ (λ x. divisor b 0 * (3 * bend q * (2 ^ l * sym (thrice (k + l)) x)))
+      ∙ pos-injective (solve (pos (bend q) ∷ pos (2 ^ l) ∷ pos (2 ^ (3 * (k + l))) ∷ []) (num sixfold ⊗ (num 3 ⊗ var 0 ⊗ (var 1 ⊗ var 2))) (num 3 ⊗ var 0 ⊗ (var 1 ⊗ (num sixfold ⊗ var 2))) tt)
+
+  pub sums-within : (j : ℕ) → i < 2 ^ k → j ≤ 2 ^ l → Within (bendBound (divisor b 0) q k) (offSums j) (2 ^ l * divisor b (k + l))
+  sums-within j hi hj = rw (size j, ← most) (mul-le-mul (le-refl (divisor b 0)) (chord-most q i (2 ^ k) j (2 ^ l) hi hj))
+
+  -- where both second differences are the same, in the middle
+  pub sums-meet : (j : ℕ) → i < 2 ^ k → j + j ≡ 2 ^ l → firstBend q ≡ lastBend q → Meets (bendBound (divisor b 0) q k) (offSums j) (2 ^ l * divisor b (k + l))
+  sums-meet j hi half same =
+      let met : 4 * (2 ^ k * 2 ^ k * natAbs (offCurve q i (2 ^ k) j (2 ^ l))) ≡ 3 * bend q * (2 ^ l * cube (2 ^ k * 2 ^ l)) =
+      subst (λ (m : ℕ). 4 * (2 ^ k * 2 ^ k * natAbs (offCurve q i (2 ^ k) j m)) ≡ 3 * bend q * (m * cube (2 ^ k * m))) half (chord-met q i (2 ^ k) j hi same) in
+      size j ∙ ap (λ (n : ℕ). divisor b 0 * n) met ∙ most
+
+  -- ---- over the published curve
+
+  abbrev value : ℕ → ℕ → ℤ
+  value depth step = published b p (pos step) (pos (2 ^ depth))
+
+  abbrev pub offPublished : ℕ → ℤ
+  offPublished j = offChord (2 ^ l) j (finer l (value k i)) (finer l (value k (i + 1))) (value (k + l) (i * 2 ^ l + j))
+
+  end-over : (step : ℕ) → pos (denominator b) *ℤ finer l (sumAt b k p step) ≡ pos sixfold *ℤ finer l (value k step)
+  end-over step =
+      swapped (pos (denominator b)) (pos (2 ^ (3 * l))) (sumAt b k p step)
+      ∙ ap (finer l) (same-value b k p step)
+      ∙ sym (swapped (pos sixfold) (pos (2 ^ (3 * l))) (value k step))
+    where
+      swapped : (x y z : ℤ) → x *ℤ (y *ℤ z) ≡ y *ℤ (x *ℤ z)
+      swapped x y z = solve (x ∷ y ∷ z ∷ []) (var 0 ⊗ (var 1 ⊗ var 2)) (var 1 ⊗ (var 0 ⊗ var 2)) tt
+
+  off-published : (j : ℕ) → pos (denominator b) *ℤ offSums j ≡ pos sixfold *ℤ offPublished j
+  off-published j =
+      off-over (denominator b) sixfold (2 ^ l) j (finer l (sumAt b k p i)) (finer l (sumAt b k p (i + 1))) (sumAt b (k + l) p (i * 2 ^ l + j))
+      (finer l (value k i)) (finer l (value k (i + 1))) (value (k + l) (i * 2 ^ l + j)) (end-over i) (end-over (i + 1)) (same-value b (k + l) p (i * 2 ^ l + j))
+
+  under : denominator b * (2 ^ l * divisor b (k + l)) ≡ sixfold * (2 ^ l * (denominator b * 2 ^ (3 * (k + l))))
+  under = mul-left-comm (denominator b) (2 ^ l) (divisor b (k + l)) ∙ ap (λ (n : ℕ). 2 ^ l * n) (same-divisor b (k + l) p 0) ∙ mul-left-comm (2 ^ l) sixfold (denominator b * 2 ^ (3 * (k + l)))
+
+  pub published-within : (j : ℕ) → i < 2 ^ k → j ≤ 2 ^ l → Within (bendBound (divisor b 0) q k) (offPublished j) (2 ^ l * (denominator b * 2 ^ (3 * (k + l))))
+  published-within j hi hj = within-over (denominator b) sixfold (bendBound (divisor b 0) q k) (offSums j) (offPublished j) (2 ^ l * divisor b (k + l)) (2 ^ l * (denominator b * 2 ^ (3 * (k + l)))) (lit< tt) (off-published j) under (sums-within j hi hj)
+
+  pub published-meets : (j : ℕ) → i < 2 ^ k → j + j ≡ 2 ^ l → firstBend q ≡ lastBend q → Meets (bendBound (divisor b 0) q k) (offPublished j) (2 ^ l * (denominator b * 2 ^ (3 * (k + l))))
+  published-meets j hi half same = meets-over (denominator b) sixfold (bendBound (divisor b 0) q k) (offSums j) (offPublished j) (2 ^ l * divisor b (k + l)) (2 ^ l * (denominator b * 2 ^ (3 * (k + l)))) (lit< tt) (off-published j) under (sums-meet j hi half same)
