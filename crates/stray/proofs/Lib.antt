@@ -1,3 +1,4 @@
 pub mod Chord
 pub mod Over
 pub mod Spans
+pub mod Again
