@@ -6,12 +6,12 @@ use Prim.Native.Nat.{ℕ, _+_, _*_, _-_, _/_, _%_, _^_, min, _≤_, _<_}
 use native.Mathlib.Nat.{mul-comm, mul-assoc, mul-left-comm, mul-sub, mul-div-mul-right, mul-le-mul, le-refl}
 use native.Mathlib.Omega.{arith}
 use borrow.Author.Tests.{le-ltb}
-use lib.IntN.{ℤ, pos, _*ℤ_}
+use lib.IntN.{ℤ, pos, natAbs, _-ℤ_, _*ℤ_}
 use lib.ListN.{getD, length}
 use lib.Pow.{pow-add, pow-pos}
 use Rattle.whole.specs.Nearest.{nearest, remainder}
 use Rattle.whole.specs.Outcome.{outcome}
-use Rattle.whole.proofs.Nearest.{nearest-scale}
+use Rattle.whole.proofs.Nearest.{nearest-rounded, nearest-scale}
 use Rattle.whole.proofs.Remainder.{remainder-scale}
 use Rattle.curve.specs.declared.Four.{Four}
 use Rattle.curve.specs.declared.Basis.{Basis}
@@ -47,6 +47,13 @@ pub divisor-again : (b : Basis) (k l : ℕ) → divisor b (k + l) ≡ 2 ^ (3 * l
 divisor-again b k l =
     let three : 3 * (k + l) ≡ 3 * l + 3 * k = omega arith in
     ap (λ (n : ℕ). sixfold * 2 ^ n) three ∙ ap (λ (n : ℕ). sixfold * n) (pow-add 2 (3 * l) (3 * k)) ∙ mul-left-comm sixfold (2 ^ (3 * l)) (2 ^ (3 * k))
+
+-- the number that a sum is rounded to is at most a half away from it over the finer divisor too
+pub close-again : (b : Basis) (k l : ℕ) (z n : ℤ) → n ≡ nearest z (divisor b k) → 2 * natAbs (finer l z -ℤ pos (divisor b (k + l)) *ℤ n) ≤ divisor b (k + l)
+close-again b k l z n e =
+    let d = divisor b (k + l) in
+    let is : nearest (finer l z) d ≡ n = ap (nearest (finer l z)) (divisor-again b k l) ∙ nearest-scale (2 ^ (3 * l)) z (divisor b k) (pow-pos (3 * l)) (divisor-pos b k) ∙ sym e in
+    subst (λ m. 2 * natAbs (finer l z -ℤ pos d *ℤ m) ≤ d) is (nearest-rounded (finer l z) d (divisor-pos b (k + l)) .close)
 
 module _ (p : Plan) (controls : List ℤ) (k l g axis : ℕ) (a : axis < 2) where
   abbrev q : ℕ
@@ -103,7 +110,7 @@ module _ (s : Shape) (controls lent : List ℤ) (fs : Figures) (held : List ℤ)
   unfolding planOf
   plan-is = refl
 
-  points-are : fs .points ≡ planOf s .spans * 2 ^ s .depth + 1
+  pub points-are : fs .points ≡ planOf s .spans * 2 ^ s .depth + 1
   unfolding pointsOf planOf
   points-are = ap (λ (f : Figures). f .points) (sym (done-figures s controls lent fs held done))
 

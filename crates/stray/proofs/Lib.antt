@@ -2,3 +2,8 @@ pub mod Chord
 pub mod Over
 pub mod Spans
 pub mod Again
+pub mod Rounded
+pub mod Neighbours
+pub mod Pieces
+pub mod Chosen
+pub mod Drawn

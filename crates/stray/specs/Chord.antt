@@ -1,10 +1,13 @@
 -- How far the curve strays from a chord (document 02, request 13): "the exact curve differs on each axis from the chord between the exact points of depth k, at the same fraction, by at most
 -- three quarters of the larger second difference, in size, of the span's Bezier controls, divided by 4^k". All is multiplied out, so that everything is whole. Definitions only.
 use mathlib.Core.Path.{_≡_}
+use mathlib.Core.List.{List}
 use Prim.Native.Nat.{ℕ, _+_, _*_, _-_, _^_, _≤_}
 use lib.IntN.{ℤ, pos, natAbs, _+ℤ_, _-ℤ_, _*ℤ_}
 use Rattle.curve.specs.declared.Four.{Four}
+use Rattle.curve.specs.declared.Basis.{Basis}
 use Rattle.curve.specs.Bend.{bend}
+use Rattle.curve.specs.Span.{coordinate, records, sixfoldControls, divisor}
 
 -- ---- bounds
 
@@ -23,6 +26,10 @@ Meets f z d = f .under * natAbs z ≡ f .over * d
 -- "Three quarters of the larger second difference, in size, of the span's Bezier controls, divided by 4^k", where the controls are whole numbers over d.
 abbrev pub bendBound : ℕ → Four → ℕ → Bound
 bendBound d controls k = record { over = 3 * bend controls; under = 4 * (4 ^ k * d) }
+
+-- That of span s on an axis (0 is x, 1 is y), at depth k: document 01's Bezier controls of a span, over what they are a multiple of.
+abbrev pub spanBound : Basis → ℕ → List ℤ → ℕ → ℕ → Bound
+spanBound b k controls s axis = bendBound (divisor b 0) (sixfoldControls b (records b s (coordinate controls axis))) k
 
 -- So many whole micrometres.
 abbrev pub micrometres : ℕ → Bound
