@@ -44,6 +44,9 @@ pub divisor-most : (bits : ℕ) → bits ≤ mostBits → divisorOf bits ≤ div
 divisor-most bits h = mul-le-mul (le-refl sixfold) (pow-mono {i = bits} {j = mostBits} h)
 
 -- So both are one fraction: `denominator` times each part of the sum's is six times each part of the published value's.
+pub same-divisors : (b : Basis) (k : ℕ) → denominator b * divisor b k ≡ sixfold * (denominator b * 2 ^ (3 * k))
+same-divisors b k = mul-left-comm (denominator b) sixfold (2 ^ (3 * k))
+
 module _ (b : Basis) (k : ℕ) (p : Four) (i : ℕ) where
   abbrev value : ℤ
   value = published b p (pos i) (pos (2 ^ k))
@@ -59,22 +62,19 @@ module _ (b : Basis) (k : ℕ) (p : Four) (i : ℕ) where
       let swap : (x y : ℤ) → x *ℤ y ≡ y *ℤ x = λ x y. solve (x ∷ y ∷ []) (var 0 ⊗ var 1) (var 1 ⊗ var 0) tt in
       swap (pos (denominator b)) (sumAt b k p i) ∙ sixfold-is-published b p (pos i) (pos (2 ^ k)) ∙ swap value (pos sixfold)
 
-  pub same-divisor : denominator b * divisor b k ≡ sixfold * under
-  same-divisor = mul-left-comm (denominator b) sixfold (2 ^ (3 * k))
-
   -- a point is the published value, rounded once
   pub point-published : point b k p i ≡ nearest value under
   unfolding point
   point-published =
       sym (nearest-scale (denominator b) (sumAt b k p i) (divisor b k) (denominator-pos b) (divisor-pos b k))
-      ∙ (λ j. nearest (same-value j) (same-divisor j))
+      ∙ (λ j. nearest (same-value j) (same-divisors b k j))
       ∙ nearest-scale sixfold value under (lit< tt) under-pos
 
   -- and what is left over of the sum is the same part of its divisor as what is left over of the published value
   pub remainder-published : pos (denominator b) *ℤ remainder (sumAt b k p i) (divisor b k) ≡ pos sixfold *ℤ remainder value under
   remainder-published =
       sym (remainder-scale (denominator b) (sumAt b k p i) (divisor b k) (denominator-pos b) (divisor-pos b k))
-      ∙ (λ j. remainder (same-value j) (same-divisor j))
+      ∙ (λ j. remainder (same-value j) (same-divisors b k j))
       ∙ remainder-scale sixfold value under (lit< tt) under-pos
 
   -- nothing of the one where nothing of the other

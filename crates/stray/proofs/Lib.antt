@@ -1,9 +1,11 @@
+pub mod Examples
 pub mod Chord
 pub mod Over
 pub mod Spans
+pub mod Records
 pub mod Again
 pub mod Rounded
+pub mod Drawn
 pub mod Neighbours
 pub mod Pieces
 pub mod Chosen
-pub mod Drawn

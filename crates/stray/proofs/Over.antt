@@ -1,12 +1,18 @@
--- One fraction, written over two divisors: s·z is t·v where s·c is t·e, so z / c is v / e. What is within a bound, or meets it, the one way does so the other way too.
+-- One fraction, written over two divisors: s·z is t·v where s·c is t·e, so z / c is v / e. What is within a bound, or meets it, the one way does so the other way too. So what is said of the sums of
+-- document 01 holds of the published values.
 use mathlib.Core.Path.{_≡_, sym, ap, _∙_, subst}
 use mathlib.Core.List.{[], _∷_}
-use Prim.Native.Nat.{ℕ, _*_, _-_, _<_}
+use Prim.Native.Nat.{ℕ, _*_, _-_, _^_, _<_}
 use native.Mathlib.Nat.{mul-left-comm, mul-le-mul, le-refl, le-of-mul-le-mul-left, eq-of-mul-eq-mul-left}
+use lib.Dec.{lit<}
 use lib.IntN.{ℤ, pos, natAbs, _+ℤ_, _-ℤ_, _*ℤ_}
-use Rattle.whole.proofs.Ring.{var, _⊕_, _⊖_, _⊗_, solve}
+use Rattle.whole.proofs.Ring.{var, _⊕_, _⊖_, _⊗_, solve, *ℤ-assoc}
 use Rattle.whole.proofs.Fit.{natAbs-mul}
-use Rattle.stray.specs.Chord.{Bound, Within, Meets, offChord}
+use Rattle.curve.specs.declared.Basis.{Basis}
+use Rattle.curve.specs.Published.{denominator}
+use Rattle.curve.specs.Span.{sixfold, divisor}
+use Rattle.curve.proofs.Span.{same-divisors}
+use Rattle.stray.specs.Chord.{Bound, Within, Meets, offChord, finer}
 
 module _ (s t : ℕ) where
   module _ (f : Bound) (z v : ℤ) (c e : ℕ) (some : 0 < t) (values : pos s *ℤ z ≡ pos t *ℤ v) (under : s * c ≡ t * e) where
@@ -33,3 +39,32 @@ module _ (s t : ℕ) where
       times : (m a c z : ℤ) → m *ℤ offChord w j a c z ≡ pos w *ℤ (m *ℤ z) -ℤ (pos (w - j) *ℤ (m *ℤ a) +ℤ pos j *ℤ (m *ℤ c))
       times m a c z =
           solve (m ∷ pos w ∷ pos (w - j) ∷ pos j ∷ a ∷ c ∷ z ∷ []) (var 0 ⊗ (var 1 ⊗ var 6 ⊖ (var 2 ⊗ var 4 ⊕ var 3 ⊗ var 5))) (var 1 ⊗ (var 0 ⊗ var 6) ⊖ (var 2 ⊗ (var 0 ⊗ var 4) ⊕ var 3 ⊗ (var 0 ⊗ var 5))) tt
+
+  pub finer-over : (l : ℕ) (z v : ℤ) → pos s *ℤ z ≡ pos t *ℤ v → pos s *ℤ finer l z ≡ pos t *ℤ finer l v
+  finer-over l z v e = swapped (pos s) (pos (2 ^ (3 * l))) z ∙ ap (finer l) e ∙ sym (swapped (pos t) (pos (2 ^ (3 * l))) v)
+    where
+      swapped : (x y z : ℤ) → x *ℤ (y *ℤ z) ≡ y *ℤ (x *ℤ z)
+      swapped x y z = solve (x ∷ y ∷ z ∷ []) (var 0 ⊗ (var 1 ⊗ var 2)) (var 1 ⊗ (var 0 ⊗ var 2)) tt
+
+-- ---- the sums of a basis, and its published values
+
+-- what a published value at depth k is over
+abbrev publishedUnder : Basis → ℕ → ℕ
+publishedUnder b k = denominator b * 2 ^ (3 * k)
+
+-- a whole number over the one divisor and over the other
+pub whole-over : (b : Basis) (k : ℕ) (n : ℤ) → pos (denominator b) *ℤ (pos (divisor b k) *ℤ n) ≡ pos sixfold *ℤ (pos (publishedUnder b k) *ℤ n)
+whole-over b k n = sym (*ℤ-assoc (pos (denominator b)) (pos (divisor b k)) n) ∙ ap (λ (m : ℕ). pos m *ℤ n) (same-divisors b k) ∙ *ℤ-assoc (pos sixfold) (pos (publishedUnder b k)) n
+
+module _ (b : Basis) (k w j : ℕ) (a c z a′ c′ z′ : ℤ) (on-a : pos (denominator b) *ℤ a ≡ pos sixfold *ℤ a′) (on-c : pos (denominator b) *ℤ c ≡ pos sixfold *ℤ c′) (on-z : pos (denominator b) *ℤ z ≡ pos sixfold *ℤ z′) (f : Bound) where
+  off : pos (denominator b) *ℤ offChord w j a c z ≡ pos sixfold *ℤ offChord w j a′ c′ z′
+  off = off-over (denominator b) sixfold w j a c z a′ c′ z′ on-a on-c on-z
+
+  under : denominator b * (w * divisor b k) ≡ sixfold * (w * publishedUnder b k)
+  under = mul-left-comm (denominator b) w (divisor b k) ∙ ap (λ (n : ℕ). w * n) (same-divisors b k) ∙ mul-left-comm w sixfold (publishedUnder b k)
+
+  pub within-published : Within f (offChord w j a c z) (w * divisor b k) → Within f (offChord w j a′ c′ z′) (w * publishedUnder b k)
+  within-published = within-over (denominator b) sixfold f (offChord w j a c z) (offChord w j a′ c′ z′) (w * divisor b k) (w * publishedUnder b k) (lit< tt) off under
+
+  pub meets-published : Meets f (offChord w j a c z) (w * divisor b k) → Meets f (offChord w j a′ c′ z′) (w * publishedUnder b k)
+  meets-published = meets-over (denominator b) sixfold f (offChord w j a c z) (offChord w j a′ c′ z′) (w * divisor b k) (w * publishedUnder b k) (lit< tt) off under

@@ -2,8 +2,7 @@
 use mathlib.Core.Path.{_≡_, refl, sym, ap, _∙_, subst}
 use mathlib.Core.List.{[], _∷_}
 use Prim.Native.Nat.{ℕ, zero, suc, _+_, _*_, _^_, _≤_, _<_}
-use native.Mathlib.Nat.{pow-suc, mul-left-comm, mul-le-mul, le-refl}
-use lib.Dec.{lit<}
+use native.Mathlib.Nat.{pow-suc, mul-le-mul, le-refl}
 use lib.IntN.{ℤ, pos, natAbs, _*ℤ_}
 use lib.Pow.{pow-add}
 use Rattle.whole.proofs.Ring.{var, _⊗_, solve}
@@ -15,10 +14,10 @@ use Rattle.curve.specs.Published.{published, denominator}
 use Rattle.curve.specs.Span.{sixfold, sixfoldControls, weighted, divisor, sumAt}
 use Rattle.curve.proofs.Powers.{cube, thrice}
 use Rattle.curve.proofs.Reflect.{num}
-use Rattle.curve.proofs.Span.{same-value, same-divisor}
+use Rattle.curve.proofs.Span.{same-value}
 use Rattle.stray.specs.Chord.{Within, Meets, bendBound, offChord, finer}
 use Rattle.stray.proofs.Chord.{offCurve, chord-most, chord-met}
-use Rattle.stray.proofs.Over.{within-over, meets-over, off-over}
+use Rattle.stray.proofs.Over.{finer-over, within-published, meets-published}
 
 -- 4^k is 2^k twice over
 fours : (k : ℕ) → 4 ^ k ≡ 2 ^ k * 2 ^ k
@@ -72,24 +71,14 @@ module _ (b : Basis) (p : Four) (k l i : ℕ) where
   offPublished j = offChord (2 ^ l) j (finer l (value k i)) (finer l (value k (i + 1))) (value (k + l) (i * 2 ^ l + j))
 
   end-over : (step : ℕ) → pos (denominator b) *ℤ finer l (sumAt b k p step) ≡ pos sixfold *ℤ finer l (value k step)
-  end-over step =
-      swapped (pos (denominator b)) (pos (2 ^ (3 * l))) (sumAt b k p step)
-      ∙ ap (finer l) (same-value b k p step)
-      ∙ sym (swapped (pos sixfold) (pos (2 ^ (3 * l))) (value k step))
-    where
-      swapped : (x y z : ℤ) → x *ℤ (y *ℤ z) ≡ y *ℤ (x *ℤ z)
-      swapped x y z = solve (x ∷ y ∷ z ∷ []) (var 0 ⊗ (var 1 ⊗ var 2)) (var 1 ⊗ (var 0 ⊗ var 2)) tt
-
-  off-published : (j : ℕ) → pos (denominator b) *ℤ offSums j ≡ pos sixfold *ℤ offPublished j
-  off-published j =
-      off-over (denominator b) sixfold (2 ^ l) j (finer l (sumAt b k p i)) (finer l (sumAt b k p (i + 1))) (sumAt b (k + l) p (i * 2 ^ l + j))
-      (finer l (value k i)) (finer l (value k (i + 1))) (value (k + l) (i * 2 ^ l + j)) (end-over i) (end-over (i + 1)) (same-value b (k + l) p (i * 2 ^ l + j))
-
-  under : denominator b * (2 ^ l * divisor b (k + l)) ≡ sixfold * (2 ^ l * (denominator b * 2 ^ (3 * (k + l))))
-  under = mul-left-comm (denominator b) (2 ^ l) (divisor b (k + l)) ∙ ap (λ (n : ℕ). 2 ^ l * n) (same-divisor b (k + l) p 0) ∙ mul-left-comm (2 ^ l) sixfold (denominator b * 2 ^ (3 * (k + l)))
+  end-over step = finer-over (denominator b) sixfold l (sumAt b k p step) (value k step) (same-value b k p step)
 
   pub published-within : (j : ℕ) → i < 2 ^ k → j ≤ 2 ^ l → Within (bendBound (divisor b 0) q k) (offPublished j) (2 ^ l * (denominator b * 2 ^ (3 * (k + l))))
-  published-within j hi hj = within-over (denominator b) sixfold (bendBound (divisor b 0) q k) (offSums j) (offPublished j) (2 ^ l * divisor b (k + l)) (2 ^ l * (denominator b * 2 ^ (3 * (k + l)))) (lit< tt) (off-published j) under (sums-within j hi hj)
+  published-within j hi hj =
+      within-published b (k + l) (2 ^ l) j (finer l (sumAt b k p i)) (finer l (sumAt b k p (i + 1))) (sumAt b (k + l) p (i * 2 ^ l + j)) (finer l (value k i)) (finer l (value k (i + 1))) (value (k + l) (i * 2 ^ l + j))
+      (end-over i) (end-over (i + 1)) (same-value b (k + l) p (i * 2 ^ l + j)) (bendBound (divisor b 0) q k) (sums-within j hi hj)
 
   pub published-meets : (j : ℕ) → i < 2 ^ k → j + j ≡ 2 ^ l → firstBend q ≡ lastBend q → Meets (bendBound (divisor b 0) q k) (offPublished j) (2 ^ l * (denominator b * 2 ^ (3 * (k + l))))
-  published-meets j hi half same = meets-over (denominator b) sixfold (bendBound (divisor b 0) q k) (offSums j) (offPublished j) (2 ^ l * divisor b (k + l)) (2 ^ l * (denominator b * 2 ^ (3 * (k + l)))) (lit< tt) (off-published j) under (sums-meet j hi half same)
+  published-meets j hi half same =
+      meets-published b (k + l) (2 ^ l) j (finer l (sumAt b k p i)) (finer l (sumAt b k p (i + 1))) (sumAt b (k + l) p (i * 2 ^ l + j)) (finer l (value k i)) (finer l (value k (i + 1))) (value (k + l) (i * 2 ^ l + j))
+      (end-over i) (end-over (i + 1)) (same-value b (k + l) p (i * 2 ^ l + j)) (bendBound (divisor b 0) q k) (sums-meet j hi half same)

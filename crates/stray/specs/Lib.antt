@@ -1,1 +1,2 @@
 pub mod Chord
+pub mod Records

@@ -1,0 +1,98 @@
+-- The bounds at their edges, by computation: where they are met, and where anything less would be passed.
+use mathlib.Core.Path.{_≡_, refl}
+use mathlib.Core.List.{List, [], _∷_, _++_}
+use Prim.Native.Nat.{ℕ, _+_, _*_, _^_, _<_}
+use lib.Dec.{lit≤, lit<}
+use lib.IntN.{ℤ, pos, natAbs, _*ℤ_}
+use lib.ListN.{replicate}
+use Rattle.whole.specs.Nearest.{halfUp, nearest, remainder}
+use Rattle.whole.specs.Outcome.{outcome}
+use Rattle.curve.specs.declared.Four.{Four}
+use Rattle.curve.specs.declared.Basis.{Basis}
+use Rattle.curve.specs.declared.Basis.the-variants.{Bezier, BSpline, Cardinal, Hermite}
+use Rattle.curve.specs.Bend.{bend}
+use Rattle.curve.specs.Four.{four, dot}
+use Rattle.curve.specs.Numbers.{neg}
+use Rattle.curve.specs.Published.{published, denominator, cubic}
+use Rattle.curve.specs.Span.{firstRecord, coordinate, recordsFrom, sixfoldControls, divisor}
+use Rattle.curve.specs.Tab.{tab}
+use Rattle.curve.specs.Ways.{leftHalf, rightHalf}
+use Rattle.shape.specs.Refusals.{judge, seek, planOf, outside}
+use Rattle.shape.specs.Shape.{basisOf, recordsOf, spansOf, allowed}
+use Rattle.spans.specs.Numbers.{noughts}
+use Rattle.outline.specs.Cases.{onX}
+use Rattle.pieces.specs.Tree.{finest, isFlat, tree, cuts, allCuts}
+use Rattle.pieces.specs.Walk.{walk, walkAll}
+use Rattle.pieces.specs.Values.{starts, allStarts}
+use Rattle.tolerance.specs.declared.Chosen.the-variants.{Done}
+use Rattle.tolerance.specs.Reading.{treeOf, chooses}
+use Rattle.stray.specs.Chord.{Bound, Within, Meets, bendBound, micrometres, halfMore, offChord, finer}
+
+-- ---- the chord theorem, in the middle of the chord between the points i and i + 1 of depth k
+
+pub record Case : Type 0 where
+  pub basis : Basis
+  pub records : Four
+  pub depth : ℕ
+  pub step : ℕ
+
+abbrev pub case : Basis → Four → ℕ → ℕ → Case
+case b p k i = record { basis = b; records = p; depth = k; step = i }
+
+abbrev pub bound : Case → Bound
+bound c = bendBound (divisor (c .basis) 0) (sixfoldControls (c .basis) (c .records)) (c .depth)
+
+-- the published curve at a step of a depth
+abbrev curve : Case → ℕ → ℕ → ℤ
+curve c k i = published (c .basis) (c .records) (pos i) (pos (2 ^ k))
+
+abbrev pub off : Case → ℤ
+off c = offChord 2 1 (finer 1 (curve c (c .depth) (c .step))) (finer 1 (curve c (c .depth) (c .step + 1))) (curve c (c .depth + 1) (2 * c .step + 1))
+
+abbrev pub under : Case → ℕ
+under c = 2 * (denominator (c .basis) * 2 ^ (3 * (c .depth + 1)))
+
+abbrev pub AllMeet : List Case → Type 0
+AllMeet [] = Unit {0}
+AllMeet (c ∷ cases) = Meets (bound c) (off c) (under c) × AllMeet cases
+
+-- A parabola meets it, in each basis, at every depth and on every chord: here at depths 0, 2 and 6.
+abbrev pub parabolas : List Case
+parabolas =
+    case Bezier (four (pos 0) (pos 0) (pos 1) (pos 3)) 0 0
+    ∷ case Bezier (four (pos 0) (pos 0) (pos 1) (pos 3)) 2 1
+    ∷ case Bezier (four (neg 4000000) (pos 4000000) (pos 4000000) (neg 4000000)) 6 63
+    ∷ case BSpline (four (pos 0) (pos 1) (pos 4) (pos 9)) 2 3
+    ∷ case Cardinal (four (pos 0) (pos 1) (pos 4) (pos 9)) 2 0
+    ∷ case Hermite (four (pos 0) (pos 0) (pos 1) (pos 2)) 2 2
+    ∷ []
+
+pub parabolas-meet : AllMeet parabolas
+unfolding published cubic dot sixfoldControls bend
+parabolas-meet = (refl, (refl, (refl, (refl, (refl, (refl, tt))))))
+
+-- Where one second difference is nought the other one counts.
+pub larger-counts : let c = case Bezier (four (pos 0) (pos 0) (pos 0) (pos 8)) 0 0 in Within (bound c) (off c) (under c)
+unfolding published cubic dot sixfoldControls bend
+larger-counts = lit≤ tt
+
+-- ---- the chord of the router, by tolerance
+
+-- A Bezier span 0, 1, 18, 51 on x at 3 micrometres: it is cut once, at 13 1/2, which is rounded to 14.
+abbrev xs : List ℤ
+xs = pos 0 ∷ pos 1 ∷ pos 18 ∷ pos 51 ∷ []
+
+pub cut-once : chooses (record { basis = 1; depth = 0; count = 4 }) 3 1 (onX xs) (replicate 6 (neg 1)) ≡ outcome (Done (record { points = 3; cuts = 1; exact = 5 })) (onX (pos 0 ∷ pos 14 ∷ pos 51 ∷ []))
+unfolding chooses judge planOf basisOf spansOf recordsOf allowed outside seek coordinate onX treeOf tab tree isFlat bend leftHalf rightHalf cuts allCuts starts allStarts walk walkAll firstRecord recordsFrom sixfoldControls nearest halfUp remainder noughts
+cut-once = refl
+
+-- At a quarter of the span, in the middle of its first chord, the curve is at 3 3/4 and the chord from 0 to 14 at 7: more than 3 micrometres away, and within 3 1/2.
+abbrev fine : ℕ
+fine = 2 ^ (3 * finest)
+
+abbrev pub offRouter : ℤ
+offRouter = offChord 32 16 (pos fine *ℤ pos 0) (pos fine *ℤ pos 14) (published Bezier (four (pos 0) (pos 1) (pos 18) (pos 51)) (pos 16) (pos (2 ^ finest)))
+
+pub half-needed : Within (halfMore (micrometres 3)) offRouter (32 * fine) × (3 * (32 * fine) < natAbs offRouter)
+unfolding published cubic dot
+half-needed = (lit≤ tt, lit< tt)
