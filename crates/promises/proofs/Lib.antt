@@ -12,6 +12,8 @@ pub mod Preview
 pub mod Drawing
 -- Steps chosen by tolerance (document 02, request 3):
 pub mod Tolerance
+-- How far the cut strays (document 02, request 13):
+pub mod Stray
 -- Left and right doors (document 02, request 1):
 pub mod Mirror
 -- Record file, and its listing:

@@ -2,14 +2,14 @@
 use mathlib.Core.Path.{_≡_, _∙_}
 use mathlib.Core.List.{List}
 use Prim.Native.Nat.{ℕ, _*_, _-_, _/_, _%_, _^_, _<_, min}
-use lib.IntN.{ℤ, pos}
+use lib.IntN.{ℤ, pos, _*ℤ_}
 use lib.ListN.{getD}
 use Rattle.whole.specs.Nearest.{nearest}
 use Rattle.whole.specs.Outcome.{outcome}
 use Rattle.curve.specs.declared.Four.{Four}
 use Rattle.curve.specs.declared.Basis.{Basis}
 use Rattle.curve.specs.Published.{published, denominator}
-use Rattle.curve.specs.Span.{coordinate, records, point}
+use Rattle.curve.specs.Span.{sixfold, coordinate, records, point}
 use Rattle.curve.specs.Ways.{byWeights, byHalving, byDifferences}
 use Rattle.curve.proofs.Span as curve
 use Rattle.curve.proofs.Ways.{halving-agrees, differences-agree}
@@ -26,6 +26,12 @@ use Rattle.promises.specs.Points.{publishedValue, publishedNumber}
 -- a point of a span is the published value, rounded once
 pub point-published : (b : Basis) (k : ℕ) (p : Four) (i : ℕ) → point b k p i ≡ nearest (published b p (pos i) (pos (2 ^ k))) (denominator b * 2 ^ (3 * k))
 point-published = curve.point-published
+
+-- the exact sum of an outline's number and its published value are one fraction, over the one divisor and over the other
+pub value-published : (p : Plan) (controls : List ℤ) (q : ℕ) → pos (denominator (p .basis)) *ℤ sumOf p controls q ≡ pos sixfold *ℤ publishedValue p controls q
+unfolding sumOf publishedValue
+value-published p controls q =
+    let s = min (q / 2 / 2 ^ p .depth) (p .spans - 1) in curve.same-value (p .basis) (p .depth) (records (p .basis) s (coordinate controls (q % 2))) (q / 2 - s * 2 ^ p .depth)
 
 -- so each number of an outline is
 pub number-published : (p : Plan) (controls : List ℤ) (q : ℕ) → number p controls q ≡ publishedNumber p controls q

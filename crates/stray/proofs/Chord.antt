@@ -6,7 +6,7 @@ use Prim.Native.Nat.{ℕ, _+_, _*_, _-_, _≤_, _<_}
 use native.Mathlib.Nat.{le-refl, le-trans, le-of-eq, mul-le-mul}
 use native.Mathlib.Omega.{arith}
 use lib.IntN.{ℤ, pos, negsuc, natAbs, negℤ, _+ℤ_, _-ℤ_, _*ℤ_, +ℤ-idl}
-use Rattle.whole.proofs.Ring.{Ex, var, lit, _⊕_, _⊖_, _⊗_, solve}
+use Rattle.whole.proofs.Ring.{var, _⊕_, _⊖_, _⊗_, solve}
 use Rattle.whole.proofs.Order.{pos-injective, pos-less}
 use Rattle.whole.proofs.Fit.{ev-size, natAbs-neg, natAbs-mul}
 use Rattle.curve.specs.declared.Four.{Four}

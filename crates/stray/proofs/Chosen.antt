@@ -8,7 +8,7 @@ use native.Mathlib.Numerals.{add-one}
 use native.Mathlib.Omega.{arith}
 use lib.Dec.{lit<}
 use lib.IntN.{ℤ, pos, natAbs, _-ℤ_, _*ℤ_}
-use lib.ListN.{getD, length, take, length-append}
+use lib.ListN.{getD, length, length-append}
 use lib.Pow.{pow-add}
 use lib.Seq.{getD-take}
 use Rattle.whole.specs.Nearest.{nearest}

@@ -1,6 +1,6 @@
 -- The bounds at their edges, by computation: where they are met, and where anything less would be passed.
 use mathlib.Core.Path.{_≡_, refl}
-use mathlib.Core.List.{List, [], _∷_, _++_}
+use mathlib.Core.List.{List, [], _∷_}
 use Prim.Native.Nat.{ℕ, _+_, _*_, _^_, _<_}
 use lib.Dec.{lit≤, lit<}
 use lib.IntN.{ℤ, pos, natAbs, _*ℤ_}

@@ -1,6 +1,6 @@
 -- One fraction, written over two divisors: s·z is t·v where s·c is t·e, so z / c is v / e. What is within a bound, or meets it, the one way does so the other way too. So what is said of the sums of
 -- document 01 holds of the published values.
-use mathlib.Core.Path.{_≡_, sym, ap, _∙_, subst}
+use mathlib.Core.Path.{_≡_, sym, ap, _∙_}
 use mathlib.Core.List.{[], _∷_}
 use Prim.Native.Nat.{ℕ, _*_, _-_, _^_, _<_}
 use native.Mathlib.Nat.{mul-left-comm, mul-le-mul, le-refl, le-of-mul-le-mul-left, eq-of-mul-eq-mul-left}
@@ -52,13 +52,20 @@ module _ (s t : ℕ) where
 abbrev publishedUnder : Basis → ℕ → ℕ
 publishedUnder b k = denominator b * 2 ^ (3 * k)
 
--- a whole number over the one divisor and over the other
-pub whole-over : (b : Basis) (k : ℕ) (n : ℤ) → pos (denominator b) *ℤ (pos (divisor b k) *ℤ n) ≡ pos sixfold *ℤ (pos (publishedUnder b k) *ℤ n)
-whole-over b k n = sym (*ℤ-assoc (pos (denominator b)) (pos (divisor b k)) n) ∙ ap (λ (m : ℕ). pos m *ℤ n) (same-divisors b k) ∙ *ℤ-assoc (pos sixfold) (pos (publishedUnder b k)) n
+-- a sum over the basis' divisor and a published value over its own are one fraction
+pub record OneFraction (b : Basis) (sum value : ℤ) : Type 0 where
+  pub same : pos (denominator b) *ℤ sum ≡ pos sixfold *ℤ value
 
-module _ (b : Basis) (k w j : ℕ) (a c z a′ c′ z′ : ℤ) (on-a : pos (denominator b) *ℤ a ≡ pos sixfold *ℤ a′) (on-c : pos (denominator b) *ℤ c ≡ pos sixfold *ℤ c′) (on-z : pos (denominator b) *ℤ z ≡ pos sixfold *ℤ z′) (f : Bound) where
+-- over the divisor of l depths more; and a whole number
+pub finer-one : (l : ℕ) {b : Basis} {sum value : ℤ} → OneFraction b sum value → OneFraction b (finer l sum) (finer l value)
+finer-one l {b} {sum} {value} one = record { same = finer-over (denominator b) sixfold l sum value (one .same) }
+
+pub whole-one : (b : Basis) (k : ℕ) (n : ℤ) → OneFraction b (pos (divisor b k) *ℤ n) (pos (publishedUnder b k) *ℤ n)
+whole-one b k n = record { same = sym (*ℤ-assoc (pos (denominator b)) (pos (divisor b k)) n) ∙ ap (λ (m : ℕ). pos m *ℤ n) (same-divisors b k) ∙ *ℤ-assoc (pos sixfold) (pos (publishedUnder b k)) n }
+
+module _ (k w j : ℕ) (f : Bound) {b : Basis} {a c z a′ c′ z′ : ℤ} (on-a : OneFraction b a a′) (on-c : OneFraction b c c′) (on-z : OneFraction b z z′) where
   off : pos (denominator b) *ℤ offChord w j a c z ≡ pos sixfold *ℤ offChord w j a′ c′ z′
-  off = off-over (denominator b) sixfold w j a c z a′ c′ z′ on-a on-c on-z
+  off = off-over (denominator b) sixfold w j a c z a′ c′ z′ (on-a .same) (on-c .same) (on-z .same)
 
   under : denominator b * (w * divisor b k) ≡ sixfold * (w * publishedUnder b k)
   under = mul-left-comm (denominator b) w (divisor b k) ∙ ap (λ (n : ℕ). w * n) (same-divisors b k) ∙ mul-left-comm w sixfold (publishedUnder b k)

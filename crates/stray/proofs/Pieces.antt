@@ -1,6 +1,6 @@
 -- A flat piece stays within the tolerance of its chord: the chord theorem for the piece's own controls, in one step, has three quarters of its larger second difference, and flat means that this is at most
 -- the tolerance.
-use mathlib.Core.Path.{_≡_, refl, sym, ap, _∙_, subst}
+use mathlib.Core.Path.{_≡_, sym, ap, _∙_, subst}
 use mathlib.Core.List.{[], _∷_}
 use Prim.Native.Nat.{ℕ, _+_, _*_, _-_, _^_, _≤_}
 use native.Mathlib.Nat.{le-refl, mul-le-mul, add-zero, zero-mul, one-mul, mul-assoc}

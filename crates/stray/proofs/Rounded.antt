@@ -1,8 +1,8 @@
 -- What rounding the ends of a chord adds: each end moves by at most a half, so the chord does so at every fraction.
-use mathlib.Core.Path.{_≡_, ap, _∙_}
+use mathlib.Core.Path.{_≡_, ap}
 use mathlib.Core.List.{[], _∷_}
 use Prim.Native.Nat.{ℕ, _+_, _*_, _-_, _≤_}
-use native.Mathlib.Nat.{le-refl, mul-le-mul, mul-comm, mul-assoc, mul-left-comm, mul-add, add-mul}
+use native.Mathlib.Nat.{le-refl, mul-le-mul, mul-assoc, mul-left-comm, mul-add, add-mul}
 use native.Mathlib.Omega.{arith}
 use lib.IntN.{ℤ, pos, natAbs, _+ℤ_, _-ℤ_, _*ℤ_}
 use Rattle.whole.proofs.Ring.{var, _⊕_, _⊖_, _⊗_, solve}

@@ -17,7 +17,7 @@ use Rattle.curve.proofs.Reflect.{num}
 use Rattle.curve.proofs.Span.{same-value}
 use Rattle.stray.specs.Chord.{Within, Meets, bendBound, offChord, finer}
 use Rattle.stray.proofs.Chord.{offCurve, chord-most, chord-met}
-use Rattle.stray.proofs.Over.{finer-over, within-published, meets-published}
+use Rattle.stray.proofs.Over.{OneFraction, finer-one, within-published, meets-published}
 
 -- 4^k is 2^k twice over
 fours : (k : ℕ) → 4 ^ k ≡ 2 ^ k * 2 ^ k
@@ -70,15 +70,11 @@ module _ (b : Basis) (p : Four) (k l i : ℕ) where
   abbrev pub offPublished : ℕ → ℤ
   offPublished j = offChord (2 ^ l) j (finer l (value k i)) (finer l (value k (i + 1))) (value (k + l) (i * 2 ^ l + j))
 
-  end-over : (step : ℕ) → pos (denominator b) *ℤ finer l (sumAt b k p step) ≡ pos sixfold *ℤ finer l (value k step)
-  end-over step = finer-over (denominator b) sixfold l (sumAt b k p step) (value k step) (same-value b k p step)
+  one : (depth step : ℕ) → OneFraction b (sumAt b depth p step) (value depth step)
+  one depth step = record { same = same-value b depth p step }
 
   pub published-within : (j : ℕ) → i < 2 ^ k → j ≤ 2 ^ l → Within (bendBound (divisor b 0) q k) (offPublished j) (2 ^ l * (denominator b * 2 ^ (3 * (k + l))))
-  published-within j hi hj =
-      within-published b (k + l) (2 ^ l) j (finer l (sumAt b k p i)) (finer l (sumAt b k p (i + 1))) (sumAt b (k + l) p (i * 2 ^ l + j)) (finer l (value k i)) (finer l (value k (i + 1))) (value (k + l) (i * 2 ^ l + j))
-      (end-over i) (end-over (i + 1)) (same-value b (k + l) p (i * 2 ^ l + j)) (bendBound (divisor b 0) q k) (sums-within j hi hj)
+  published-within j hi hj = within-published (k + l) (2 ^ l) j (bendBound (divisor b 0) q k) (finer-one l (one k i)) (finer-one l (one k (i + 1))) (one (k + l) (i * 2 ^ l + j)) (sums-within j hi hj)
 
   pub published-meets : (j : ℕ) → i < 2 ^ k → j + j ≡ 2 ^ l → firstBend q ≡ lastBend q → Meets (bendBound (divisor b 0) q k) (offPublished j) (2 ^ l * (denominator b * 2 ^ (3 * (k + l))))
-  published-meets j hi half same =
-      meets-published b (k + l) (2 ^ l) j (finer l (sumAt b k p i)) (finer l (sumAt b k p (i + 1))) (sumAt b (k + l) p (i * 2 ^ l + j)) (finer l (value k i)) (finer l (value k (i + 1))) (value (k + l) (i * 2 ^ l + j))
-      (end-over i) (end-over (i + 1)) (same-value b (k + l) p (i * 2 ^ l + j)) (bendBound (divisor b 0) q k) (sums-meet j hi half same)
+  published-meets j hi half same = meets-published (k + l) (2 ^ l) j (bendBound (divisor b 0) q k) (finer-one l (one k i)) (finer-one l (one k (i + 1))) (one (k + l) (i * 2 ^ l + j)) (sums-meet j hi half same)
