@@ -1,4 +1,4 @@
-pub mod Examples
+pub mod Cases
 pub mod Chord
 pub mod Over
 pub mod Spans

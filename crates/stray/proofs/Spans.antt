@@ -2,7 +2,7 @@
 use mathlib.Core.Path.{_≡_, refl, sym, ap, _∙_, subst}
 use mathlib.Core.List.{[], _∷_}
 use Prim.Native.Nat.{ℕ, zero, suc, _+_, _*_, _^_, _≤_, _<_}
-use native.Mathlib.Nat.{pow-suc, mul-le-mul, le-refl}
+use native.Mathlib.Nat.{pow-suc, mul-le-mul, le-refl, le-trans, le-of-eq}
 use lib.IntN.{ℤ, pos, natAbs, _*ℤ_}
 use lib.Pow.{pow-add}
 use Rattle.whole.proofs.Ring.{var, _⊗_, solve}
@@ -53,7 +53,7 @@ module _ (b : Basis) (p : Four) (k l i : ℕ) where
       ∙ pos-injective (solve (pos (bend q) ∷ pos (2 ^ l) ∷ pos (2 ^ (3 * (k + l))) ∷ []) (num sixfold ⊗ (num 3 ⊗ var 0 ⊗ (var 1 ⊗ var 2))) (num 3 ⊗ var 0 ⊗ (var 1 ⊗ (num sixfold ⊗ var 2))) tt)
 
   pub sums-within : (j : ℕ) → i < 2 ^ k → j ≤ 2 ^ l → Within (bendBound (divisor b 0) q k) (offSums j) (2 ^ l * divisor b (k + l))
-  sums-within j hi hj = rw (size j, ← most) (mul-le-mul (le-refl (divisor b 0)) (chord-most q i (2 ^ k) j (2 ^ l) hi hj))
+  sums-within j hi hj = le-trans (le-of-eq (size j)) (le-trans (mul-le-mul (le-refl (divisor b 0)) (chord-most q i (2 ^ k) j (2 ^ l) hi hj)) (le-of-eq most))
 
   -- where both second differences are the same, in the middle
   pub sums-meet : (j : ℕ) → i < 2 ^ k → j + j ≡ 2 ^ l → firstBend q ≡ lastBend q → Meets (bendBound (divisor b 0) q k) (offSums j) (2 ^ l * divisor b (k + l))

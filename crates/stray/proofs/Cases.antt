@@ -28,51 +28,55 @@ use Rattle.tolerance.specs.declared.Chosen.the-variants.{Done}
 use Rattle.tolerance.specs.Reading.{treeOf, chooses}
 use Rattle.stray.specs.Chord.{Bound, Within, Meets, bendBound, micrometres, halfMore, offChord, finer}
 
--- ---- the chord theorem, in the middle of the chord between the points i and i + 1 of depth k
+-- ---- the chord theorem
 
+-- The chord between the points `step` and `step` + 1 of a depth, and the fraction j / 2^l of it.
 pub record Case : Type 0 where
   pub basis : Basis
   pub records : Four
   pub depth : ℕ
   pub step : ℕ
+  pub l : ℕ
+  pub j : ℕ
 
-abbrev pub case : Basis → Four → ℕ → ℕ → Case
-case b p k i = record { basis = b; records = p; depth = k; step = i }
+abbrev pub case : Basis → Four → ℕ → ℕ → ℕ → ℕ → Case
+case b p k i l j = record { basis = b; records = p; depth = k; step = i; l = l; j = j }
 
 abbrev pub bound : Case → Bound
 bound c = bendBound (divisor (c .basis) 0) (sixfoldControls (c .basis) (c .records)) (c .depth)
 
--- the published curve at a step of a depth
+-- the published curve at a step of a depth, and how far it is from the chord
 abbrev curve : Case → ℕ → ℕ → ℤ
 curve c k i = published (c .basis) (c .records) (pos i) (pos (2 ^ k))
 
 abbrev pub off : Case → ℤ
-off c = offChord 2 1 (finer 1 (curve c (c .depth) (c .step))) (finer 1 (curve c (c .depth) (c .step + 1))) (curve c (c .depth + 1) (2 * c .step + 1))
+off c = offChord (2 ^ c .l) (c .j) (finer (c .l) (curve c (c .depth) (c .step))) (finer (c .l) (curve c (c .depth) (c .step + 1))) (curve c (c .depth + c .l) (c .step * 2 ^ c .l + c .j))
 
 abbrev pub under : Case → ℕ
-under c = 2 * (denominator (c .basis) * 2 ^ (3 * (c .depth + 1)))
+under c = 2 ^ c .l * (denominator (c .basis) * 2 ^ (3 * (c .depth + c .l)))
 
 abbrev pub AllMeet : List Case → Type 0
 AllMeet [] = Unit {0}
 AllMeet (c ∷ cases) = Meets (bound c) (off c) (under c) × AllMeet cases
 
--- A parabola meets it, in each basis, at every depth and on every chord: here at depths 0, 2 and 6.
-abbrev pub parabolas : List Case
-parabolas =
-    case Bezier (four (pos 0) (pos 0) (pos 1) (pos 3)) 0 0
-    ∷ case Bezier (four (pos 0) (pos 0) (pos 1) (pos 3)) 2 1
-    ∷ case Bezier (four (neg 4000000) (pos 4000000) (pos 4000000) (neg 4000000)) 6 63
-    ∷ case BSpline (four (pos 0) (pos 1) (pos 4) (pos 9)) 2 3
-    ∷ case Cardinal (four (pos 0) (pos 1) (pos 4) (pos 9)) 2 0
-    ∷ case Hermite (four (pos 0) (pos 0) (pos 1) (pos 2)) 2 2
+-- A parabola meets it in the middle of every chord, in each basis and at every depth: here at depths 0, 2 and 6. A straight edge with equal steps, whose second differences are nought, meets it everywhere: here at a quarter.
+abbrev pub meeting : List Case
+meeting =
+    case Bezier (four (pos 0) (pos 1) (pos 2) (pos 3)) 0 0 2 1
+    ∷ case Bezier (four (pos 0) (pos 0) (pos 1) (pos 3)) 0 0 1 1
+    ∷ case Bezier (four (pos 0) (pos 0) (pos 1) (pos 3)) 2 1 1 1
+    ∷ case Bezier (four (neg 4000000) (pos 4000000) (pos 4000000) (neg 4000000)) 6 63 3 4
+    ∷ case BSpline (four (pos 0) (pos 1) (pos 4) (pos 9)) 2 3 1 1
+    ∷ case Cardinal (four (pos 0) (pos 1) (pos 4) (pos 9)) 2 0 1 1
+    ∷ case Hermite (four (pos 0) (pos 0) (pos 1) (pos 2)) 2 2 1 1
     ∷ []
 
-pub parabolas-meet : AllMeet parabolas
+pub bound-met : AllMeet meeting
 unfolding published cubic dot sixfoldControls bend
-parabolas-meet = (refl, (refl, (refl, (refl, (refl, (refl, tt))))))
+bound-met = (refl, (refl, (refl, (refl, (refl, (refl, (refl, tt)))))))
 
 -- Where one second difference is nought the other one counts.
-pub larger-counts : let c = case Bezier (four (pos 0) (pos 0) (pos 0) (pos 8)) 0 0 in Within (bound c) (off c) (under c)
+pub larger-counts : let c = case Bezier (four (pos 0) (pos 0) (pos 0) (pos 8)) 0 0 1 1 in Within (bound c) (off c) (under c)
 unfolding published cubic dot sixfoldControls bend
 larger-counts = lit≤ tt
 
