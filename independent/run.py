@@ -1,6 +1,6 @@
 """The command line, standard input to standard output: `python3 run.py` and one of
 
-list | cut TOLERANCE MOST | trials | sums | make-trials [SEED]
+list | cut TOLERANCE MOST | trials | sums | make-trials [SEED] | stray [SEED]
 """
 
 import sys
@@ -9,21 +9,26 @@ sys.dont_write_bytecode = True
 
 from make_trials import make_trials  # noqa: E402
 from record_file import cut_listing, listing  # noqa: E402
+from stray import report  # noqa: E402
 from sums import sums  # noqa: E402
 from trials import play  # noqa: E402
 
-USAGE = "usage: run.py list | cut TOLERANCE MOST | trials | sums | make-trials [SEED]"
+USAGE = "usage: run.py list | cut TOLERANCE MOST | trials | sums | make-trials [SEED] | stray [SEED]"
 
 
 def text(lines) -> bytes:
     return "".join(f"{line}\n" for line in lines).encode("ascii")
 
 
-def seeded(seed: int) -> bytes:
-    """Another trials file of the same kind for each number from 1 to 2^64 - 1."""
-    if not 0 < seed < 2 ** 64:
-        sys.exit(USAGE)
-    return make_trials(seed)
+def seeded(make):
+    """The same with other chances for each number from 1 to 2^64 - 1."""
+    def made(seed: int) -> bytes:
+        return make(seed) if 0 < seed < 2 ** 64 else sys.exit(USAGE)
+    return made
+
+
+def strays(*seed: int) -> bytes:
+    return text(report(*seed))
 
 
 # Each command by its name and how many numbers follow it.
@@ -33,7 +38,9 @@ COMMANDS = {
     ("trials", 0): lambda: text(play(sys.stdin.buffer.read())),
     ("sums", 0): lambda: text(sums()),
     ("make-trials", 0): make_trials,
-    ("make-trials", 1): seeded,
+    ("make-trials", 1): seeded(make_trials),
+    ("stray", 0): strays,
+    ("stray", 1): seeded(strays),
 }
 
 

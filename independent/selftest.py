@@ -3,7 +3,8 @@
 Document 01's sums stand here as they are printed there, P2 and P12 as document 02's
 request 1 has them.  The curve is computed again by other published formulas, the
 edits are read again point by point, the pieces of the outline by tolerance are made
-again by halving, and every call is made again in the mirror.
+again by halving, every call is made again in the mirror, and each bound of how far the
+cut strays is seen to be none too large.
 """
 
 import sys
@@ -27,9 +28,11 @@ from make_trials.tolerance import ANY_CUTS, any_outline, refusals  # noqa: E402
 from outline import draw, formula_points, preview, view  # noqa: E402
 from record_file import cut_listing, listing, read  # noqa: E402
 from refusal import Refusal  # noqa: E402
-from shape import B_SPLINE, BEZIER, CARDINAL, HERMITE, Shape, point_count, span_records, spans  # noqa: E402
+from shape import B_SPLINE, BEZIER, CARDINAL, DEEPEST, HERMITE, Shape, point_count, span_records, spans  # noqa: E402
+from stray import HALF, bound, chords, differences, parabola, piece_strays  # noqa: E402
+from stray import chosen as by_tolerance  # noqa: E402
 from sums import sums  # noqa: E402
-from tolerance import FINEST, MOST_TOLERANCE, chosen, cut  # noqa: E402
+from tolerance import FINEST, MOST_TOLERANCE, chosen, cubic_over, cut  # noqa: E402
 
 SUMS = """\
 P1 Bezier 0 0 0 4 depth 1: 0 1 4 exact 5
@@ -488,6 +491,44 @@ class Tolerance(unittest.TestCase):
                 (good, line, 1, 5, "22 0"), (good, line, 1, 6, "21 0"), (good, line, 1, endless, "21 0"),
                 (good, line, 2, endless, "9 0")):
             self.assertEqual(answer(cut, shape, controls, [], tolerance, most), f"refused {text}")
+
+
+class Strays(unittest.TestCase):
+    """Document 02, request 13: points found again, and bounds that nothing smaller could take the place of."""
+
+    def setUp(self):
+        self.dice = Dice(SEED)
+
+    def test_found_again(self):
+        for _ in range(60):
+            shape = self.dice.shape(ALL_BASES, 3, 10)
+            controls = self.dice.numbers(shape.count)
+            outline = formula_points(shape, controls)
+            for more in range(4):
+                deeper = formula_points(shape._replace(depth=shape.depth + more), controls)
+                for axis in AXES:
+                    self.assertEqual(deeper[axis::2 << more], outline[axis::2])
+
+    def test_parabolas_meet_it(self):
+        for basis in ALL_BASES:
+            span = cubic(basis, parabola(basis, 7, -3, 20))
+            self.assertEqual(differences(span), (20, 20))
+            for depth in range(DEEPEST + 1):
+                for part in range(2 ** depth):
+                    piece = cubic_over(span, Fraction(part, 2 ** depth), Fraction(1, 2 ** depth))
+                    self.assertEqual(piece_strays(piece)[0], bound(Fraction(20), depth))
+
+    def test_nothing_smaller_would_do(self):
+        """Five eighths, the smaller second difference, more than a quarter less with each depth, and no half for rounding."""
+        for basis in ALL_BASES:
+            tried = [(differences(span), depth, *piece_strays(piece)) for span, depth, piece in chords(self.dice, basis)]
+            for smaller in (lambda first, last, depth: Fraction(5, 6) * bound(max(first, last), depth),
+                            lambda first, last, depth: bound(min(first, last), depth),
+                            lambda first, last, depth: bound(max(first, last), depth) * Fraction(7, 8) ** depth):
+                passed = [depth for (first, last), depth, exact, _ in tried if exact > smaller(abs(first), abs(last), depth)]
+                self.assertGreater(max(passed), 0)
+            self.assertTrue(any(rounded > bound(max(map(abs, both)), depth) for both, depth, _, rounded in tried))
+            self.assertTrue(any(stray.kind == "rounded" and stray.far > stray.most - HALF for stray in by_tolerance(self.dice, basis)))
 
 
 class RecordFile(unittest.TestCase):
