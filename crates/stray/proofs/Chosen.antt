@@ -9,7 +9,7 @@ use native.Mathlib.Omega.{arith}
 use lib.Dec.{lit<}
 use lib.IntN.{ℤ, pos, natAbs, _-ℤ_, _*ℤ_}
 use lib.ListN.{getD, length, length-append}
-use lib.Pow.{pow-add}
+use lib.Pow.{pow-add, pow-pos}
 use lib.Seq.{getD-take}
 use Rattle.whole.specs.Nearest.{nearest}
 use Rattle.whole.specs.Outcome.{outcome}
@@ -148,10 +148,17 @@ module _ (s : Shape) (tolerance most : ℕ) (controls lent : List ℤ) (fs : Ste
     abbrev here : ℕ → ℤ
     here j = sumOf (planAt (finest + l) pl) controls (2 * (step r * 2 ^ l + j) + axis)
 
+    -- they are the ends of a flat piece
+    stretch : Stretch tolerance l (λ (n : ℕ). sumOf (planAt (finest + l) pl) controls (2 * n + 0)) (λ (n : ℕ). sumOf (planAt (finest + l) pl) controls (2 * n + 1)) (step r) (step (r + 1))
+    stretch = neighbours pl tolerance l controls (answered-sound s tolerance most controls lent fs held done) r (omega (arith, many-along s tolerance most controls lent fs held done))
+
+    -- the one after the other
+    pub steps-rise : step r < step (r + 1)
+    steps-rise = omega (arith, stretch .ends, pow-pos (stretch .left))
+
     near : Near tolerance l (λ (n : ℕ). sumOf (planAt (finest + l) pl) controls (2 * n + axis)) (step r) (step (r + 1))
     near =
         let rule : ℕ → ℕ → ℤ = λ (axis n : ℕ). sumOf (planAt (finest + l) pl) controls (2 * n + axis) in
-        let stretch = neighbours pl tolerance l controls (answered-sound s tolerance most controls lent fs held done) r (omega (arith, many-along s tolerance most controls lent fs held done)) in
         on-axes (λ (axis : ℕ). Near tolerance l (rule axis) (step r) (step (r + 1))) (near-x tolerance l (rule 0) (rule 1) (step r) (step (r + 1)) stretch) (near-y tolerance l (rule 0) (rule 1) (step r) (step (r + 1)) stretch) axis a
 
     -- the exact points

@@ -1,10 +1,13 @@
 -- A flat piece stays within the tolerance of its chord: the chord theorem for the piece's own controls, in one step, has three quarters of its larger second difference, and flat means that this is at most
 -- the tolerance.
 use mathlib.Core.Path.{_≡_, sym, ap, _∙_, subst}
+use mathlib.Core.Bool.{true}
 use mathlib.Core.List.{[], _∷_}
+use mathlib.Core.Logic.{_↔_}
 use Prim.Native.Nat.{ℕ, _+_, _*_, _-_, _^_, _≤_}
-use native.Mathlib.Nat.{le-refl, mul-le-mul, add-zero, zero-mul, one-mul, mul-assoc}
+use native.Mathlib.Nat.{le-refl, mul-le-mul, add-zero, zero-mul, one-mul, mul-assoc, mul-left-comm}
 use native.Mathlib.Omega.{arith}
+use borrow.Author.Tests.{leb-true, le-leb}
 use lib.Dec.{lit<}
 use lib.IntN.{ℤ, pos, natAbs, _*ℤ_}
 use lib.Pow.{pow-add}
@@ -16,13 +19,19 @@ use Rattle.curve.specs.Span.{sixfold, weighted}
 use Rattle.curve.proofs.Powers.{cube, thrice}
 use Rattle.curve.proofs.Reflect.{num}
 use Rattle.curve.proofs.Table.{weighted-scale}
-use Rattle.pieces.specs.Tree.{finest}
+use Rattle.pieces.specs.Tree.{finest, flatOn}
 use Rattle.pieces.specs.Inner.{divisorAt}
 use Rattle.pieces.proofs.Deep.{flat-within}
 use Rattle.pieces.proofs.Even.{Covers}
-use Rattle.stray.specs.Chord.{Within, micrometres, offChord}
+use Rattle.stray.specs.Chord.{Within, bendBound, micrometres, offChord}
 use Rattle.stray.proofs.Chord.{offCurve, chord-most}
 use Rattle.stray.proofs.Neighbours.{Stretch, on-by}
+
+-- flat on an axis means that the chord theorem's bound for the piece is at most the tolerance
+pub flat-bound : (d tolerance : ℕ) (q : Four) → (flatOn d tolerance q ≡ true) ↔ (bendBound d q 0 .over ≤ tolerance * bendBound d q 0 .under)
+flat-bound d tolerance q =
+    let same : 4 * (tolerance * d) ≡ tolerance * (4 * (1 * d)) = mul-left-comm 4 tolerance d ∙ ap (λ (n : ℕ). tolerance * (4 * n)) (sym (one-mul d)) in
+    ((λ e. subst (λ (n : ℕ). 3 * bend q ≤ n) same (leb-true _ _ e)), (λ h. le-leb _ _ (subst (λ (n : ℕ). 3 * bend q ≤ n) (sym same) h)))
 
 -- ---- on one axis, where the sums of a piece of 2^n steps are those of a rule from step `from` on
 
