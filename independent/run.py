@@ -1,6 +1,6 @@
 """The command line, standard input to standard output: `python3 run.py` and one of
 
-list | cut TOLERANCE MOST | trials | sums | make-trials [SEED] | stray [SEED]
+list | cut TOLERANCE MOST | trials | sums | make-trials [SEED] | stray [SEED] | depths
 """
 
 import sys
@@ -9,11 +9,11 @@ sys.dont_write_bytecode = True
 
 from make_trials import make_trials  # noqa: E402
 from record_file import cut_listing, listing  # noqa: E402
-from stray import report  # noqa: E402
+from stray import depths, report  # noqa: E402
 from sums import sums  # noqa: E402
 from trials import play  # noqa: E402
 
-USAGE = "usage: run.py list | cut TOLERANCE MOST | trials | sums | make-trials [SEED] | stray [SEED]"
+USAGE = "usage: run.py list | cut TOLERANCE MOST | trials | sums | make-trials [SEED] | stray [SEED] | depths"
 
 
 def text(lines) -> bytes:
@@ -41,6 +41,7 @@ COMMANDS = {
     ("make-trials", 1): seeded(make_trials),
     ("stray", 0): strays,
     ("stray", 1): seeded(strays),
+    ("depths", 0): lambda: text(depths(sys.stdin.buffer.read())),
 }
 
 

@@ -29,7 +29,7 @@ from outline import draw, formula_points, preview, view  # noqa: E402
 from record_file import cut_listing, listing, read  # noqa: E402
 from refusal import Refusal  # noqa: E402
 from shape import B_SPLINE, BEZIER, CARDINAL, DEEPEST, HERMITE, Shape, point_count, span_records, spans  # noqa: E402
-from stray import HALF, bound, chords, differences, parabola, piece_strays  # noqa: E402
+from stray import HALF, bound, chords, depths, differences, parabola, piece_strays  # noqa: E402
 from stray import chosen as by_tolerance  # noqa: E402
 from sums import sums  # noqa: E402
 from tolerance import FINEST, MOST_TOLERANCE, chosen, cubic_over, cut  # noqa: E402
@@ -517,6 +517,14 @@ class Strays(unittest.TestCase):
                 for part in range(2 ** depth):
                     piece = cubic_over(span, Fraction(part, 2 ** depth), Fraction(1, 2 ** depth))
                     self.assertEqual(piece_strays(piece)[0], bound(Fraction(20), depth))
+
+    def test_depths_of_a_file(self):
+        file = file_of(Shape(BEZIER, 1, 7), [0, 0, 0, 0, 8, 8, 8, 8, 8, 8, 9, 12, 8, 16])
+        self.assertEqual([*depths(file)], [
+            "span 0, straight",
+            "span 1, second difference 4: strays at most  3.50  1.25  0.69  0.55  0.52  0.51  0.51",
+            "curved spans, second difference 4: strays at most  3.50  1.25  0.69  0.55  0.52  0.51  0.51"])
+        self.assertEqual([*depths(file[:-1])], ["refused 13 0"])
 
     def test_nothing_smaller_would_do(self):
         """Five eighths, the smaller second difference, more than a quarter less with each depth, and no half for rounding."""

@@ -11,11 +11,12 @@ from math import ceil, floor, sqrt
 from typing import Dict, Iterator, List, NamedTuple, Sequence, Tuple
 
 from checks import CONTROL_LIMIT
-from curve import cubic, nearest, powers, product
+from curve import cubic, nearest, powers, product, span_cubics
 from make_trials.dice import ALL_BASES, Dice
 from make_trials.tolerance import ANY_CUTS, any_outline
+from record_file import read
 from refusal import Refusal
-from shape import B_SPLINE, BEZIER, CARDINAL, DEEPEST, HERMITE, Shape
+from shape import B_SPLINE, BEZIER, CARDINAL, DEEPEST, HERMITE, MOST_RECORDS, Shape, spans
 from tolerance import Piece, bezier_controls, cubic_over, flat_pieces, second_differences, span_pieces
 
 SEED = 1981
@@ -38,6 +39,52 @@ def larger(axis: Cubic) -> Fraction:
 def bound(second: Fraction, depth: int) -> Fraction:
     """Three quarters of the larger second difference, divided by 4^depth."""
     return Fraction(3, 4) * second / 4 ** depth
+
+
+def most(second: Fraction, depth: int) -> Fraction:
+    """How far the cut strays at the most: half a micrometre more, since its points are rounded."""
+    return bound(second, depth) + HALF
+
+
+# ---- a record file's spans, for choosing a depth
+
+
+def straight(axes: Sequence[Cubic]) -> bool:
+    """Whether the Bezier controls of a span, in x and in y, lie on one line."""
+    (x, *xs), (y, *ys) = map(bezier_controls, axes)
+    return all((a - x) * (d - y) == (b - x) * (c - y) for a, c in zip(xs, ys) for b, d in zip(xs, ys))
+
+
+def file_spans(file: bytes) -> Tuple[Shape, List[List[Cubic]]]:
+    """The shape of a record file, and each span's cubics in x and in y."""
+    controls = [0] * (2 * MOST_RECORDS)
+    shape = read(file, controls)
+    return shape, [span_cubics(shape, controls, span) for span in range(spans(shape))]
+
+
+def shown(figure: Fraction) -> str:
+    """Rounded up, so that it is never less: to hundredths below 100, and to a whole number from there on."""
+    return f"{ceil(figure * 100) / 100:.2f}" if figure < 100 else f"{ceil(figure):,}"
+
+
+def depths(file: bytes) -> Iterator[str]:
+    """Each span's larger second difference and how far the cut strays at each depth; and the same of all curved ones."""
+    try:
+        _, every = file_spans(file)
+    except Refusal as refused:
+        yield str(refused)
+        return
+    seconds = [max(map(larger, axes)) for axes in every]
+    curved = [second for second, axes in zip(seconds, every) if not straight(axes)]
+    for span, axes in enumerate(every):
+        yield f"span {span}, straight" if straight(axes) else depth_line(f"span {span}", seconds[span])
+    if curved:
+        yield depth_line("curved spans", max(curved))
+
+
+def depth_line(name: str, second: Fraction) -> str:
+    figures = "  ".join(shown(most(second, depth)) for depth in range(DEEPEST + 1))
+    return f"{name}, second difference {ceil(second):,}: strays at most  {figures}"
 
 
 # ---- the greatest stray of one chord
