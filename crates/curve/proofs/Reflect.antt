@@ -62,6 +62,12 @@ sixfoldᵉ BSpline q = fourᵉ (q .a ⊕ num 4 ⊗ q .b ⊕ q .c) (num 4 ⊗ q .
 sixfoldᵉ Cardinal q = fourᵉ (num 6 ⊗ q .b) (num 6 ⊗ q .b ⊕ q .c ⊖ q .a) (num 6 ⊗ q .c ⊖ q .d ⊕ q .b) (num 6 ⊗ q .c)
 sixfoldᵉ Hermite q = fourᵉ (num 6 ⊗ q .a) (num 6 ⊗ q .a ⊕ num 2 ⊗ q .b) (num 6 ⊗ q .c ⊖ num 2 ⊗ q .d) (num 6 ⊗ q .c)
 
+abbrev pub firstBendᵉ : Fourᵉ → Ex
+firstBendᵉ q = q .a ⊖ num 2 ⊗ q .b ⊕ q .c
+
+abbrev pub lastBendᵉ : Fourᵉ → Ex
+lastBendᵉ q = q .b ⊖ num 2 ⊗ q .c ⊕ q .d
+
 abbrev pub leftᵉ : Fourᵉ → Fourᵉ
 leftᵉ q = let m = q .a ⊕ q .b in let n = q .b ⊕ q .c in let o = q .c ⊕ q .d in fourᵉ (num 8 ⊗ q .a) (num 4 ⊗ m) (num 2 ⊗ (m ⊕ n)) (m ⊕ n ⊕ (n ⊕ o))
 

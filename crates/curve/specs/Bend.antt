@@ -2,6 +2,8 @@
 use Prim.Native.Nat.{ℕ, max}
 use lib.IntN.{ℤ, pos, natAbs, _+ℤ_, _-ℤ_, _*ℤ_}
 use Rattle.curve.specs.declared.Four.{Four}
+use Rattle.curve.specs.declared.Basis.{Basis}
+use Rattle.curve.specs.declared.Basis.the-variants.{Bezier, BSpline, Cardinal, Hermite}
 
 -- b0 - 2b1 + b2 and b1 - 2b2 + b3.
 abbrev pub firstBend : Four → ℤ
@@ -13,3 +15,17 @@ lastBend q = q .b -ℤ pos 2 *ℤ q .c +ℤ q .d
 -- The larger of the two, in size.
 unfoldable pub bend : Four → ℕ
 bend q = max (natAbs (firstBend q)) (natAbs (lastBend q))
+
+-- ---- those of a span in its own records, for the drawing office (docs/STRAY.md): six times each, as document 01 takes the controls sixfold. Of Hermite the records are start, start tangent, end, end tangent.
+
+abbrev pub firstInRecords : Basis → Four → ℤ
+firstInRecords Bezier p = pos 6 *ℤ (p .a -ℤ pos 2 *ℤ p .b +ℤ p .c)
+firstInRecords BSpline p = p .a -ℤ pos 2 *ℤ p .b +ℤ p .c
+firstInRecords Cardinal p = pos 2 *ℤ p .a -ℤ pos 5 *ℤ p .b +ℤ pos 4 *ℤ p .c -ℤ p .d
+firstInRecords Hermite p = pos 6 *ℤ (p .c -ℤ p .a) -ℤ pos 4 *ℤ p .b -ℤ pos 2 *ℤ p .d
+
+abbrev pub lastInRecords : Basis → Four → ℤ
+lastInRecords Bezier p = pos 6 *ℤ (p .b -ℤ pos 2 *ℤ p .c +ℤ p .d)
+lastInRecords BSpline p = p .b -ℤ pos 2 *ℤ p .c +ℤ p .d
+lastInRecords Cardinal p = pos 4 *ℤ p .b -ℤ p .a -ℤ pos 5 *ℤ p .c +ℤ pos 2 *ℤ p .d
+lastInRecords Hermite p = pos 6 *ℤ (p .a -ℤ p .c) +ℤ pos 2 *ℤ p .b +ℤ pos 4 *ℤ p .d

@@ -5,13 +5,13 @@ use Prim.Native.Nat.{ℕ, _+_, _*_, _%_, _^_, _≤_, _<_}
 use native.Mathlib.Nat.{le-refl, mul-le-mul, mod-eq-of-lt, lt-of-le-of-lt}
 use native.Mathlib.Omega.{arith}
 use lib.Dec.{lit<}
-use lib.IntN.{pos, natAbs}
+use lib.IntN.{natAbs}
 use lib.Pow.{pow-mono}
-use Rattle.whole.proofs.Ring.{var, lit, _⊕_, _⊖_, _⊗_}
 use Rattle.whole.proofs.Fit.{Bounded, ev-size}
 use Rattle.curve.specs.declared.Four.{Four}
 use Rattle.curve.specs.Bend.{bend, firstBend, lastBend}
 use Rattle.curve.specs.Limits.{Inside}
+use Rattle.curve.proofs.Reflect.{p, firstBendᵉ, lastBendᵉ}
 use Rattle.pieces.specs.Tree.{finest}
 use Rattle.pieces.specs.Inner.{divisorAt}
 
@@ -22,8 +22,8 @@ bend-most n q inside =
     let r = q .a ∷ q .b ∷ q .c ∷ q .d ∷ [] in
     let bs = n ∷ n ∷ n ∷ n ∷ [] in
     let ok : Bounded r bs = (inside .a, (inside .b, (inside .c, (inside .d, tt)))) in
-    let first : natAbs (firstBend q) ≤ n + 2 * n + n = ev-size r bs ok (var 0 ⊖ lit (pos 2) ⊗ var 1 ⊕ var 2) in
-    let last : natAbs (lastBend q) ≤ n + 2 * n + n = ev-size r bs ok (var 1 ⊖ lit (pos 2) ⊗ var 2 ⊕ var 3) in
+    let first : natAbs (firstBend q) ≤ n + 2 * n + n = ev-size r bs ok (firstBendᵉ p) in
+    let last : natAbs (lastBend q) ≤ n + 2 * n + n = ev-size r bs ok (lastBendᵉ p) in
     omega arith
 
 pub divisor-below : (level : ℕ) → level ≤ finest → divisorAt level ≤ divisorAt finest

@@ -11,13 +11,13 @@ use borrow.Author.Tests.{leb-true, le-leb}
 use lib.Dec.{lit<}
 use lib.IntN.{ℤ, pos, natAbs, _+ℤ_, _*ℤ_}
 use lib.Pow.{pow-add}
-use Rattle.whole.proofs.Ring.{Ex, var, _⊗_, _⊕_, _⊖_, solve}
+use Rattle.whole.proofs.Ring.{var, _⊗_, _⊕_, solve}
 use Rattle.whole.proofs.Order.{pos-injective}
 use Rattle.whole.proofs.Fit.{natAbs-add, natAbs-mul}
 use Rattle.curve.specs.declared.Four.{Four}
 use Rattle.curve.specs.Bend.{bend, firstBend, lastBend}
 use Rattle.curve.specs.Ways.{leftHalf, rightHalf}
-use Rattle.curve.proofs.Reflect.{Fourᵉ, p, num, leftᵉ, rightᵉ}
+use Rattle.curve.proofs.Reflect.{p, num, firstBendᵉ, lastBendᵉ, leftᵉ, rightᵉ}
 use Rattle.shape.proofs.Tests.{passes, and-true}
 use Rattle.pieces.specs.Tree.{Piece, leftPiece, rightPiece, flatOn, isFlat, tree, Sound}
 use Rattle.pieces.specs.Inner.{divisorAt}
@@ -25,31 +25,25 @@ use Rattle.pieces.proofs.Trees.{tree-flat, tree-rough, tree-cut}
 
 -- ---- the second differences of the halves
 
-abbrev firstᵉ : Fourᵉ → Ex
-firstᵉ q = q .a ⊖ num 2 ⊗ q .b ⊕ q .c
-
-abbrev lastᵉ : Fourᵉ → Ex
-lastᵉ q = q .b ⊖ num 2 ⊗ q .c ⊕ q .d
-
 module _ (q : Four) where
   abbrev r : List ℤ
   r = q .a ∷ q .b ∷ q .c ∷ q .d ∷ []
 
   left-first : firstBend (leftHalf q) ≡ pos 2 *ℤ firstBend q
   unfolding leftHalf
-  left-first = solve r (firstᵉ (leftᵉ p)) (num 2 ⊗ firstᵉ p) tt
+  left-first = solve r (firstBendᵉ (leftᵉ p)) (num 2 ⊗ firstBendᵉ p) tt
 
   left-last : lastBend (leftHalf q) ≡ firstBend q +ℤ lastBend q
   unfolding leftHalf
-  left-last = solve r (lastᵉ (leftᵉ p)) (firstᵉ p ⊕ lastᵉ p) tt
+  left-last = solve r (lastBendᵉ (leftᵉ p)) (firstBendᵉ p ⊕ lastBendᵉ p) tt
 
   right-first : firstBend (rightHalf q) ≡ firstBend q +ℤ lastBend q
   unfolding rightHalf
-  right-first = solve r (firstᵉ (rightᵉ p)) (firstᵉ p ⊕ lastᵉ p) tt
+  right-first = solve r (firstBendᵉ (rightᵉ p)) (firstBendᵉ p ⊕ lastBendᵉ p) tt
 
   right-last : lastBend (rightHalf q) ≡ pos 2 *ℤ lastBend q
   unfolding rightHalf
-  right-last = solve r (lastᵉ (rightᵉ p)) (num 2 ⊗ lastᵉ p) tt
+  right-last = solve r (lastBendᵉ (rightᵉ p)) (num 2 ⊗ lastBendᵉ p) tt
 
   -- in size
   twice-first : natAbs (firstBend (leftHalf q)) ≡ 2 * natAbs (firstBend q)

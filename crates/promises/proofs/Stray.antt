@@ -10,9 +10,10 @@ use lib.ListN.{getD, length}
 use Rattle.whole.specs.Outcome.{outcome}
 use Rattle.curve.specs.declared.Four.{Four}
 use Rattle.curve.specs.declared.Basis.{Basis}
-use Rattle.curve.specs.Bend.{firstBend, lastBend}
+use Rattle.curve.specs.Bend.{firstBend, lastBend, firstInRecords, lastInRecords}
 use Rattle.curve.specs.Span.{coordinate, records, sixfoldControls}
 use Rattle.curve.specs.Ways.{deepest}
+use Rattle.curve.proofs.Bend as bends
 use Rattle.shape.specs.declared.Shape.{Shape}
 use Rattle.shape.specs.declared.Plan.{Plan}
 use Rattle.shape.specs.Depth.{shapeAt, planAt}
@@ -30,13 +31,11 @@ use Rattle.tolerance.specs.Steps.{stepsAlong}
 use Rattle.sequences.specs.Calls.{MeetsDrawing}
 use Rattle.sequences.proofs.Calls.{meets-draws}
 use Rattle.stray.specs.Chord.{Bound, Within, Meets, bendBound, spanBound, micrometres, halfMore, offChord, finer}
-use Rattle.stray.specs.Records.{firstInRecords, lastInRecords}
 use Rattle.stray.proofs.Again as again
 use Rattle.stray.proofs.Chosen as chosen
 use Rattle.stray.proofs.Drawn as even
 use Rattle.stray.proofs.Pieces as pieces
 use Rattle.stray.proofs.Over.{OneFraction, finer-one, whole-one, within-published}
-use Rattle.stray.proofs.Records as in-records
 use Rattle.stray.proofs.Spans as spans
 use Rattle.promises.specs.Points.{publishedDivisor, publishedValue}
 use Rattle.promises.specs.Stray.{offExact, curveAt, standing}
@@ -57,7 +56,7 @@ chord-met b k l controls s axis i j = spans.published-meets b (records b s (coor
 
 -- the two second differences, six times, in the records of each basis
 pub bends-in-records : (b : Basis) (p : Four) → (firstBend (sixfoldControls b p) ≡ firstInRecords b p) × (lastBend (sixfoldControls b p) ≡ lastInRecords b p)
-bends-in-records b p = (in-records.first-in-records b p, in-records.last-in-records b p)
+bends-in-records b p = (bends.first-in-records b p, bends.last-in-records b p)
 
 -- a piece is flat, as tolerance cutting has it, exactly where this bound for the piece itself is at most the tolerance, on both axes
 pub flat-within : (d tolerance : ℕ) (q : Four) → (flatOn d tolerance q ≡ true) ↔ (bendBound d q 0 .over ≤ tolerance * bendBound d q 0 .under)

@@ -15,7 +15,7 @@ use Rattle.curve.specs.Four.{dot}
 use Rattle.curve.specs.Published.{weights}
 use Rattle.curve.specs.Span.{weighted}
 use Rattle.curve.proofs.Powers.{cube}
-use Rattle.curve.proofs.Reflect.{p, num, weightedᵉ}
+use Rattle.curve.proofs.Reflect.{p, num, weightedᵉ, firstBendᵉ, lastBendᵉ}
 use Rattle.stray.specs.Chord.{offChord}
 
 -- how far the curve at step i·m + j of n·m is from the chord between its points i and i + 1 of n
@@ -37,8 +37,8 @@ off-is q x y z w =
     let n = var 5 in
     let j = var 6 in
     let m = var 7 in
-    let f = p .a ⊖ num 2 ⊗ p .b ⊕ p .c in
-    let g = p .b ⊖ num 2 ⊗ p .c ⊕ p .d in
+    let f = firstBendᵉ p in
+    let g = lastBendᵉ p in
     solve (q .a ∷ q .b ∷ q .c ∷ q .d ∷ x ∷ y ∷ z ∷ w ∷ [])
     (m ⊗ weightedᵉ p (i ⊗ m ⊕ j) (n ⊗ m) ⊖ ((m ⊖ j) ⊗ (m ⊗ m ⊗ m ⊗ weightedᵉ p i n) ⊕ j ⊗ (m ⊗ m ⊗ m ⊗ weightedᵉ p (i ⊕ num 1) n)))
     (num 0 ⊖ m ⊗ (j ⊗ (m ⊖ j)) ⊗ ((m ⊕ (m ⊖ j)) ⊗ ((n ⊖ i) ⊗ f ⊕ i ⊗ g) ⊕ (m ⊕ j) ⊗ ((n ⊖ i ⊖ num 1) ⊗ f ⊕ (i ⊕ num 1) ⊗ g))) tt

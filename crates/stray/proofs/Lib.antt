@@ -2,7 +2,6 @@ pub mod Cases
 pub mod Chord
 pub mod Over
 pub mod Spans
-pub mod Records
 pub mod Again
 pub mod Rounded
 pub mod Drawn
