@@ -1,6 +1,6 @@
 -- Each point is found again at every deeper depth: step g·2^l of depth k + l is at the same t as step g of depth k, so its sum is 2^(3l) times as large over a divisor as many times as large. It is
 -- rounded to the same number, and what is left over of it is as many times as large.
-use mathlib.Core.Path.{_≡_, refl, sym, ap, _∙_, subst}
+use mathlib.Core.Path.{_≡_, sym, ap, _∙_, subst}
 use mathlib.Core.List.{List}
 use Prim.Native.Nat.{ℕ, _+_, _*_, _-_, _/_, _%_, _^_, min, _≤_, _<_}
 use native.Mathlib.Nat.{mul-comm, mul-assoc, mul-left-comm, mul-sub, mul-div-mul-right, mul-le-mul, le-refl}
@@ -99,20 +99,15 @@ module _ (p : Plan) (controls : List ℤ) (k l g axis : ℕ) (a : axis < 2) wher
       (λ x. remainder (sums-again x) (divisor-again (p .basis) k l x))
       ∙ remainder-scale (2 ^ (3 * l)) (sumOf (planAt k p) controls q) (divisor (p .basis) k) (pow-pos (3 * l)) (divisor-pos (p .basis) k)
 
--- ---- the calls: the shape at depth k was drawn
+-- ---- the calls: a shape was drawn
+
+pub points-are : (s : Shape) (controls lent : List ℤ) (fs : Figures) (held : List ℤ) → draws s controls lent ≡ outcome (Done fs) held → fs .points ≡ planOf s .spans * 2 ^ s .depth + 1
+unfolding pointsOf planOf
+points-are s controls lent fs held done = ap (λ (f : Figures). f .points) (sym (done-figures s controls lent fs held done))
 
 module _ (s : Shape) (controls lent : List ℤ) (fs : Figures) (held : List ℤ) (done : draws s controls lent ≡ outcome (Done fs) held) (l : ℕ) where
   abbrev deeper : Shape
   deeper = shapeAt (s .depth + l) s
-
-  -- the plan of the deeper shape is the deeper plan
-  plan-is : planOf deeper ≡ planAt (s .depth + l) (planOf s)
-  unfolding planOf
-  plan-is = refl
-
-  pub points-are : fs .points ≡ planOf s .spans * 2 ^ s .depth + 1
-  unfolding pointsOf planOf
-  points-are = ap (λ (f : Figures). f .points) (sym (done-figures s controls lent fs held done))
 
   -- so is the deeper one, where the depth is allowed and the list has room
   none-deeper : (list : List ℤ) → s .depth + l ≤ deepest → 2 * points (planOf deeper) ≤ length list → NoRow (drawRows deeper controls list)
@@ -135,7 +130,7 @@ module _ (s : Shape) (controls lent : List ℤ) (fs : Figures) (held : List ℤ)
       let p = planOf s in
       let k = s .depth in
       let all : p .spans * 2 ^ (k + l) ≡ p .spans * 2 ^ k * 2 ^ l = ap (λ (n : ℕ). p .spans * n) (pow-add 2 k l) ∙ sym (mul-assoc (p .spans) (2 ^ k) (2 ^ l)) in
-      let low : g ≤ p .spans * 2 ^ k = omega (arith, points-are) in
+      let low : g ≤ p .spans * 2 ^ k = omega (arith, points-are s controls lent fs held done) in
       let there : g * 2 ^ l ≤ p .spans * 2 ^ k * 2 ^ l = mul-le-mul low (le-refl (2 ^ l)) in
       held-number deeper controls list gs now drawn-now (2 * (g * 2 ^ l) + axis) (omega (arith, all, there))
       ∙ number-again p controls k l g axis a

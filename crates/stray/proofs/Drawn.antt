@@ -79,12 +79,12 @@ module _ (s : Shape) (controls lent : List ℤ) (fs : Figures) (held : List ℤ)
   d = divisor (pl .basis) (s .depth + l)
 
   before-last : g < pl .spans * 2 ^ s .depth
-  before-last = omega (arith, points-are s controls lent fs held done l)
+  before-last = omega (arith, points-are s controls lent fs held done)
 
   close : (n : ℕ) → n < fs .points → 2 * natAbs (finer l (sumOf pl controls (2 * n + axis)) -ℤ pos d *ℤ getD held (2 * n + axis) (pos 0)) ≤ d
   unfolding pointsOf planOf number
   close n b =
-      close-again (pl .basis) (s .depth) l (sumOf pl controls (2 * n + axis)) (getD held (2 * n + axis) (pos 0)) (held-number s controls lent fs held done (2 * n + axis) (omega (arith, points-are s controls lent fs held done l)))
+      close-again (pl .basis) (s .depth) l (sumOf pl controls (2 * n + axis)) (getD held (2 * n + axis) (pos 0)) (held-number s controls lent fs held done (2 * n + axis) (omega (arith, points-are s controls lent fs held done)))
 
   pub drawn-router : (j : ℕ) → j ≤ 2 ^ l
       → Within (halfMore (spanBound (pl .basis) (s .depth) controls (g / 2 ^ s .depth) axis)) (offChord (2 ^ l) j (pos d *ℤ getD held (2 * g + axis) (pos 0)) (pos d *ℤ getD held (2 * (g + 1) + axis) (pos 0)) (sumOf (planAt (s .depth + l) pl) controls (2 * (g * 2 ^ l + j) + axis))) (2 ^ l * d)
