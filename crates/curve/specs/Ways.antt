@@ -16,15 +16,15 @@ use Rattle.curve.specs.Span.{weighted}
 unfoldable pub byWeights : ℕ → Four → List ℤ
 byWeights k q = tab (λ i. weighted q (pos i) (pos (2 ^ k))) 0 (suc (2 ^ k))
 
--- Document 01: a depth is from 0 to 6.
+-- Document 02, request 10: a depth is from 0 to 8.
 abbrev pub deepest : ℕ
-deepest = 6
+deepest = 8
 
 -- The most bits of a divisor.
 abbrev pub mostBits : ℕ
 mostBits = 3 * deepest
 
--- The table has the weights at depth 6 alone; depth k uses every 2^(6-k)-th row of it, row i · 2^(6-k) for its step i.
+-- The table has the weights at the deepest alone; depth k uses every 2^(8-k)-th row of it, row i · 2^(8-k) for its step i.
 abbrev pub apart : ℕ → ℕ
 apart k = 2 ^ (deepest - k)
 
@@ -38,7 +38,7 @@ nth w (suc zero) = w .b
 nth w (suc (suc zero)) = w .c
 nth w (suc (suc (suc r))) = w .d
 
--- Document 02, request 4: weight r at i is weight 3 - r at 64 - i, so that two weights for each i from 0 to 64, those numbered 0 and 1, are enough: 130 in all.
+-- Document 02, request 4: weight r at i is weight 3 - r at 256 - i, so that two weights for each i from 0 to 256, those numbered 0 and 1, are enough: 514 in all.
 -- Entry e is of row e / 2, and there weight number e % 2.
 abbrev pub tableSize : ℕ
 tableSize = 2 * suc (2 ^ deepest)
@@ -50,7 +50,7 @@ tableEntry e = nth (weights (pos (e / 2)) (pos (2 ^ deepest))) (e % 2)
 unfoldable pub weightTable : List ℤ
 weightTable = tab tableEntry 0 tableSize
 
--- Where weight r of row i is read: 0 and 1 in the row itself, 2 and 3 as weight 3 - r of row 64 - i.
+-- Where weight r of row i is read: 0 and 1 in the row itself, 2 and 3 as weight 3 - r of row 256 - i.
 unfoldable pub entryOf : ℕ → ℕ → ℕ
 entryOf i r = cond (ltb r 2) (2 * i + r) (2 * (2 ^ deepest - i) + (3 - r))
 

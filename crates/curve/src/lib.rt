@@ -35,7 +35,7 @@ pub struct Differences {
 pub const SIXFOLD: u32 = 6;
 // A control coordinate is at most this far from zero, in micrometres.
 pub const LIMIT: i32 = 4_000_000;
-// The deepest outline: a span has at most 2^6 steps.
-pub const DEEPEST: usize = 6;
+// The deepest outline: a span has at most 2^8 steps.
+pub const DEEPEST: usize = 8;
 // The steps of a span at that depth.
 pub const MOST_STEPS: usize = 1 << DEEPEST;

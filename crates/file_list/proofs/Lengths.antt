@@ -1,4 +1,4 @@
--- The text of a file is never longer than the room for the longest: a heading has at most 21 characters, each point a line of at most 23, since its number has four digits and
+-- The text of a file is never longer than the room for the longest: a heading has at most 22 characters, each point a line of at most 24, since its number has five digits and
 -- its coordinates seven and a sign; and the line of a refusal has at most 14.
 use mathlib.Core.Path.{_≡_}
 use mathlib.Core.List.{List, [], _∷_, _++_}
@@ -21,7 +21,7 @@ word-length w c rest = omega (arith, length-append w (c ∷ rest))
 
 -- ---- the lines
 
-point-line : (i : ℕ) (x y : ℤ) → i < 10 ^ 4 → natAbs x < 10 ^ 7 → natAbs y < 10 ^ 7 → length (pointLine i x y) ≤ 23
+point-line : (i : ℕ) (x y : ℤ) → i < 10 ^ 5 → natAbs x < 10 ^ 7 → natAbs y < 10 ^ 7 → length (pointLine i x y) ≤ 24
 point-line i x y few near near' =
     let last = decimal y ++ (newline ∷ []) in
     let middle = decimal x ++ (space ∷ last) in
@@ -30,7 +30,7 @@ point-line i x y few near near' =
       word-length (natural i) space middle,
       word-length (decimal x) space last,
       word-length (decimal y) newline [],
-      at-most 3 i few,
+      at-most 4 i few,
       decimal-at-most 6 x near,
       decimal-at-most 6 y near',
     )
@@ -40,7 +40,7 @@ abbrev pub Small : List ℤ → Type 0
 Small [] = Unit {0}
 Small (z ∷ zs) = (natAbs z < 10 ^ 7) × Small zs
 
-point-lines : (i : ℕ) (points : List ℤ) → 2 * i + length points ≤ 2 * 10 ^ 4 → Small points → 2 * length (pointLines i points) ≤ 23 * length points
+point-lines : (i : ℕ) (points : List ℤ) → 2 * i + length points ≤ 2 * 10 ^ 5 → Small points → 2 * length (pointLines i points) ≤ 24 * length points
 point-lines i [] few near = omega arith
 point-lines i (x ∷ []) few near = omega arith
 point-lines i (x ∷ y ∷ points) few near =
@@ -76,12 +76,12 @@ module _ (b s : ℕ) (points : List ℤ) (small : b < 10) (short : s < 10 ^ 2) (
   unfolding outlineText
   outline-length k shallow =
       text-length (b ∷ k ∷ s ∷ n ∷ []) points
-      (omega (arith, first-number 0 b k (s ∷ n ∷ []) small, first-number 0 k s (n ∷ []) shallow, first-number 1 s n [] short, last-number 3 n (omega arith)))
+      (omega (arith, first-number 0 b k (s ∷ n ∷ []) small, first-number 0 k s (n ∷ []) shallow, first-number 1 s n [] short, last-number 4 n (omega arith)))
       few near
 
   pub chosen-length : (t c : ℕ) → t < 10 ^ 5 → c < 10 ^ 4 → length (chosenText b t s c points) ≤ mostText
   unfolding chosenText
   chosen-length t c fine sparse =
       text-length (b ∷ t ∷ s ∷ n ∷ c ∷ []) points
-      (omega (arith, first-number 0 b t (s ∷ n ∷ c ∷ []) small, first-number 4 t s (n ∷ c ∷ []) fine, first-number 1 s n (c ∷ []) short, first-number 3 n c [] (omega arith), last-number 3 c sparse))
+      (omega (arith, first-number 0 b t (s ∷ n ∷ c ∷ []) small, first-number 4 t s (n ∷ c ∷ []) fine, first-number 1 s n (c ∷ []) short, first-number 4 n c [] (omega arith), last-number 3 c sparse))
       few near

@@ -76,13 +76,13 @@ fileText file = textOf Even file
 abbrev pub cutFileText : ℕ → ℕ → List ℕ → List ℕ
 cutFileText tolerance most file = textOf (ByTolerance tolerance most) file
 
--- The numbers of the longer heading, that of chosen steps, have at most 1, 5, 2, 4 and 4 digits, and a character after each.
+-- The numbers of the longer heading, that of chosen steps, have at most 1, 5, 2, 5 and 4 digits, and a character after each.
 abbrev pub mostHeading : ℕ
-mostHeading = 21
+mostHeading = 22
 
--- A point's number has at most 4 digits and its coordinates of 32 bits 11 characters each, and there is one more after each of the three.
+-- A point's number has at most 5 digits and its coordinates of 32 bits 11 characters each, and there is one more after each of the three.
 abbrev pub mostLine : ℕ
-mostLine = 29
+mostLine = 30
 
 -- Room for the longest.
 abbrev pub mostText : ℕ

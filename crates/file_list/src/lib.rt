@@ -38,10 +38,10 @@ const MOST_LISTED: usize = MOST_SPANS * (1 << DEEPEST) + 1;
 
 const MOST_NUMBERS: usize = 2 * MOST_LISTED;
 
-// A heading has at most 21 characters, and the line of a point at most 29.
-const HEADING: usize = 21;
+// A heading has at most 22 characters, and the line of a point at most 30.
+const HEADING: usize = 22;
 
-const LINE: usize = 29;
+const LINE: usize = 30;
 
 // Room for the longest listing.
 pub const MOST_TEXT: usize = HEADING + LINE * MOST_LISTED;
