@@ -115,6 +115,29 @@ def crest_rail():
     return B_SPLINE, 4, around + around[:3]
 
 
+def stair_string():
+    """The string of a stair, laid out flat: the board that carries the treads, 13 risings of 200 mm and 12 goings of 240 mm.
+
+    It is level at the foot and at the landing and steepest between, where the steps
+    wind.  Each edge is one span of four metres; the ends are cut plumb.  The upper edge
+    bends tighter than the lower at the foot and wider at the landing, so that the board
+    stays nearly 300 mm wide.
+    """
+    going, rise, plumb = 12 * 240, 13 * 200, 300
+    easing, tighter = 1000, 200
+    foot, landing = (0, 0), (going, rise)
+    over_foot, over_landing = (0, plumb), (going, rise + plumb)
+    lower = [(easing, 0), (going - easing, rise), landing]
+    upper = [(going - easing - tighter, rise + plumb), (easing - tighter, plumb), over_foot]
+    return BEZIER, 8, [foot, *lower, *line(landing, over_landing), *upper, *line(over_foot, foot)]
+
+
+def stair_string_depth_6():
+    """The same string in 64 steps a span, where it shows facets."""
+    basis, _, records = stair_string()
+    return basis, 6, records
+
+
 PIECES = {
     "arched-door": arched_door,
     "bracket": bracket,
@@ -123,6 +146,8 @@ PIECES = {
     "left-door": left_door,
     "right-door": right_door,
     "scalloped-apron": scalloped_apron,
+    "stair-string": stair_string,
+    "stair-string-depth-6": stair_string_depth_6,
     "vase-splat": vase_splat,
 }
 
