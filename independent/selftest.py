@@ -1,7 +1,7 @@
 """The program's own tests: `python3 selftest.py`.
 
 Document 01's sums stand here as they are printed there, P2 and P12 as document 02's
-request 1 has them.  The curve is computed again by other published formulas, the
+request 1 has them and the depths as its request 10.  The curve is computed again by other published formulas, the
 edits are read again point by point, the pieces of the outline by tolerance are made
 again by halving, every call is made again in the mirror, and each bound of how far the
 cut strays is seen to be none too large.
@@ -10,7 +10,7 @@ cut strays is seen to be none too large.
 import sys
 import unittest
 from fractions import Fraction
-from typing import List, Sequence, Tuple
+from typing import Iterator, List, Sequence, Tuple
 
 sys.dont_write_bytecode = True
 
@@ -52,7 +52,8 @@ P12 -0.0625 mm: -63
 P12 4000.00048828125 mm: 4000000
 P12 4000.0009765625 mm: refused 11 0
 Bezier 0 0 0 4 depth 6: drawn 65 exact 67
-Bezier 0 0 0 4 depth 7: refused 2 0
+Bezier 0 0 0 4 depth 8: drawn 257 exact 259
+Bezier 0 0 0 4 depth 9: refused 2 0
 Bezier 64 records of 0 depth 1: drawn 43 exact 86
 Bezier 5 records of 0 depth 1: refused 3 0
 Bezier 4294967296 records of 0 depth 1: refused 3 0
@@ -102,13 +103,19 @@ OTHER_FORMULA = {
 }
 
 
+def at_limits() -> Iterator[List[int]]:
+    """Four records on an axis, each at a limit, in every way."""
+    for signs in range(16):
+        yield [CONTROL_LIMIT if signs >> place & 1 else -CONTROL_LIMIT for place in range(4)]
+
+
 class Curve(unittest.TestCase):
     def test_other_formulas_agree(self):
         dice = Dice(SEED)
         for basis in ALL_BASES:
             for _ in range(60):
                 four = [dice.coordinate() for _ in range(4)]
-                t = Fraction(dice.below(64), 64)
+                t = Fraction(dice.below(2 ** DEEPEST), 2 ** DEEPEST)
                 value = product(powers(t), cubic(basis, four))
                 self.assertEqual(value, OTHER_FORMULA[basis](four, t))
 
@@ -132,11 +139,10 @@ class Curve(unittest.TestCase):
 
     def test_boxes_and_bounds(self):
         """No point of basis 1 or 2 leaves its controls' box; none of 3 or 4 passes the bound."""
-        for signs in range(16):
-            four = [CONTROL_LIMIT if signs >> place & 1 else -CONTROL_LIMIT for place in range(4)]
+        for four in at_limits():
             controls = [number for p in four for number in (p, p)]
             for basis in ALL_BASES:
-                outline = formula_points(Shape(basis, 6, 4), controls)
+                outline = formula_points(Shape(basis, DEEPEST, 4), controls)
                 bound = POINT_LIMIT if basis in (CARDINAL, HERMITE) else CONTROL_LIMIT
                 self.assertLessEqual(max(abs(number) for number in outline), bound)
 
@@ -150,8 +156,8 @@ class Outline(unittest.TestCase):
     def test_point_counts(self):
         most = {BEZIER: 21, B_SPLINE: 61, CARDINAL: 61, HERMITE: 31}
         for basis, m in most.items():
-            self.assertEqual(spans(Shape(basis, 6, 64)), m)
-            self.assertEqual(point_count(Shape(basis, 6, 64)), m * 64 + 1)
+            self.assertEqual(spans(Shape(basis, 8, 64)), m)
+            self.assertEqual(point_count(Shape(basis, 8, 64)), m * 256 + 1)
 
     def test_exact_coordinates(self):
         """A coordinate is exact where the exact value stands in the points, and nowhere else."""
@@ -168,7 +174,7 @@ class Outline(unittest.TestCase):
         points = list(range(14))
         self.assertEqual(view(Shape(B_SPLINE, 1, 6), points, 1), [4, 5, 6, 7, 8, 9])
         for shape, span, lent in ((Shape(B_SPLINE, 1, 6), 3, points), (Shape(B_SPLINE, 1, 6), 0, points[:13]),
-                                  (Shape(5, 1, 6), 0, points), (Shape(B_SPLINE, 7, 6), 0, points)):
+                                  (Shape(5, 1, 6), 0, points), (Shape(B_SPLINE, 9, 6), 0, [JUNK] * 4000)):
             self.assertEqual(list(view(shape, lent, span)), [])
 
     def test_preview(self):
@@ -176,6 +182,56 @@ class Outline(unittest.TestCase):
         preview(Shape(BEZIER, 1, 4), [0, -8, 0, 8, 0, -8, 1, 8], doubles)
         self.assertEqual(doubles, [0.0, -8.0, 0.125, 0.0, 1.0, 8.0, JUNK])
         self.assertEqual(str(doubles[3]), "0.0")
+
+    def test_preview_at_the_deepest(self):
+        """Controls at the limits, and one inside them: every value is a double, and the least part of one counts."""
+        shape = Shape(BEZIER, DEEPEST, 4)
+        for four in at_limits():
+            controls = [number for p in four for number in (p, p - p // CONTROL_LIMIT)]
+            doubles = [float(JUNK)] * (2 * point_count(shape))
+            preview(shape, controls, doubles)
+            self.assertEqual([Fraction(double) for double in doubles], exact_outline(shape, controls))
+
+
+class Depths(unittest.TestCase):
+    """Document 02, request 10: what an outline of up to depth 6 was it is, and all of it is found again two depths on."""
+
+    def outlines(self):
+        """One span of each basis, with records at limits in every way and any others."""
+        dice = Dice(SEED)
+        for basis in ALL_BASES:
+            for x in at_limits():
+                y = [dice.coordinate() for _ in x]
+                yield basis, [number for record in zip(x, y) for number in record]
+
+    def test_points_stay(self):
+        """Each number is nearest to the curve by another formula, and away from zero where two are."""
+        for basis, controls in self.outlines():
+            for depth in range(7):
+                outline = [JUNK] * (2 * point_count(Shape(basis, depth, 4)))
+                draw(Shape(basis, depth, 4), controls, outline)
+                for axis in AXES:
+                    for i, number in enumerate(outline[axis::2]):
+                        value = OTHER_FORMULA[basis](controls[axis::2], Fraction(i, 2 ** depth))
+                        off = abs(value - number)
+                        self.assertTrue(off < HALF or off == HALF and abs(number) > abs(value))
+
+    def test_found_again(self):
+        """Point g is point 4g two depths deeper, also where that is a depth that document 01 does not have."""
+        for basis, controls in self.outlines():
+            for depth in range(7):
+                outline, deeper = (formula_points(Shape(basis, k, 4), controls) for k in (depth, depth + 2))
+                for axis in AXES:
+                    self.assertEqual(deeper[axis::8], outline[axis::2])
+
+    def test_deepest(self):
+        for basis in ALL_BASES:
+            controls, room = [0] * 8, [JUNK] * (2 * 513)
+            for depth in (9, 2 ** 32 - 1):
+                self.assertEqual(answer(draw, Shape(basis, depth, 4), controls, room), "refused 2 0")
+            self.assertEqual(room, [JUNK] * (2 * 513))
+            for depth in range(9):
+                self.assertEqual(draw(Shape(basis, depth, 4), controls, room).points, 2 ** depth + 1)
 
 
 def point_by_point(old: List[int], shape: Shape, outline: List[int], fresh: range, carried: int,
@@ -483,10 +539,10 @@ class Tolerance(unittest.TestCase):
 
     def test_order_of_refusals(self):
         line, far = [0, 0, 0, 0, 5462, 0, 5462, 0], [0, 0, 0, 0, 5462, 0, 5462, CONTROL_LIMIT + 1]
-        good, endless = Shape(BEZIER, 6, 4), 2 ** 99
+        good, endless = Shape(BEZIER, 8, 4), 2 ** 99
         for shape, controls, tolerance, most, text in (
-                (Shape(5, 7, 5), far[1:], 10_001, 0, "1 0"), (Shape(BEZIER, 7, 5), far[1:], 10_001, 0, "2 0"),
-                (Shape(BEZIER, 6, 5), far[1:], 10_001, 0, "3 0"), (good, far[1:], 10_001, 0, "7 0"),
+                (Shape(5, 9, 5), far[1:], 10_001, 0, "1 0"), (Shape(BEZIER, 9, 5), far[1:], 10_001, 0, "2 0"),
+                (Shape(BEZIER, 8, 5), far[1:], 10_001, 0, "3 0"), (good, far[1:], 10_001, 0, "7 0"),
                 (good, far, 10_001, 0, "8 3"), (good, line, 10_001, 0, "20 0"), (good, line, endless, endless, "20 0"),
                 (good, line, 1, 5, "22 0"), (good, line, 1, 6, "21 0"), (good, line, 1, endless, "21 0"),
                 (good, line, 2, endless, "9 0")):
@@ -522,8 +578,8 @@ class Strays(unittest.TestCase):
         file = file_of(Shape(BEZIER, 1, 7), [0, 0, 0, 0, 8, 8, 8, 8, 8, 8, 9, 12, 8, 16])
         self.assertEqual([*depths(file)], [
             "span 0, straight",
-            "span 1, second difference 4: strays at most  3.50  1.25  0.69  0.55  0.52  0.51  0.51",
-            "curved spans, second difference 4: strays at most  3.50  1.25  0.69  0.55  0.52  0.51  0.51"])
+            "span 1, second difference 4: strays at most  3.50  1.25  0.69  0.55  0.52  0.51  0.51  0.51  0.51",
+            "curved spans, second difference 4: strays at most  3.50  1.25  0.69  0.55  0.52  0.51  0.51  0.51  0.51"])
         self.assertEqual([*depths(file[:-1])], ["refused 13 0"])
 
     def test_nothing_smaller_would_do(self):

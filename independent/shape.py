@@ -10,7 +10,8 @@ STRIDE = {BEZIER: 3, B_SPLINE: 1, CARDINAL: 1, HERMITE: 2}
 
 SPAN_RECORDS = 4
 MOST_RECORDS = 64
-DEEPEST = 6
+# Document 02, request 10; document 01 has 6.
+DEEPEST = 8
 
 
 class Shape(NamedTuple):

@@ -1,7 +1,7 @@
 """Every sum of document 01, "Sums to hold it to", but outline-list's own: one line each.
 
 A sum is over one axis: its numbers are the x of records whose y is 0, and the x
-of the points is what is written.
+of the points is what is written.  The limit of depth is that of document 02, request 10.
 """
 
 from typing import Iterator, List, Sequence
@@ -10,12 +10,12 @@ from drawing import NOTHING_DRAWN, Step, take
 from edits import Edited, insert, move, remove
 from outline import draw
 from refusal import Refusal
-from shape import B_SPLINE, BEZIER, CARDINAL, HERMITE, MOST_RECORDS, Shape, point_count
+from shape import B_SPLINE, BEZIER, CARDINAL, DEEPEST, HERMITE, Shape, point_count
 
 NAME = {BEZIER: "Bezier", B_SPLINE: "B-spline", CARDINAL: "cardinal", HERMITE: "Hermite"}
 
-# Enough for 64 records, and for the 65 points of one span at depth 6.
-ROOM = 2 * (MOST_RECORDS + 1)
+# Enough for the points of one span at the deepest, and so for 64 records.
+ROOM = 2 * (2 ** DEEPEST + 1)
 TO_EDIT = (0, 10, 20, 30, 40, 50)
 
 
@@ -93,7 +93,7 @@ def sums() -> Iterator[str]:
     yield from edit_sums()
     for number in (0.0625, -0.0625, 4000.00048828125, 4000.0009765625):
         yield f"P12 {number} mm: {result(millimetres, number)}"
-    for depth in (6, 7):
+    for depth in (6, 8, 9):
         yield f"Bezier 0 0 0 4 depth {depth}: {result(only_counted, depth, 4, on_x((0, 0, 0, 4)))}"
     for count in (64, 5, 2 ** 32):
         yield f"Bezier {count} records of 0 depth 1: {result(only_counted, 1, count, on_x(()))}"

@@ -9,10 +9,10 @@ from typing import Collection, Tuple
 import trials
 from checks import CONTROL_LIMIT
 from edits import BASES_THAT_GROW
-from make_trials.dice import ALL_BASES, Dice
+from make_trials.dice import ALL_BASES, DEEPEST_BEFORE, Dice
 from make_trials.outlines import WAYS
 from make_trials.script import ACCEPTED, Script
-from shape import BEZIER, DEEPEST, HERMITE, MOST_RECORDS, SPAN_RECORDS, Shape, count_allowed, point_count
+from shape import BEZIER, HERMITE, MOST_RECORDS, SPAN_RECORDS, Shape, count_allowed, point_count
 
 DEFECTS = ("basis", "depth", "count", "offered", "place", "records", "controls", "limit", "record", "points")
 Defects = Collection[str]
@@ -24,7 +24,7 @@ OFFERED = {trials.PREVIEW: (BEZIER,), trials.INSERT: BASES_THAT_GROW, trials.REM
 CHANGE = {trials.INSERT: 1, trials.REMOVE: -1}
 FULL = {trials.INSERT: MOST_RECORDS, trials.REMOVE: SPAN_RECORDS}
 
-TOO_DEEP = (DEEPEST + 1, DEEPEST + 2, 32, 64, 2 ** 32 - 1)
+TOO_DEEP = (DEEPEST_BEFORE + 1, DEEPEST_BEFORE + 2, 32, 64, 2 ** 32 - 1)
 NO_BASIS = (0, HERMITE + 1, 256, 2 ** 32 - 1)
 COUNTS = (0, 1, 2, 3, 5, 6, 9, MOST_RECORDS - 1, MOST_RECORDS + 1, MOST_RECORDS + 3, 2 ** 32 - 1)
 
@@ -59,8 +59,16 @@ def needs(op: int, shape: Shape) -> Tuple[int, int]:
 
 
 def one_call(script: Script, op: int, defects: Defects) -> None:
+    shape = sound_shape(script.dice, op, defects)
+    lend_for(script, op, shape, defects)
+    script.shape(bad_shape(script.dice, shape, defects))
+    call(script, op, shape, defects)
+    show_result(script, op)
+
+
+def lend_for(script: Script, op: int, shape: Shape, defects: Defects) -> None:
+    """The lists that the call needs, but for rows 7, 8 and 9."""
     dice = script.dice
-    shape = sound_shape(dice, op, defects)
     controls, points = needs(op, shape)
     if "controls" in defects:
         controls -= dice.pick((1, 1, 2, controls))
@@ -72,9 +80,6 @@ def one_call(script: Script, op: int, defects: Defects) -> None:
     if "limit" in defects and controls:
         for _ in range(dice.between(1, 2)):
             script.say(trials.SET_CONTROL, dice.below(min(controls, 2 * shape.count)), dice.outside())
-    script.shape(bad_shape(dice, shape, defects))
-    call(script, op, shape, defects)
-    show_result(script, op)
 
 
 def call(script: Script, op: int, shape: Shape, defects: Defects) -> None:

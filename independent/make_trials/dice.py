@@ -13,6 +13,10 @@ LOW_BITS = 11
 
 ALL_BASES = tuple(STRIDE)
 
+# The deepest before document 02's request 10.  The trials of the other requests go by it, so that
+# their records stay what they were; depths.py has the depths past it.
+DEEPEST_BEFORE = 6
+
 
 def beside(number: float, steps: int) -> float:
     """The double that many bit patterns farther from zero."""

@@ -5,10 +5,10 @@ from typing import List, Tuple
 import trials
 from edits import BASES_THAT_GROW
 from make_trials.defects import CHANGE, EDITS
-from make_trials.dice import ALL_BASES
+from make_trials.dice import ALL_BASES, DEEPEST_BEFORE
 from make_trials.outlines import WAYS
 from make_trials.script import Script
-from shape import B_SPLINE, DEEPEST, MOST_RECORDS, SPAN_RECORDS, Shape, point_count, spans
+from shape import B_SPLINE, MOST_RECORDS, SPAN_RECORDS, Shape, point_count, spans
 
 
 def edits_of(basis: int) -> Tuple[int, ...]:
@@ -113,7 +113,7 @@ def deep(script: Script) -> None:
     """Edits of the longest outlines at the deepest; views of the spans round about."""
     dice = script.dice
     for basis in BASES_THAT_GROW:
-        shape = Shape(basis, DEEPEST, MOST_RECORDS - 1)
+        shape = Shape(basis, DEEPEST_BEFORE, MOST_RECORDS - 1)
         script.lend(2 * MOST_RECORDS, 2 * point_count(shape._replace(count=MOST_RECORDS)), fill=dice.junk())
         script.read(shape, dice.numbers(shape.count))
         script.say(dice.pick(WAYS))

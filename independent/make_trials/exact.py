@@ -12,12 +12,12 @@ import trials
 from checks import CONTROL_LIMIT
 from curve import exact_outline, whole_values
 from make_trials.defects import CHANGE, needs
-from make_trials.dice import ALL_BASES, Dice
+from make_trials.dice import ALL_BASES, DEEPEST_BEFORE, Dice
 from make_trials.edits import edits_of
 from make_trials.halves import DIVISOR
 from make_trials.outlines import WAYS
 from make_trials.script import ACCEPTED, Script
-from shape import B_SPLINE, CARDINAL, DEEPEST, SPAN_RECORDS, STRIDE, Shape, point_count
+from shape import B_SPLINE, CARDINAL, SPAN_RECORDS, STRIDE, Shape, point_count
 
 # Coordinates are at most so many grains, or so many micrometres.
 MOST = 9
@@ -46,7 +46,7 @@ def other_counts(values: Sequence[Fraction]) -> Set[int]:
 def outlines(script: Script) -> None:
     """Outlines of each basis at each depth in each way, where some coordinates are exact and some are not."""
     for basis in ALL_BASES:
-        for depth in range(DEEPEST + 1):
+        for depth in range(DEEPEST_BEFORE + 1):
             shape = Shape(basis, depth, SPAN_RECORDS + 2 * STRIDE[basis])
             every_way(script, shape, told_apart(script.dice, shape))
 

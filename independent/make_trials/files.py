@@ -4,10 +4,10 @@ from typing import Collection
 
 import trials
 from edits import BASES_THAT_GROW
-from make_trials.dice import ALL_BASES
+from make_trials.dice import ALL_BASES, DEEPEST_BEFORE
 from make_trials.script import ACCEPTED, Script, file_of
 from record_file import LONGEST, RECORD
-from shape import B_SPLINE, CARDINAL, DEEPEST, HERMITE, MOST_RECORDS, SPAN_RECORDS, Shape
+from shape import B_SPLINE, CARDINAL, HERMITE, MOST_RECORDS, SPAN_RECORDS, Shape
 
 DEFECTS = ("length", "spare", "unlike basis", "unlike depth", "basis", "depth", "count", "controls", "limit")
 Defects = Collection[str]
@@ -28,7 +28,7 @@ def bad_shape(script: Script, shape: Shape, defects: Defects) -> Shape:
     if "basis" in defects:
         shape = shape._replace(basis=dice.pick((0, HERMITE + 1, 128, 255)))
     if "depth" in defects:
-        shape = shape._replace(depth=dice.pick((DEEPEST + 1, 128, 255)))
+        shape = shape._replace(depth=dice.pick((DEEPEST_BEFORE + 1, 128, 255)))
     return shape
 
 
@@ -45,7 +45,7 @@ def damaged_file(script: Script, sound: Shape, defects: Defects) -> bytes:
     if "unlike basis" in defects:
         spoil(file, dice.below(shape.count), BASIS_BYTE, dice.below(HERMITE + 2))
     if "unlike depth" in defects:
-        spoil(file, dice.below(shape.count), DEPTH_BYTE, dice.below(DEEPEST + 2))
+        spoil(file, dice.below(shape.count), DEPTH_BYTE, dice.below(DEEPEST_BEFORE + 2))
     if "length" in defects:
         file = file[:-dice.between(1, RECORD.size - 1)] if dice.one_in(2) else file + bytes(dice.between(1, 40))
     return bytes(file)
@@ -57,7 +57,8 @@ def one_file(script: Script, shape: Shape, defects: Defects) -> None:
     script.lend(length, 0, fill=dice.junk())
     script.put_file(damaged_file(script, shape, defects))
     script.say(trials.READ_FILE)
-    if script.last == ACCEPTED or dice.one_in(6):
+    # A file with a depth of 7 is accepted, but the records that follow are those of a defect.
+    if script.last == ACCEPTED and "depth" not in defects or dice.one_in(6):
         script.show(trials.SHOW_CONTROLS)
     if dice.one_in(3):
         script.show(trials.LIST_FILE)
@@ -109,7 +110,7 @@ def late_damage(script: Script) -> None:
     dice = script.dice
     script.lend(2 * MOST_RECORDS, 0)
     for _ in range(12):
-        shape = Shape(dice.pick(ALL_BASES), dice.below(DEEPEST + 1), MOST_RECORDS)
+        shape = Shape(dice.pick(ALL_BASES), dice.below(DEEPEST_BEFORE + 1), MOST_RECORDS)
         file = bytearray(file_of(shape, dice.numbers(shape.count)))
         for byte in dice.some(HEAD_BYTES, 2):
             spoil(file, dice.below(MOST_RECORDS), byte, dice.between(5, 255))
@@ -120,7 +121,7 @@ def late_damage(script: Script) -> None:
 def deep_listings(script: Script) -> None:
     """Listings at every depth, the last as long as can be."""
     dice = script.dice
-    shapes = [dice.shape(deepest=0, most=7)._replace(depth=depth) for depth in range(DEEPEST + 1)]
-    for shape in (*shapes, Shape(CARDINAL, DEEPEST, MOST_RECORDS)):
+    shapes = [dice.shape(deepest=0, most=7)._replace(depth=depth) for depth in range(DEEPEST_BEFORE + 1)]
+    for shape in (*shapes, Shape(CARDINAL, DEEPEST_BEFORE, MOST_RECORDS)):
         script.put_file(file_of(shape, dice.numbers(shape.count)))
         script.show(trials.LIST_FILE)

@@ -13,11 +13,11 @@ from checks import Record
 from curve import cubic, exact_outline, powers, product
 from drawing import MICROMETRES_PER_MM
 from make_trials.defects import CHANGE, needs
-from make_trials.dice import ALL_BASES, Dice
+from make_trials.dice import ALL_BASES, DEEPEST_BEFORE, Dice
 from make_trials.edits import edits_of
 from make_trials.outlines import WAYS
 from make_trials.script import ACCEPTED, Script
-from shape import (B_SPLINE, BEZIER, CARDINAL, DEEPEST, HERMITE, MOST_RECORDS, SPAN_RECORDS, STRIDE, Shape,
+from shape import (B_SPLINE, BEZIER, CARDINAL, HERMITE, MOST_RECORDS, SPAN_RECORDS, STRIDE, Shape,
                    numbers_of, point_count, span_points, span_records, spans)
 
 X, Y = AXES = 0, 1
@@ -84,7 +84,7 @@ def controls_at_halves(dice: Dice, shape: Shape) -> List[int]:
 def points(script: Script) -> None:
     """Outlines of each basis, at each depth that has halves, in each way."""
     for basis in ALL_BASES:
-        for depth in range(0 if basis == B_SPLINE else 1, DEEPEST + 1):
+        for depth in range(0 if basis == B_SPLINE else 1, DEEPEST_BEFORE + 1):
             shape = Shape(basis, depth, SPAN_RECORDS + STRIDE[basis])
             controls = controls_at_halves(script.dice, shape)
             for axis in MIRRORS:

@@ -2,9 +2,9 @@
 
 import trials
 from checks import CONTROL_LIMIT
-from make_trials.dice import ALL_BASES
+from make_trials.dice import ALL_BASES, DEEPEST_BEFORE
 from make_trials.script import Script
-from shape import BEZIER, DEEPEST, MOST_RECORDS, SPAN_RECORDS, Shape, point_count, spans
+from shape import BEZIER, MOST_RECORDS, SPAN_RECORDS, Shape, point_count, spans
 
 WAYS = (trials.WEIGHTS, trials.HALVING, trials.DIFFERENCES)
 
@@ -13,7 +13,7 @@ def every_way(script: Script) -> None:
     """Each basis at each depth in each way, over points that held something else."""
     dice = script.dice
     for basis in ALL_BASES:
-        for depth in range(DEEPEST + 1):
+        for depth in range(DEEPEST_BEFORE + 1):
             shape = Shape(basis, depth, dice.count(basis, SPAN_RECORDS if depth > 4 else 8))
             spare = dice.below(4)
             script.lend(2 * shape.count + spare, 2 * point_count(shape) + spare, fill=dice.outside())
@@ -42,7 +42,7 @@ def longest(script: Script) -> None:
     """The most records of each basis at the deepest, in lists with no number to spare."""
     dice = script.dice
     for basis in ALL_BASES:
-        shape = Shape(basis, DEEPEST, MOST_RECORDS)
+        shape = Shape(basis, DEEPEST_BEFORE, MOST_RECORDS)
         script.lend(2 * MOST_RECORDS, 2 * point_count(shape), fill=dice.junk())
         script.read(shape, dice.numbers(shape.count))
         script.show(dice.pick(WAYS), trials.SHOW_POINTS)
@@ -64,7 +64,7 @@ def views(script: Script) -> None:
         script.junk_points(2)
         for span in (*range(spans(shape) + 2), 2 ** 31, 2 ** 58, 2 ** 63 - 1):
             script.say(trials.VIEW, span)
-        for bad in (shape._replace(basis=0), shape._replace(depth=DEEPEST + 1), shape._replace(count=3),
+        for bad in (shape._replace(basis=0), shape._replace(depth=DEEPEST_BEFORE + 1), shape._replace(count=3),
                     shape._replace(basis=5), shape._replace(count=MOST_RECORDS + 1)):
             script.shape(bad)
             script.say(trials.VIEW, 0)
@@ -78,7 +78,7 @@ def previews(script: Script) -> None:
     """One span in doubles at every depth: any controls, sums that come to zero, the limits."""
     dice = script.dice
     limits = [CONTROL_LIMIT, -CONTROL_LIMIT]
-    for depth in range(DEEPEST + 1):
+    for depth in range(DEEPEST_BEFORE + 1):
         shape = Shape(BEZIER, depth, SPAN_RECORDS)
         for numbers in (dice.numbers(SPAN_RECORDS), [0, -8, 0, 8, 0, -8, 0, 8], limits * 2 + limits[::-1] * 2):
             script.lend(2 * shape.count, 0, 2 * point_count(shape) + dice.below(2), dice.junk())
@@ -90,11 +90,11 @@ def previews(script: Script) -> None:
 def long_previews(script: Script) -> None:
     """Several spans in doubles, in a list with no number to spare and in one that lacks one."""
     dice = script.dice
-    for depth, count in ((0, MOST_RECORDS), (2, 10), (3, 13), (DEEPEST, MOST_RECORDS)):
+    for depth, count in ((0, MOST_RECORDS), (2, 10), (3, 13), (DEEPEST_BEFORE, MOST_RECORDS)):
         shape = Shape(BEZIER, depth, count)
         for short in (0, 1):
             script.lend(2 * MOST_RECORDS, 0, 2 * point_count(shape) - short, dice.junk())
             script.read(shape, dice.numbers(shape.count))
             script.say(trials.PREVIEW)
-            if depth < DEEPEST:
+            if depth < DEEPEST_BEFORE:
                 script.show(trials.SHOW_PREVIEW)

@@ -13,7 +13,7 @@ import trials
 from checks import CONTROL_LIMIT
 from curve import whole_values
 from make_trials.defects import bad_shape
-from make_trials.dice import ALL_BASES, Dice
+from make_trials.dice import ALL_BASES, DEEPEST_BEFORE, Dice
 from make_trials.exact import grained, other_counts
 from make_trials.halves import ALL_SIDES, AXES, MIRRORS, X, Y, controls_at_halves, mirrored, sides, told_apart
 from make_trials.rules import (ANEW_EACH_SPAN, AXES_ADDED, EXCHANGED, FIRST_CUT_FREE, LAST_CUTS_FREE, MOST_FIRST,
@@ -93,7 +93,7 @@ def accepted(script: Script, cuts: int, tolerance: int, most: int, *wrong: Rule)
 
 def any_outline(dice: Dice, basis: int, size: int) -> Tuple[Shape, List[int]]:
     """A shape of one to three spans and any depth, and controls of up to that size."""
-    shape = dice.shape((basis,), DEEPEST, SPAN_RECORDS + 2 * STRIDE[basis])
+    shape = dice.shape((basis,), DEEPEST_BEFORE, SPAN_RECORDS + 2 * STRIDE[basis])
     return shape, [dice.between(-size, size) for _ in range(2 * shape.count)]
 
 
@@ -127,16 +127,16 @@ TOO_MUCH = (MOST_TOLERANCE + 1, 2 ** 15, 2 ** 31, 2 ** 32, 2 ** 32 + MOST_TOLERA
 
 def refusals(script: Script) -> None:
     """Each defect alone and each two of them."""
+    dice = script.dice
     names = list(FOUND)
     for first, name in enumerate(names):
         for other in names[first:]:
-            one_call(script, {name, other})
+            one_call(script, Shape(dice.pick(ALL_BASES), dice.below(DEEPEST_BEFORE + 1), SPAN_RECORDS), {name, other})
 
 
-def one_call(script: Script, defects: Collection[str]) -> None:
+def one_call(script: Script, shape: Shape, defects: Collection[str]) -> None:
     """A span that bends far to one end of it, with what is wrong."""
     dice = script.dice
-    shape = Shape(dice.pick(ALL_BASES), dice.below(DEEPEST + 1), SPAN_RECORDS)
     still, far, at = dice.between(-9, 9), dice.sign() * (CONTROL_LIMIT - dice.below(9)), 2 * SPAN_RECORDS - 2
     tolerance, most, room = asked(dice, shape, [still] * at + [far, still], defects)
     script.lend(2 * SPAN_RECORDS - ("controls" in defects), room, fill=still)
@@ -144,11 +144,19 @@ def one_call(script: Script, defects: Collection[str]) -> None:
     place = dice.below(at)
     if "limit" in defects:
         script.say(trials.SET_CONTROL, place, dice.outside())
-    script.shape(bad_shape(dice, shape, defects))
+    laid = bad_shape(dice, shape, defects)
+    script.shape(laid)
     script.say(trials.CUT, tolerance, most)
-    found = next(number for name, number in FOUND.items() if name in defects)
-    assert script.lines == [f"refused {found} {place // 2 if found == refusal.LIMITS else 0}"]
+    found = first_found(laid, defects)
+    assert script.last == found
+    assert found == ACCEPTED or script.lines == [f"refused {found} {place // 2 if found == refusal.LIMITS else 0}"]
     script.show(trials.SHOW_POINTS)
+
+
+def first_found(laid: Shape, defects: Collection[str]) -> int:
+    """The number of what is found first; its depth is wrong where it is past the deepest, and only there."""
+    wrong = {*defects, "depth"} if laid.depth > DEEPEST else {*defects} - {"depth"}
+    return next((number for name, number in FOUND.items() if name in wrong), ACCEPTED)
 
 
 def asked(dice: Dice, shape: Shape, controls: Sequence[int], defects: Collection[str]) -> Tuple[int, int, int]:
@@ -297,7 +305,7 @@ def parabolas(script: Script) -> None:
     """Spans of each basis that bend alike all along, at the most that is flat after so many cuts; one axis past it."""
     dice = script.dice
     for basis in ALL_BASES:
-        shape = Shape(basis, dice.below(DEEPEST + 1), SPAN_RECORDS)
+        shape = Shape(basis, dice.below(DEEPEST_BEFORE + 1), SPAN_RECORDS)
         for depth in (1, FINEST):
             tolerance, cuts = 3 * dice.between(1, 20), 2 ** depth - 1
             bend = flattest(tolerance, depth)
@@ -368,19 +376,19 @@ def roughest(script: Script) -> None:
 
 
 def depths(script: Script) -> None:
-    """Each depth that a shape may have, over one outline: all come out alike; and the first past them."""
+    """Each depth up to the deepest before, and the next, over one outline: all come out alike."""
     dice = script.dice
     for basis in ALL_BASES:
         shape, controls = any_outline(dice, basis, 40_000)
         tolerance = dice.between(30, 300)
         came = lay_for(script, shape, controls, tolerance)
-        for depth in range(DEEPEST + 1):
+        for depth in range(DEEPEST_BEFORE + 1):
             script.shape(shape._replace(depth=depth))
             script.junk_points(1)
             assert cut(script, tolerance, ANY_CUTS).outcome() == came.outcome()
-        script.shape(shape._replace(depth=DEEPEST + 1))
+        script.shape(shape._replace(depth=DEEPEST_BEFORE + 1))
         script.say(trials.CUT, tolerance, ANY_CUTS)
-        assert script.last == refusal.DEPTH
+        assert script.lines == [came.line()]
 
 
 def roundings(script: Script) -> None:

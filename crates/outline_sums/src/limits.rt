@@ -11,9 +11,10 @@ use curve::DEEPEST;
 use curve::LIMIT;
 use shape::MOST_RECORDS;
 
-// The deepest and one more; the most records, 5 and 2^32; the farthest coordinate and one more.
+// Depth 6, the deepest and one more; the most records, 5 and 2^32; the farthest coordinate and one more.
 pub(crate) fn put_limits(text: &mut Text, at: usize) -> usize {
-    let deepest = put_last(text, at, DEEPEST, 4, false);
+    let deep = put_last(text, at, 6, 4, false);
+    let deepest = put_last(text, deep, DEEPEST, 4, false);
     let too_deep = put_last(text, deepest, DEEPEST + 1, 4, false);
     let past_counts = put_counts(text, too_deep);
     let farthest = put_last(text, past_counts, 1, LIMIT, true);
