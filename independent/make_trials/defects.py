@@ -24,7 +24,8 @@ OFFERED = {trials.PREVIEW: (BEZIER,), trials.INSERT: BASES_THAT_GROW, trials.REM
 CHANGE = {trials.INSERT: 1, trials.REMOVE: -1}
 FULL = {trials.INSERT: MOST_RECORDS, trials.REMOVE: SPAN_RECORDS}
 
-TOO_DEEP = (DEEPEST_BEFORE + 1, DEEPEST_BEFORE + 2, 32, 64, 2 ** 32 - 1)
+# Past the deepest before: the first two are good depths by now, for which the lists lent here are too short.
+DEEP = (DEEPEST_BEFORE + 1, DEEPEST_BEFORE + 2, 32, 64, 2 ** 32 - 1)
 NO_BASIS = (0, HERMITE + 1, 256, 2 ** 32 - 1)
 COUNTS = (0, 1, 2, 3, 5, 6, 9, MOST_RECORDS - 1, MOST_RECORDS + 1, MOST_RECORDS + 3, 2 ** 32 - 1)
 
@@ -45,7 +46,7 @@ def bad_shape(dice: Dice, shape: Shape, defects: Defects) -> Shape:
     if "count" in defects:
         shape = shape._replace(count=dice.pick([n for n in COUNTS if not count_allowed(shape._replace(count=n))]))
     if "depth" in defects:
-        shape = shape._replace(depth=dice.pick(TOO_DEEP))
+        shape = shape._replace(depth=dice.pick(DEEP))
     if "basis" in defects:
         shape = shape._replace(basis=dice.pick(NO_BASIS))
     return shape
