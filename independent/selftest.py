@@ -647,6 +647,7 @@ class Trials(unittest.TestCase):
     def test_bad_records(self):
         lend, show = encode(trials.LEND, (8, 2, 2, JUNK)), encode(trials.SHOW_POINTS, ())
         for bad in (encode(7, ()), encode(0, ()), encode(trials.LEND, (161,)), encode(trials.LEND, (-1,)),
+                    encode(trials.LEND, (0, 33_001)), encode(trials.LEND, (0, 0, 11_001)),
                     encode(trials.SET_CONTROL, (8, 0)), encode(trials.SET_POINT, (0, 2 ** 31)),
                     encode(trials.MORE_FILE, (41,)), encode(trials.MORE_FILE, (0,)),
                     encode(trials.CUT, (-1, 0)), encode(trials.CUT, (0, -1)),
@@ -654,6 +655,11 @@ class Trials(unittest.TestCase):
                     encode(trials.SET_STATE, (0, 0, 0, 0, 0, 2)), encode(trials.SET_SHAPE, (1, 2 ** 32, 4))):
             self.assertEqual(list(trials.play(lend + show + bad + show)), [f"{JUNK} {JUNK}", "bad record 2"])
         self.assertEqual(list(trials.play(lend + show[:-1])), ["bad record 1"])
+
+    def test_longest_lists(self):
+        shows = [encode(op, ()) for op in (trials.SHOW_CONTROLS, trials.SHOW_POINTS, trials.SHOW_PREVIEW)]
+        shown = trials.play(encode(trials.LEND, (160, 33_000, 11_000, -2 ** 31)) + b"".join(shows))
+        self.assertEqual([len(line.split()) for line in shown], [160, 33_000, 11_000])
 
     def test_shows(self):
         file = encode(trials.SHOW_CONTROLS, ()) + encode(trials.LEND, (1, 0, 2, -1)) + encode(trials.SHOW_PREVIEW, ())

@@ -22,7 +22,8 @@ FILE_BYTES_AT = 16
 DOUBLE, PATTERN = struct.Struct("<d"), struct.Struct("<Q")
 
 MOST_CONTROLS = 160
-MOST_POINTS = 8000
+MOST_POINTS = 33_000
+MOST_PREVIEW = 11_000
 MOST_FILE = 800
 MOST_MORE = 40
 
@@ -92,7 +93,7 @@ class Bench:
     def lend(self, controls: int, points: int, preview: int, fill: int, *_: int) -> Lines:
         self.controls = [signed_32(fill)] * fit(controls, 0, MOST_CONTROLS)
         self.points = [fill] * fit(points, 0, MOST_POINTS)
-        self.preview = [float(fill)] * fit(preview, 0, MOST_POINTS)
+        self.preview = [float(fill)] * fit(preview, 0, MOST_PREVIEW)
         return []
 
     def set_shape(self, basis: int, depth: int, count: int, *_: int) -> Lines:

@@ -28,7 +28,9 @@ const TRIAL: usize = 56;
 // The longest lists, and the longest file.
 const LONGEST_CONTROLS: usize = 160;
 
-pub(crate) const LONGEST_POINTS: usize = 8000;
+pub(crate) const LONGEST_POINTS: usize = 33000;
+
+pub(crate) const LONGEST_PREVIEW: usize = 11000;
 
 const LONGEST_FILE: usize = 800;
 
@@ -37,7 +39,7 @@ type Controls = [i32; LONGEST_CONTROLS];
 
 type Points = [i32; LONGEST_POINTS];
 
-type Preview = [f64; LONGEST_POINTS];
+type Preview = [f64; LONGEST_PREVIEW];
 
 type File = [u8; LONGEST_FILE];
 
@@ -218,7 +220,7 @@ fn play_all(controls: &mut Controls, points: &mut Points, preview: &mut Preview,
 fn main() {
     let mut controls = [0i32; LONGEST_CONTROLS];
     let mut points = [0i32; LONGEST_POINTS];
-    let mut preview = [0.0f64; LONGEST_POINTS];
+    let mut preview = [0.0f64; LONGEST_PREVIEW];
     let mut file = [0u8; LONGEST_FILE];
     play_all(&mut controls, &mut points, &mut preview, &mut file);
 }

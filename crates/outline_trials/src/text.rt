@@ -1,5 +1,6 @@
 // The lines that a trial writes, each built in a text and sent whole. Each call answers whether its line was written.
 use crate::LONGEST_POINTS;
+use crate::LONGEST_PREVIEW;
 use console::add_naturals;
 use console::add_numbers;
 use console::add_patterns;
@@ -11,10 +12,12 @@ use console::tell;
 use console::write_output;
 use shape::Refusal;
 
-// Room for a line of a few numbers, and for a line of all numbers of the longest list: each of up to 20 digits with one character after it, and one at the end.
+// Room for a line of a few numbers, for one of all numbers of the longest list, and for one of the longest preview: a number has a sign and up to 10 digits, a pattern up to 20 digits, and each has one character after it.
 const SHORT: usize = 160;
 
-const LONG: usize = 21 * LONGEST_POINTS + 1;
+const NUMBERS: usize = 12 * LONGEST_POINTS;
+
+const PATTERNS: usize = 21 * LONGEST_PREVIEW;
 
 // Ends the line at a place of the text, and writes it.
 fn send(text: &mut [u8], at: usize) -> bool {
@@ -38,7 +41,7 @@ pub(crate) fn say_refusal(refusal: Refusal) -> bool {
 
 // The line of a list.
 pub(crate) fn say_numbers(numbers: &[i32]) -> bool {
-    let mut text = [0u8; LONG];
+    let mut text = [0u8; NUMBERS];
     let end = add_numbers(&mut text, 0, numbers);
     send(&mut text, end)
 }
@@ -54,7 +57,7 @@ pub(crate) fn say_state(count: usize, numbers: &[i32]) -> bool {
 
 // The line of a list of doubles.
 pub(crate) fn say_patterns(doubles: &[f64]) -> bool {
-    let mut text = [0u8; LONG];
+    let mut text = [0u8; PATTERNS];
     let end = add_patterns(&mut text, 0, doubles);
     send(&mut text, end)
 }
