@@ -21,6 +21,7 @@ from curve import cubic, exact_outline, nearest, powers, product  # noqa: E402
 from drawing import NOTHING_DRAWN, State, Step, micrometres, take  # noqa: E402
 from edits import BASES_THAT_GROW, insert, move, remove  # noqa: E402
 from make_trials import defects, drawings, edits, exact, files  # noqa: E402
+from make_trials.depths import refusals as too_deep  # noqa: E402
 from make_trials.dice import ALL_BASES, Dice  # noqa: E402
 from make_trials.halves import ALL_SIDES, AXES, mirrored, sides  # noqa: E402
 from make_trials.script import ACCEPTED, CALLS, Script, encode, file_of  # noqa: E402
@@ -640,9 +641,9 @@ class WatchedScript(Script):
 class Trials(unittest.TestCase):
     def test_refusals_change_nothing(self):
         script = WatchedScript(SEED)
-        for section in (defects.any_defects, edits.rooms, drawings.states, files.files, refusals):
+        for section in (defects.any_defects, edits.rooms, drawings.states, files.files, refusals, too_deep):
             section(script)
-        self.assertGreater(sum(times for (_, number), times in script.tally.items() if number != ACCEPTED), 300)
+        self.assertGreater(sum(times for (_, number), times in script.tally.items() if number != ACCEPTED), 500)
 
     def test_bad_records(self):
         lend, show = encode(trials.LEND, (8, 2, 2, JUNK)), encode(trials.SHOW_POINTS, ())

@@ -3,7 +3,7 @@
 from collections import Counter
 
 import refusal
-from make_trials import defects, drawings, edits, exact, files, halves, outlines, tolerance
+from make_trials import defects, depths, drawings, edits, exact, files, halves, outlines, tolerance
 from make_trials.script import Script
 
 SEED = 0x0123_4567_89AB_CDEF
@@ -22,6 +22,10 @@ SECTIONS = (
     tolerance.outlines, tolerance.refusals, tolerance.rooms, tolerance.numbers, tolerance.rules, tolerance.walks,
     tolerance.flat_spans, tolerance.thresholds, tolerance.parabolas, tolerance.all_cut, tolerance.longest,
     tolerance.lines, tolerance.roughest, tolerance.depths, tolerance.roundings, tolerance.figures,
+    depths.every_way, depths.found_again, depths.at_halves, depths.figures, depths.longest, depths.longest_list,
+    depths.views, depths.previews, depths.longest_preview, depths.edits, depths.run_of_edits, depths.longest_edits,
+    depths.refusals, depths.by_tolerance, depths.no_deeper, depths.refusals_by_tolerance,
+    depths.files, depths.longest_listing, depths.damaged_files,
 )
 
 
