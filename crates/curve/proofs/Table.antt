@@ -1,4 +1,4 @@
--- The table of weights. Row i·2^(6-k) serves depth k: its sum is that of depth k, the cube of 2^(6-k) times as large. And the four numbers read for a row, two of them in the mirrored
+-- The table of weights. Row i·2^(8-k) serves depth k: its sum is that of depth k, the cube of 2^(8-k) times as large. And the four numbers read for a row, two of them in the mirrored
 -- row, are the published weights there.
 use mathlib.Core.Path.{_≡_, sym, ap, _∙_}
 use Prim.Native.Nat.{ℕ, zero, suc, _+_, _*_, _-_, _/_, _%_, _^_, _≤_, _<_}
@@ -34,7 +34,7 @@ rows-all k b = ap (λ (n : ℕ). 2 ^ n) whole ∙ pow-add 2 k (deepest - k)
     whole : deepest ≡ k + (deepest - k)
     whole = omega arith
 
--- The table's row of depth k gives depth k's sum, 2^(3(6-k)) times as large and exactly so.
+-- The table's row of depth k gives depth k's sum, 2^(3(8-k)) times as large and exactly so.
 pub by-table : (k : ℕ) → k ≤ deepest → (q : Four) (j : ℕ) → weighted q (pos (row k j)) (pos (2 ^ deepest)) ≡ pos (2 ^ (3 * (deepest - k))) *ℤ weighted q (pos j) (pos (2 ^ k))
 unfolding row cube
 by-table k b q j =
@@ -100,7 +100,7 @@ row-entry m r b k =
     ∙ ap (λ x. nth (weights x (pos (2 ^ deepest))) (3 - r)) (pos-less (2 ^ deepest) m b)
     ∙ sym (weights-mirror r k (pos m) (pos (2 ^ deepest))))
 
--- The four numbers read for a row sum to 64^3 = 262,144, for every row.
+-- The four numbers read for a row sum to 256^3 = 2^24, for every row.
 pub row-sum : (m : ℕ) → m ≤ 2 ^ deepest
     → getD weightTable (entryOf m 0) (pos 0) +ℤ getD weightTable (entryOf m 1) (pos 0) +ℤ getD weightTable (entryOf m 2) (pos 0) +ℤ getD weightTable (entryOf m 3) (pos 0) ≡ pos (2 ^ mostBits)
 unfolding nth weights

@@ -17,7 +17,7 @@ use curve::Four;
 use curve::MOST_STEPS;
 use curve::weights::weighted_sum;
 
-// The sum of a span at a row of the table that its depth uses: the row gives it 2^(3(6 - depth)) times as large, so that nothing is lost by the shift.
+// The sum of a span at a row of the table that its depth uses: the row gives it 2^(3(8 - depth)) times as large, so that nothing is lost by the shift.
 fn table_sum(table: &[i32], q: Four, depth: usize, row: usize) -> i64
     requires { ⌜ (now table ≡ weightTable) × Inside widest q ⌝ }
     requires { ⌜ (depth ≤ deepest) × (row ≤ 2 ^ deepest) × (row % apart depth ≡ 0) ⌝ }

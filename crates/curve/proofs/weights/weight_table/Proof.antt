@@ -1,4 +1,4 @@
--- The constant is the rule's list: antt computes the rule at all 130 entries and finds the same numbers.
+-- The constant is the rule's list: antt computes the rule at all 514 entries and finds the same numbers.
 use mathlib.Core.Path.{refl}
 use Rattle.curve.specs.Tab.{tab}
 use Rattle.curve.specs.Published.{weights}

@@ -1,4 +1,4 @@
--- At most 64 spans of at most 64 steps.
+-- At most 64 spans of at most 256 steps.
 use mathlib.Core.Path.{ap}
 use Prim.Native.Nat.{_+_, _*_, _^_, _≤_}
 use native.Mathlib.Nat.{mul-le-mul}
