@@ -4,5 +4,6 @@ pub mod Pairs
 pub mod Halves
 pub mod Steps
 pub mod Numbers
+pub mod Alone
 pub mod Drawables
 pub mod Filled
