@@ -7,8 +7,10 @@ use Rattle.listing.proofs.number.put_natural.Kinds as put-natural
 use Rattle.listing.proofs.number.put_natural.Reads as put-natural-reads
 use Rattle.listing.proofs.outline.list_chosen.Kinds as list-chosen
 use Rattle.listing.proofs.outline.list_chosen.Reads as list-chosen-reads
-use Rattle.listing.proofs.outline.list_outline.Kinds as list-outline
-use Rattle.listing.proofs.outline.list_outline.Reads as list-outline-reads
+use Rattle.listing.proofs.outline.list_heading.Kinds as list-heading
+use Rattle.listing.proofs.outline.list_heading.Reads as list-heading-reads
+use Rattle.listing.proofs.outline.list_points.Kinds as list-points
+use Rattle.listing.proofs.outline.list_points.Reads as list-points-reads
 use Rattle.listing.proofs.refusal.list_refusal.Kinds as list-refusal
 use Rattle.listing.proofs.refusal.list_refusal.Reads as list-refusal-reads
 use Rattle.listing.proofs.word.put_word.Kinds as put-word
@@ -29,10 +31,15 @@ put-decimal-unique κs a x y v w p q =
     let same = p ∙ sym q in
     (λ i. same i .answer, λ i. (same i .held, (tt, (tt, tt))))
 
-pub list-outline-unique : Unique 2 list-outline.ps list-outline.r list-outline-reads.Post
-list-outline-unique κs a x y v w p q =
+pub list-heading-unique : Unique 1 list-heading.ps list-heading.r list-heading-reads.Post
+list-heading-unique κs a x y v w p q =
     let same = p ∙ sym q in
-    (λ i. same i .answer, λ i. (same i .held, (tt, (tt, (tt, (tt, (tt, tt)))))))
+    (λ i. same i .answer, λ i. (same i .held, (tt, (tt, (tt, (tt, tt))))))
+
+pub list-points-unique : Unique 2 list-points.ps list-points.r list-points-reads.Post
+list-points-unique κs a x y v w p q =
+    let same = p ∙ sym q in
+    (λ i. same i .answer, λ i. (same i .held, (tt, (tt, (tt, tt)))))
 
 pub list-chosen-unique : Unique 2 list-chosen.ps list-chosen.r list-chosen-reads.Post
 list-chosen-unique κs a x y v w p q =

@@ -39,6 +39,10 @@ pointLines number [] = []
 pointLines number (x ∷ []) = []
 pointLines number (x ∷ y ∷ points) = pointLine number x y ++ pointLines (suc number) points
 
+-- the first line of an outline's listing
+abbrev pub headingText : ℕ → ℕ → ℕ → ℕ → List ℕ
+headingText basis depth spans points = numbersLine (basis ∷ depth ∷ spans ∷ points ∷ [])
+
 -- the numbers of a first line, and points as one list, x then y
 abbrev pub textUnder : List ℕ → List ℤ → List ℕ
 textUnder numbers points = numbersLine numbers ++ pointLines 0 points
@@ -66,9 +70,6 @@ listedBy text lent points count =
     cond (leb (2 * count) (length points))
     (written lent 0 (text (take (2 * count) points)))
     (outcome Full lent)
-
-abbrev pub listed : List ℕ → ℕ → ℕ → ℕ → List ℤ → ℕ → Outcome Put (List ℕ)
-listed lent basis depth spans points count = listedBy (outlineText basis depth spans) lent points count
 
 abbrev pub listedChosen : List ℕ → ℕ → ℕ → ℕ → List ℤ → ℕ → ℕ → Outcome Put (List ℕ)
 listedChosen lent basis tolerance spans points count cuts = listedBy (chosenText basis tolerance spans cuts) lent points count

@@ -14,7 +14,8 @@ mod word;
 pub use number::put_decimal;
 pub use number::put_natural;
 pub use outline::list_chosen;
-pub use outline::list_outline;
+pub use outline::list_heading;
+pub use outline::list_points;
 pub use refusal::list_refusal;
 pub use word::put_word;
 

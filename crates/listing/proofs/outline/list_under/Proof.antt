@@ -4,12 +4,11 @@ use mathlib.Core.List.{List, _++_}
 use mathlib.Core.Path.{_≡_, _∙_}
 use native.Mathlib.Omega.{arith}
 use borrow.Author.Needs.{needs}
-use lib.ListN.{length, length-append}
-use Rattle.listing.specs.Listing.{numbersLine, textUnder}
+use lib.ListN.{length, length-append, take}
+use Rattle.listing.specs.Listing.{numbersLine, pointLines, textUnder}
 use Rattle.listing.proofs.Fitting.{stands, stays}
 use Rattle.listing.proofs.Laying.{then}
 use Rattle.listing.proofs.Listed.{too-few, in-full}
-use Rattle.listing.proofs.Points.{from}
 use Rattle.listing.proofs.outline.list_under.Statement.{statement}
 use Rattle.listing.proofs.outline.list_under.Tie as tie
 
@@ -17,7 +16,7 @@ abbrev Heading : tie.Start → List ℕ
 Heading s = numbersLine (s .args .heading .now)
 
 abbrev Lines : tie.Start → List ℕ
-Lines s = from (s .args .points .now) (s .args .count) 0
+Lines s = pointLines 0 (take (2 * s .args .count) (s .args .points .now))
 
 -- the function's entry, from behind the second test
 abbrev entry : tie.After-points-fit → tie.Start
@@ -50,7 +49,7 @@ write-numbers-requires c κs = omega (arith, both (entry (c .before .before)), r
 write-points-requires : tie.Need-write-points-requires
 write-points-requires c κs =
     let w = c .before .before .before in
-    (enough (w .before .before .before), omega (arith, both (entry (w .before .before .before)), room (w .before .before), w .write-numbers .ensures .past, w .write-numbers .kept .0))
+    (omega arith, (enough (w .before .before .before), omega (arith, both (entry (w .before .before .before)), room (w .before .before), w .write-numbers .ensures .past, w .write-numbers .kept .0)))
 
 same-length : tie.Need-same-length
 same-length c = search needs
