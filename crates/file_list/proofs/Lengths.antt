@@ -1,5 +1,5 @@
--- The text of a file is never longer than the room for the longest: a heading has at most 22 characters, each point a line of at most 24, since its number has five digits and
--- its coordinates seven and a sign; and the line of a refusal has at most 14.
+-- No text is longer than the room for the longest: a heading has at most 21 characters, each point a line of at most 24, since its number has five digits and its coordinates seven and a
+-- sign; and the line of a refusal has at most 14.
 use mathlib.Core.Path.{_≡_}
 use mathlib.Core.List.{List, [], _∷_, _++_}
 use Prim.Native.Nat.{ℕ, suc, _+_, _*_, _/_, _^_, _≤_, _<_}
@@ -7,9 +7,11 @@ use native.Mathlib.Omega.{arith}
 use lib.IntN.{ℤ, pos, negsuc, natAbs}
 use lib.ListN.{length, length-append}
 use Rattle.listing.specs.Decimal.{natural, decimal}
-use Rattle.listing.specs.Listing.{space, newline, numbersLine, pointLine, pointLines, textUnder, outlineText, chosenText, refusalText}
+use Rattle.listing.specs.Listing.{space, newline, numbersLine, headingText, pointLine, pointLines, chosenText, refusalText}
 use Rattle.listing.proofs.Digits.{at-most}
+use Rattle.pieces.specs.Tree.{finest}
 use Rattle.file_list.specs.Files.{mostListed, mostHeading, mostText}
+use Rattle.file_list.specs.Parts.{spanPoints, mostPart}
 
 decimal-at-most : (k : ℕ) (z : ℤ) → natAbs z < 10 ^ suc k → length (decimal z) ≤ suc (suc k)
 decimal-at-most k (pos n) h = omega (arith, at-most k n h)
@@ -63,25 +65,25 @@ refusal-length a b few low =
     let last = natural b ++ (newline ∷ []) in
     omega (arith, word-length (natural a) space last, word-length (natural b) newline [], at-most 1 a few, at-most 1 b low)
 
--- points under a heading
-text-length : (heading : List ℕ) (points : List ℤ) → length (numbersLine heading) ≤ mostHeading → length points ≤ 2 * mostListed → Small points → length (textUnder heading points) ≤ mostText
-text-length heading points short few near = omega (arith, length-append (numbersLine heading) (pointLines 0 points), point-lines 0 points (omega arith) near)
+-- the first line of an outline's listing
+pub heading-length : (b k s n : ℕ) → b < 10 → k < 10 → s < 10 ^ 2 → n < 10 ^ 5 → length (headingText b k s n) ≤ mostPart
+heading-length b k s n small shallow short few =
+    omega (arith, first-number 0 b k (s ∷ n ∷ []) small, first-number 0 k s (n ∷ []) shallow, first-number 1 s n [] short, last-number 4 n few)
 
-module _ (b s : ℕ) (points : List ℤ) (small : b < 10) (short : s < 10 ^ 2) (few : length points ≤ 2 * mostListed) (near : Small points) where
-  -- how many points a heading says there are
+-- and the lines of a span's points
+pub span-length : (i : ℕ) (points : List ℤ) → 2 * i + length points ≤ 2 * 10 ^ 5 → length points ≤ 2 * spanPoints → Small points → length (pointLines i points) ≤ mostPart
+span-length i points low few near = omega (arith, point-lines i points low near)
+
+-- the listing of chosen points
+module _ (b s : ℕ) (points : List ℤ) (small : b < 10) (short : s < 10 ^ 2) (few : length points ≤ 2 * mostListed finest) (near : Small points) where
+  -- how many points the heading says there are
   abbrev n : ℕ
   n = length points / 2
-
-  pub outline-length : (k : ℕ) → k < 10 → length (outlineText b k s points) ≤ mostText
-  unfolding outlineText
-  outline-length k shallow =
-      text-length (b ∷ k ∷ s ∷ n ∷ []) points
-      (omega (arith, first-number 0 b k (s ∷ n ∷ []) small, first-number 0 k s (n ∷ []) shallow, first-number 1 s n [] short, last-number 4 n (omega arith)))
-      few near
 
   pub chosen-length : (t c : ℕ) → t < 10 ^ 5 → c < 10 ^ 4 → length (chosenText b t s c points) ≤ mostText
   unfolding chosenText
   chosen-length t c fine sparse =
-      text-length (b ∷ t ∷ s ∷ n ∷ c ∷ []) points
-      (omega (arith, first-number 0 b t (s ∷ n ∷ c ∷ []) small, first-number 4 t s (n ∷ c ∷ []) fine, first-number 1 s n (c ∷ []) short, first-number 4 n c [] (omega arith), last-number 3 c sparse))
-      few near
+      let heading = b ∷ t ∷ s ∷ n ∷ c ∷ [] in
+      let short-heading : length (numbersLine heading) ≤ mostHeading =
+      omega (arith, first-number 0 b t (s ∷ n ∷ c ∷ []) small, first-number 4 t s (n ∷ c ∷ []) fine, first-number 1 s n (c ∷ []) short, first-number 3 n c [] (omega arith), last-number 3 c sparse) in
+      omega (arith, length-append (numbersLine heading) (pointLines 0 points), point-lines 0 points (omega arith) near, short-heading)

@@ -1,5 +1,9 @@
 pub mod Examples
 pub mod Texts
+pub mod EachPart
+pub mod OneSpan
+pub mod Cases
+pub mod Joined
 pub mod Read
 pub mod Lengths
 pub mod Small

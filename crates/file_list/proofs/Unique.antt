@@ -2,15 +2,20 @@
 -- are the same, since it equates both with one reading.
 use mathlib.Core.Path.{sym, _∙_}
 use Rattle.whole.specs.Unique.{Unique}
-use Rattle.file_list.proofs.cut_file.Kinds as cut-file
-use Rattle.file_list.proofs.cut_file.Reads as cut-file-reads
-use Rattle.file_list.proofs.list_file.Kinds as list-file
-use Rattle.file_list.proofs.list_file.Reads as list-file-reads
+use Rattle.file_list.proofs.cut.cut_file.Kinds as cut-file
+use Rattle.file_list.proofs.cut.cut_file.Reads as cut-file-reads
+use Rattle.file_list.proofs.parts.list_part.Kinds as list-part
+use Rattle.file_list.proofs.parts.list_part.Reads as list-part-reads
+use Rattle.file_list.proofs.parts.parts_of.Kinds as parts-of
+use Rattle.file_list.proofs.parts.parts_of.Reads as parts-of-reads
 
-pub list-file-unique : Unique 2 list-file.ps list-file.r list-file-reads.Post
-list-file-unique κs a x y v w p q =
+pub parts-of-unique : Unique 0 parts-of.ps parts-of.r parts-of-reads.Post
+parts-of-unique κs a x y v w p q = (p ∙ sym q, λ i. (tt, tt))
+
+pub list-part-unique : Unique 2 list-part.ps list-part.r list-part-reads.Post
+list-part-unique κs a x y v w p q =
     let same = p .1 ∙ sym (q .1) in
-    (λ i. same i .answer, λ i. (tt, (same i .held, tt)))
+    (λ i. same i .answer, λ i. (tt, (tt, (tt, (same i .held, tt)))))
 
 pub cut-file-unique : Unique 2 cut-file.ps cut-file.r cut-file-reads.Post
 cut-file-unique κs a x y v w p q =

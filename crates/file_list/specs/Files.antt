@@ -14,6 +14,7 @@ use Rattle.shape.specs.Refusals.{planOf}
 use Rattle.outline.specs.declared.Drawn.{Drawn}
 use Rattle.outline.specs.declared.Drawn.the-variants as drawn
 use Rattle.outline.specs.Outline.{draws}
+use Rattle.pieces.specs.Tree.{finest}
 use Rattle.tolerance.specs.declared.Chosen.{Chosen}
 use Rattle.tolerance.specs.declared.Chosen.the-variants as chosen
 use Rattle.tolerance.specs.Reading.{chooses}
@@ -24,23 +25,21 @@ use Rattle.listing.specs.declared.Put.{Put}
 use Rattle.listing.specs.declared.Put.the-variants.{End, Full}
 use Rattle.listing.specs.Listing.{outlineText, chosenText, refusalText}
 use Rattle.listing.specs.Written.{written}
-use Rattle.file_list.specs.declared.Spacing.{Spacing}
-use Rattle.file_list.specs.declared.Spacing.the-variants.{Even, ByTolerance}
 
 -- The most spans of an outline: of a B-spline or a cardinal, each record but three starts one.
 abbrev pub mostSpans : ℕ
 mostSpans = mostRecords - 3
 
--- And its points at the deepest.
-abbrev pub mostListed : ℕ
-mostListed = mostSpans * 2 ^ deepest + 1
+-- And its points at a depth.
+abbrev pub mostListed : ℕ → ℕ
+mostListed k = mostSpans * 2 ^ k + 1
 
--- The lists that are lent to the calls, zeros alone: room for the most records, and for the most points.
+-- The lists that are lent to the calls, zeros alone: room for the most records, and for the most points at a depth.
 abbrev pub controls : List ℤ
 controls = replicate (2 * mostRecords) (pos 0)
 
-abbrev pub points : List ℤ
-points = replicate (2 * mostListed) (pos 0)
+abbrev pub points : ℕ → List ℤ
+points k = replicate (2 * mostListed k) (pos 0)
 
 -- The text of a refusal.
 abbrev pub refusedText : Refusal → List ℕ
@@ -56,37 +55,39 @@ abbrev pub cutText : Shape → ℕ → List ℤ → Chosen → List ℕ
 cutText s tolerance held (chosen.Done f) = chosenText (s .basis) tolerance (planOf s .spans) (f .cuts) (take (2 * f .points) held)
 cutText s tolerance held (chosen.Refused r) = refusedText r
 
--- The text of a shape and its controls, by how the steps are spaced.
-unfoldable pub shapeText : Spacing → Shape → List ℤ → List ℕ
-shapeText Even s held = let o = draws s held points in drawnText s (o .held) (o .answer)
-shapeText (ByTolerance tolerance most) s held = let o = chooses s tolerance most held points in cutText s tolerance (o .held) (o .answer)
+-- The text of a shape and its controls, with even steps, and with steps chosen by tolerance.
+unfoldable pub evenText : Shape → List ℤ → List ℕ
+evenText s held = let o = draws s held (points deepest) in drawnText s (o .held) (o .answer)
 
--- The text of what reading a file came to: its shape's and controls', or the refusal's.
-abbrev pub readText : Spacing → List ℤ → Reading → List ℕ
-readText spacing held (read.Read s) = shapeText spacing s held
-readText spacing held (read.Refused r) = refusedText r
+unfoldable pub byTolerance : ℕ → ℕ → Shape → List ℤ → List ℕ
+byTolerance tolerance most s held = let o = chooses s tolerance most held (points finest) in cutText s tolerance (o .held) (o .answer)
+
+-- The text of what reading a file came to, where `text` makes a shape's: its shape's and controls', or the refusal's.
+abbrev pub readText : (Shape → List ℤ → List ℕ) → List ℤ → Reading → List ℕ
+readText text held (read.Read s) = text s held
+readText text held (read.Refused r) = refusedText r
 
 -- The text of a file.
-unfoldable pub textOf : Spacing → List ℕ → List ℕ
-textOf spacing file = let o = reading file controls in readText spacing (o .held) (o .answer)
+unfoldable pub textBy : (Shape → List ℤ → List ℕ) → List ℕ → List ℕ
+textBy text file = let o = reading file controls in readText text (o .held) (o .answer)
 
 abbrev pub fileText : List ℕ → List ℕ
-fileText file = textOf Even file
+fileText file = textBy evenText file
 
 abbrev pub cutFileText : ℕ → ℕ → List ℕ → List ℕ
-cutFileText tolerance most file = textOf (ByTolerance tolerance most) file
+cutFileText tolerance most file = textBy (byTolerance tolerance most) file
 
--- The numbers of the longer heading, that of chosen steps, have at most 1, 5, 2, 5 and 4 digits, and a character after each.
+-- The numbers of the longer heading, that of chosen steps, have at most 1, 5, 2, 4 and 4 digits, and a character after each.
 abbrev pub mostHeading : ℕ
-mostHeading = 22
+mostHeading = 21
 
 -- A point's number has at most 5 digits and its coordinates of 32 bits 11 characters each, and there is one more after each of the three.
 abbrev pub mostLine : ℕ
 mostLine = 30
 
--- Room for the longest.
+-- Room for the longest listing of chosen steps.
 abbrev pub mostText : ℕ
-mostText = mostHeading + mostLine * mostListed
+mostText = mostHeading + mostLine * mostListed finest
 
 -- Text from the start on counts up to its end; 0 where it did not fit.
 abbrev pub countOf : Put → ℕ
@@ -96,12 +97,6 @@ countOf Full = 0
 abbrev pub counted : Outcome Put (List ℕ) → Outcome ℕ (List ℕ)
 counted o = outcome (countOf (o .answer)) (o .held)
 
--- How many characters were written, and the lent text then: the file's text from its start on, and all past it kept; where it does not fit, nothing.
-unfoldable pub writes : Spacing → List ℕ → List ℕ → Outcome ℕ (List ℕ)
-writes spacing file text = counted (written text 0 (textOf spacing file))
-
-abbrev pub lists : List ℕ → List ℕ → Outcome ℕ (List ℕ)
-lists file text = writes Even file text
-
-abbrev pub cuts : ℕ → ℕ → List ℕ → List ℕ → Outcome ℕ (List ℕ)
-cuts tolerance most file text = writes (ByTolerance tolerance most) file text
+-- How many characters were written of a text, and the lent list then: the text from its start on, and all past it kept; where it does not fit, nothing.
+unfoldable pub writes : List ℕ → List ℕ → Outcome ℕ (List ℕ)
+writes text lent = counted (written lent 0 text)

@@ -9,13 +9,12 @@ use crate::text::say;
 use crate::text::say_numbers;
 use crate::text::say_refusal;
 use crate::text::say_state;
-use console::write_output;
 use drawing::Control;
 use drawing::State;
 use drawing::Stepped;
 use edit::Edited;
-use file_list::MOST_TEXT;
-use file_list::list_file;
+use list_output::Written;
+use list_output::write_file;
 use outline::Drawn;
 use preview::Previewed;
 use record_file::Reading;
@@ -197,7 +196,10 @@ pub(crate) fn read_file(bench: Bench, file: &[u8], controls: &mut [i32]) -> Turn
 
 // The file listed as outline-list does.
 pub(crate) fn show_file(file: &[u8]) -> bool {
-    let mut text = [0u8; MOST_TEXT];
-    let end = list_file(file, &mut text);
-    write_output(&text[..end])
+    let listed = write_file(file);
+    let written = listed.written;
+    match written {
+        Written::All(_) => true,
+        Written::Failed => false,
+    }
 }

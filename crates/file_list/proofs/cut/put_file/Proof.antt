@@ -2,10 +2,11 @@
 use mathlib.Core.Path.{sym, ap, _∙_}
 use Rattle.whole.specs.Outcome.{outcome}
 use Rattle.listing.specs.Written.{written}
+use Rattle.file_list.specs.Files.{byTolerance}
 use Rattle.file_list.proofs.Texts.{unread-text, read-text}
 use borrow.Author.Needs.{needs}
-use Rattle.file_list.proofs.put_file.Statement.{statement}
-use Rattle.file_list.proofs.put_file.Tie as tie
+use Rattle.file_list.proofs.cut.put_file.Statement.{statement}
+use Rattle.file_list.proofs.cut.put_file.Tie as tie
 
 slice-aggregate-read : tie.Need-slice-aggregate-read
 slice-aggregate-read c = search needs
@@ -37,7 +38,7 @@ returns c =
     let got = c .before .before .before .before .before .before .before .before .read in
     let refused = c .before .before .before .before .before .refusal .given in
     c .before .before .put-refusal .ensures
-    ∙ ap (written (a .text .now) 0) (sym (unread-text (a .spacing) (a .file .now) (refused .0 .0) (got .last .1 .0) (sym (got .ensures) ∙ ap (λ r. outcome r (got .last .1 .0)) (refused .1))))
+    ∙ ap (written (a .text .now) 0) (sym (unread-text (byTolerance (a .tolerance) (a .most)) (a .file .now) (refused .0 .0) (got .last .1 .0) (sym (got .ensures) ∙ ap (λ r. outcome r (got .last .1 .0)) (refused .1))))
 
 same-length-2 : tie.Need-same-length-2
 same-length-2 c = search needs
@@ -48,7 +49,7 @@ returns-2 c =
     let got = c .before .before .before .before .before .before .before .before .before .read in
     let shape = c .before .before .before .before .before .before .shape .given in
     c .before .before .put-shape .ensures
-    ∙ ap (written (a .text .now) 0) (sym (read-text (a .spacing) (a .file .now) (shape .0 .0) (got .last .1 .0) (sym (got .ensures) ∙ ap (λ r. outcome r (got .last .1 .0)) (shape .1))))
+    ∙ ap (written (a .text .now) 0) (sym (read-text (byTolerance (a .tolerance) (a .most)) (a .file .now) (shape .0 .0) (got .last .1 .0) (sym (got .ensures) ∙ ap (λ r. outcome r (got .last .1 .0)) (shape .1))))
 
 pub put-file-spec : {M : Type 1} → statement M
 put-file-spec =

@@ -3,10 +3,10 @@ use mathlib.Core.Path.{sym, ap, _∙_}
 use Rattle.shape.specs.declared.Plan.{Plan}
 use Rattle.shape.proofs.Refusals.{sound-plan}
 use Rattle.listing.specs.Written.{written}
-use Rattle.file_list.proofs.Texts.{unsound-text}
+use Rattle.file_list.proofs.Texts.{unsound-cut}
 use borrow.Author.Needs.{needs}
-use Rattle.file_list.proofs.put_shape.Statement.{statement}
-use Rattle.file_list.proofs.put_shape.Tie as tie
+use Rattle.file_list.proofs.cut.put_shape.Statement.{statement}
+use Rattle.file_list.proofs.cut.put_shape.Tie as tie
 
 check-shape-requires : tie.Need-check-shape-requires
 check-shape-requires c κs = search needs
@@ -20,8 +20,8 @@ put-refusal-requires c κs = search needs
 enum-known-plan : tie.Need-enum-known-plan
 enum-known-plan c = search needs
 
-put-outline-requires : tie.Need-put-outline-requires
-put-outline-requires c κs =
+put-chosen-requires : tie.Need-put-chosen-requires
+put-chosen-requires c κs =
     let checked = c .before .before .before .before .check-shape in
     let plan = c .before .before .plan .given in
     ap (λ (p : Plan). p .spans) (sound-plan (c .before .before .before .before .before .before .args .shape) (plan .0 .0) (sym (checked .ensures) ∙ plan .1))
@@ -34,7 +34,7 @@ returns c =
     let a = c .before .before .before .before .before .before .before .before .before .args in
     let checked = c .before .before .before .before .before .before .before .check-shape in
     let refused = c .before .before .before .before .before .refusal .given in
-    c .before .before .put-refusal .ensures ∙ ap (written (a .text .now) 0) (sym (unsound-text (a .spacing) (a .shape) (a .controls .now) (refused .0 .0) (sym (checked .ensures) ∙ refused .1)))
+    c .before .before .put-refusal .ensures ∙ ap (written (a .text .now) 0) (sym (unsound-cut (a .tolerance) (a .most) (a .shape) (a .controls .now) (refused .0 .0) (sym (checked .ensures) ∙ refused .1)))
 
 same-length-2 : tie.Need-same-length-2
 same-length-2 c = search needs
@@ -50,7 +50,7 @@ put-shape-spec =
     enum-known-refusal
     put-refusal-requires
     enum-known-plan
-    put-outline-requires
+    put-chosen-requires
     same-length
     returns
     same-length-2

@@ -7,8 +7,8 @@ use Rattle.listing.specs.Listing.{listedChosen}
 use Rattle.listing.specs.Written.{written}
 use Rattle.file_list.proofs.Texts.{cut-then, listed-cut}
 use borrow.Author.Needs.{needs}
-use Rattle.file_list.proofs.put_chosen.Statement.{statement}
-use Rattle.file_list.proofs.put_chosen.Tie as tie
+use Rattle.file_list.proofs.cut.put_chosen.Statement.{statement}
+use Rattle.file_list.proofs.cut.put_chosen.Tie as tie
 
 slice-aggregate-by-tolerance : tie.Need-slice-aggregate-by-tolerance
 slice-aggregate-by-tolerance c = search needs
