@@ -18,6 +18,7 @@ pub mod Stray
 pub mod Mirror
 -- Record file, and its listing:
 pub mod Listings
+pub mod Depths
 -- Refusal numbers:
 pub mod Refusals
 pub mod Lists

@@ -48,8 +48,10 @@ use Rattle.record_file.proofs.Unique as file
 use Rattle.record_file.proofs.read.Kinds as read-kinds
 use Rattle.record_file.proofs.read.Reads as read-reads
 use Rattle.file_list.proofs.Unique as listings
-use Rattle.file_list.proofs.list_file.Kinds as list-file-kinds
-use Rattle.file_list.proofs.list_file.Reads as list-file-reads
+use Rattle.file_list.proofs.parts_of.Kinds as parts-of-kinds
+use Rattle.file_list.proofs.parts_of.Reads as parts-of-reads
+use Rattle.file_list.proofs.list_part.Kinds as list-part-kinds
+use Rattle.file_list.proofs.list_part.Reads as list-part-reads
 use Rattle.file_list.proofs.cut_file.Kinds as cut-file-kinds
 use Rattle.file_list.proofs.cut_file.Reads as cut-file-reads
 use Rattle.listing.proofs.Unique as listing
@@ -59,8 +61,10 @@ use Rattle.listing.proofs.put_natural.Kinds as put-natural-kinds
 use Rattle.listing.proofs.put_natural.Reads as put-natural-reads
 use Rattle.listing.proofs.put_decimal.Kinds as put-decimal-kinds
 use Rattle.listing.proofs.put_decimal.Reads as put-decimal-reads
-use Rattle.listing.proofs.list_outline.Kinds as list-outline-kinds
-use Rattle.listing.proofs.list_outline.Reads as list-outline-reads
+use Rattle.listing.proofs.list_heading.Kinds as list-heading-kinds
+use Rattle.listing.proofs.list_heading.Reads as list-heading-reads
+use Rattle.listing.proofs.list_points.Kinds as list-points-kinds
+use Rattle.listing.proofs.list_points.Reads as list-points-reads
 use Rattle.listing.proofs.list_chosen.Kinds as list-chosen-kinds
 use Rattle.listing.proofs.list_chosen.Reads as list-chosen-reads
 use Rattle.listing.proofs.list_refusal.Kinds as list-refusal-kinds
@@ -133,8 +137,11 @@ micrometres = doubles.micrometres-unique
 pub read-file : Unique 2 read-kinds.ps read-kinds.r read-reads.Post
 read-file = file.read-unique
 
-pub list-file : Unique 2 list-file-kinds.ps list-file-kinds.r list-file-reads.Post
-list-file = listings.list-file-unique
+pub parts-of : Unique 0 parts-of-kinds.ps parts-of-kinds.r parts-of-reads.Post
+parts-of = listings.parts-of-unique
+
+pub list-part : Unique 2 list-part-kinds.ps list-part-kinds.r list-part-reads.Post
+list-part = listings.list-part-unique
 
 pub cut-file : Unique 2 cut-file-kinds.ps cut-file-kinds.r cut-file-reads.Post
 cut-file = listings.cut-file-unique
@@ -150,8 +157,11 @@ put-natural = listing.put-natural-unique
 pub put-decimal : Unique 1 put-decimal-kinds.ps put-decimal-kinds.r put-decimal-reads.Post
 put-decimal = listing.put-decimal-unique
 
-pub list-outline : Unique 2 list-outline-kinds.ps list-outline-kinds.r list-outline-reads.Post
-list-outline = listing.list-outline-unique
+pub list-heading : Unique 1 list-heading-kinds.ps list-heading-kinds.r list-heading-reads.Post
+list-heading = listing.list-heading-unique
+
+pub list-points : Unique 2 list-points-kinds.ps list-points-kinds.r list-points-reads.Post
+list-points = listing.list-points-unique
 
 pub list-chosen : Unique 2 list-chosen-kinds.ps list-chosen-kinds.r list-chosen-reads.Post
 list-chosen = listing.list-chosen-unique

@@ -2,4 +2,6 @@ pub mod Cases
 pub mod Points
 pub mod Tolerance
 pub mod Stray
+pub mod Listings
+pub mod Depths
 pub mod Sequences
