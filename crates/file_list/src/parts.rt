@@ -103,7 +103,7 @@ fn put_outline_part(shape: Shape, plan: Plan, part: usize, controls: &[i32], tex
     }
 }
 
-// The lines of a span, from its first record on.
+// The lines of a span, from its first record on; none where the list ends before that.
 fn put_span(shape: Shape, plan: Plan, span: usize, controls: &[i32], text: &mut [u8]) -> Put
     requires { ⌜ Good shape plan ⌝ }
     requires { ⌜ span < plan .spans ⌝ }
@@ -117,7 +117,7 @@ fn put_span(shape: Shape, plan: Plan, span: usize, controls: &[i32], text: &mut 
     put_lines(shape, plan, span, &controls[at..], text)
 }
 
-// The span drawn by itself, and the lines of its own points, numbered as in the outline.
+// The span drawn by itself, and the lines of its own points, numbered as in the outline; none where it is refused.
 fn put_lines(shape: Shape, plan: Plan, span: usize, records: &[i32], text: &mut [u8]) -> Put
     requires { ⌜ Good shape plan ⌝ }
     requires { ⌜ span < plan .spans ⌝ }

@@ -1,7 +1,7 @@
 -- What the deepest depth is a part of, and what it is not (document 02, request 10). A point of depth k, and what is left over of it, are the same by the table of any depth from k on; a call whose shape is no
 -- deeper than two builds allow answers the same in both, refusals among them; and what is deeper than a build allows it refuses with 2. So outlines and files up to depth 6 are what they were.
-use mathlib.Core.Bool.{Bool, false}
-use mathlib.Core.List.{List, _∷_, _++_}
+use mathlib.Core.Bool.{Bool, false, cond}
+use mathlib.Core.List.{List, [], _∷_, _++_}
 use mathlib.Core.Logic.{⊎-elim}
 use mathlib.Core.Path.{_≡_, sym, ap, _∙_}
 use Prim.Native.Nat.{ℕ, _+_, _*_, _-_, _^_, _≤_, _<_}
@@ -32,6 +32,8 @@ use Rattle.outline.specs.declared.Drawn.{Drawn}
 use Rattle.outline.specs.declared.Drawn.the-variants as drawn
 use Rattle.outline.specs.Outline as outline
 use Rattle.outline.specs.Outline.{draws}
+use Rattle.outline.specs.View.{emptyPart, outOfSight, partOf}
+use Rattle.outline.proofs.Views.{spanPart}
 use Rattle.outline.proofs.Exactly.{done-none}
 use Rattle.tolerance.specs.declared.Chosen.the-variants as chosen
 use Rattle.tolerance.specs.Reading as choice
@@ -123,6 +125,11 @@ module _ (d : ℕ) (less : d ≤ deepest) (s : Shape) (below : s .depth ≤ d) w
       → callOf d s (preview.laterRows s (planOf s) controls (length points)) (refuses previewed.Refused points) (preview.accepts (planOf s) controls points) ≡ previewing s controls points
   unfolding previewing
   previewed-as-before controls points = same-call d deepest s below now (preview.laterRows s (planOf s) controls (length points)) (refuses previewed.Refused points) (preview.accepts (planOf s) controls points)
+
+  pub viewed-as-before : (t : ℕ) (lent : List ℤ)
+      → callOf d s [] (λ (r : Refusal). emptyPart) (cond (outOfSight (planOf s) t lent) emptyPart (spanPart (planOf s) t)) ≡ partOf s t lent
+  unfolding partOf
+  viewed-as-before t lent = same-call d deepest s below now [] (λ (r : Refusal). emptyPart) (cond (outOfSight (planOf s) t lent) emptyPart (spanPart (planOf s) t))
 
 -- What this build draws at a greater depth, one with less refuses with 2, and keeps the lent points.
 pub older-refuses : (d : ℕ) (s : Shape) (controls lent : List ℤ) (fs : Figures) (held : List ℤ) → draws s controls lent ≡ outcome (drawn.Done fs) held → d < s .depth
