@@ -14,7 +14,7 @@ use Rattle.curve.specs.declared.Four.{Four}
 use Rattle.curve.specs.Four.{dot}
 use Rattle.curve.specs.Published.{cubic, bSplineMatrix}
 use Rattle.curve.specs.BSpline.{order}
-use Rattle.curve.proofs.Reflect.{num, p, i, h, values, cubicᵉ}
+use Rattle.curve.proofs.Reflect.{num, p, i, h, values, matrixᵉ, cubicᵉ}
 
 -- how far the parameter is past knot s + r, in h-ths
 offset : ℕ → Ex
@@ -90,7 +90,7 @@ pub recursion-is-matrix : (s n x : ℕ) → x < n → (q : Four)
 unfolding u r⁰ polynomial offset cubic dot
 recursion-is-matrix s n x below q =
     cong4 (written s n x below q 3 0) (written s n x below q 3 1) (written s n x below q 3 2) (written s n x below q 3 3)
-    ∙ solve (values q (pos x) (pos n)) (polynomial 3 0 ⊗ p .a ⊕ polynomial 3 1 ⊗ p .b ⊕ polynomial 3 2 ⊗ p .c ⊕ polynomial 3 3 ⊗ p .d) (cubicᵉ bSplineMatrix p i h) tt
+    ∙ solve (values q (pos x) (pos n)) (polynomial 3 0 ⊗ p .a ⊕ polynomial 3 1 ⊗ p .b ⊕ polynomial 3 2 ⊗ p .c ⊕ polynomial 3 3 ⊗ p .d) (cubicᵉ (matrixᵉ bSplineMatrix) p i h) tt
   where
     cong4 : {a a′ b b′ c c′ d d′ : ℤ} → a ≡ a′ → b ≡ b′ → c ≡ c′ → d ≡ d′ → a *ℤ q .a +ℤ b *ℤ q .b +ℤ c *ℤ q .c +ℤ d *ℤ q .d ≡ a′ *ℤ q .a +ℤ b′ *ℤ q .b +ℤ c′ *ℤ q .c +ℤ d′ *ℤ q .d
     cong4 e f g k = cc

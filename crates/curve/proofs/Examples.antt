@@ -5,8 +5,8 @@ use Rattle.whole.specs.Nearest.{halfUp, nearest}
 use Rattle.curve.specs.declared.Basis.the-variants.{BSpline}
 use Rattle.curve.specs.Four.{four, dot}
 use Rattle.curve.specs.Published.{weights}
-use Rattle.curve.specs.Span.{sixfoldControls, weighted, point}
+use Rattle.curve.specs.Span.{wholeControls, weighted, point}
 
 pub rounded-once : point BSpline 1 (four (pos 0) (pos 1) (pos 0) (pos 0)) 1 ≡ pos 0
-unfolding point sixfoldControls weighted weights dot nearest halfUp
+unfolding point wholeControls weighted weights dot nearest halfUp
 rounded-once = refl

@@ -5,6 +5,7 @@ pub mod Published
 pub mod BSpline
 pub mod Stride
 pub mod Span
+pub mod Bits
 pub mod Bend
 pub mod Powers
 pub mod Ways

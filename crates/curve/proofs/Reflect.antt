@@ -7,6 +7,7 @@ use Rattle.curve.specs.declared.Four.{Four}
 use Rattle.curve.specs.declared.Basis.{Basis}
 use Rattle.curve.specs.declared.Basis.the-variants.{Bezier, BSpline, Cardinal, Hermite}
 use Rattle.curve.specs.Published.{Matrix}
+use Rattle.curve.specs.Limits.{parameterOf}
 
 -- four expressions
 pub record Fourᵉ : Type 0 where
@@ -22,7 +23,7 @@ fourᵉ a b c d = record { a = a; b = b; c = c; d = d }
 abbrev pub litᵉ : Four → Fourᵉ
 litᵉ w = fourᵉ (lit (w .a)) (lit (w .b)) (lit (w .c)) (lit (w .d))
 
--- The variables of every identity here: four records or controls, then i, then h.
+-- The variables of every identity here: four records or controls, then i, then h; where a basis is named, its parameter after them.
 abbrev pub p : Fourᵉ
 p = fourᵉ (var 0) (var 1) (var 2) (var 3)
 
@@ -32,8 +33,14 @@ i = var 4
 abbrev pub h : Ex
 h = var 5
 
+abbrev pub taut : Ex
+taut = var 6
+
 abbrev pub values : Four → ℤ → ℤ → List ℤ
 values q x y = q .a ∷ q .b ∷ q .c ∷ q .d ∷ x ∷ y ∷ []
+
+abbrev pub valuesOf : Basis → Four → ℤ → ℤ → List ℤ
+valuesOf b q x y = q .a ∷ q .b ∷ q .c ∷ q .d ∷ x ∷ y ∷ pos (parameterOf b) ∷ []
 
 abbrev pub num : ℕ → Ex
 num n = lit (pos n)
@@ -41,14 +48,33 @@ num n = lit (pos n)
 abbrev pub dotᵉ : Fourᵉ → Fourᵉ → Ex
 dotᵉ w q = w .a ⊗ q .a ⊕ w .b ⊗ q .b ⊕ w .c ⊗ q .c ⊕ w .d ⊗ q .d
 
-abbrev pub cubicᵉ : Matrix → Fourᵉ → Ex → Ex → Ex
-cubicᵉ m g x y = x ⊗ x ⊗ x ⊗ dotᵉ (litᵉ (m .cubed)) g ⊕ x ⊗ x ⊗ y ⊗ dotᵉ (litᵉ (m .squared)) g ⊕ x ⊗ y ⊗ y ⊗ dotᵉ (litᵉ (m .single)) g ⊕ y ⊗ y ⊗ y ⊗ dotᵉ (litᵉ (m .constant)) g
+-- a matrix of expressions: of literals, and the cardinal one with the parameter n / m
+pub record Matrixᵉ : Type 0 where
+  pub cubed : Fourᵉ
+  pub squared : Fourᵉ
+  pub single : Fourᵉ
+  pub constant : Fourᵉ
 
-abbrev pub tangentᵉ : Matrix → Fourᵉ → Ex → Ex → Ex
-tangentᵉ m g x y = num 3 ⊗ (x ⊗ x) ⊗ dotᵉ (litᵉ (m .cubed)) g ⊕ num 2 ⊗ (x ⊗ y) ⊗ dotᵉ (litᵉ (m .squared)) g ⊕ y ⊗ y ⊗ dotᵉ (litᵉ (m .single)) g
+abbrev pub matrixᵉ : Matrix → Matrixᵉ
+matrixᵉ m = record { cubed = litᵉ (m .cubed); squared = litᵉ (m .squared); single = litᵉ (m .single); constant = litᵉ (m .constant) }
 
-abbrev pub secondDerivativeᵉ : Matrix → Fourᵉ → Ex → Ex → Ex
-secondDerivativeᵉ m g x y = num 6 ⊗ x ⊗ dotᵉ (litᵉ (m .cubed)) g ⊕ num 2 ⊗ y ⊗ dotᵉ (litᵉ (m .squared)) g
+abbrev pub cardinalᵉ : Ex → Ex → Matrixᵉ
+cardinalᵉ n m =
+    record {
+      cubed = fourᵉ (num 0 ⊖ n) (num 2 ⊗ m ⊖ n) (n ⊖ num 2 ⊗ m) n;
+      squared = fourᵉ (num 2 ⊗ n) (n ⊖ num 3 ⊗ m) (num 3 ⊗ m ⊖ num 2 ⊗ n) (num 0 ⊖ n);
+      single = fourᵉ (num 0 ⊖ n) (num 0) n (num 0);
+      constant = fourᵉ (num 0) m (num 0) (num 0);
+    }
+
+abbrev pub cubicᵉ : Matrixᵉ → Fourᵉ → Ex → Ex → Ex
+cubicᵉ m g x y = x ⊗ x ⊗ x ⊗ dotᵉ (m .cubed) g ⊕ x ⊗ x ⊗ y ⊗ dotᵉ (m .squared) g ⊕ x ⊗ y ⊗ y ⊗ dotᵉ (m .single) g ⊕ y ⊗ y ⊗ y ⊗ dotᵉ (m .constant) g
+
+abbrev pub tangentᵉ : Matrixᵉ → Fourᵉ → Ex → Ex → Ex
+tangentᵉ m g x y = num 3 ⊗ (x ⊗ x) ⊗ dotᵉ (m .cubed) g ⊕ num 2 ⊗ (x ⊗ y) ⊗ dotᵉ (m .squared) g ⊕ y ⊗ y ⊗ dotᵉ (m .single) g
+
+abbrev pub secondDerivativeᵉ : Matrixᵉ → Fourᵉ → Ex → Ex → Ex
+secondDerivativeᵉ m g x y = num 6 ⊗ x ⊗ dotᵉ (m .cubed) g ⊕ num 2 ⊗ y ⊗ dotᵉ (m .squared) g
 
 abbrev pub weightsᵉ : Ex → Ex → Fourᵉ
 weightsᵉ x y = let j = y ⊖ x in fourᵉ (j ⊗ j ⊗ j) (num 3 ⊗ (x ⊗ j ⊗ j)) (num 3 ⊗ (x ⊗ x ⊗ j)) (x ⊗ x ⊗ x)
@@ -56,11 +82,11 @@ weightsᵉ x y = let j = y ⊖ x in fourᵉ (j ⊗ j ⊗ j) (num 3 ⊗ (x ⊗ j 
 abbrev pub weightedᵉ : Fourᵉ → Ex → Ex → Ex
 weightedᵉ q x y = dotᵉ (weightsᵉ x y) q
 
-abbrev pub sixfoldᵉ : Basis → Fourᵉ → Fourᵉ
-sixfoldᵉ Bezier q = fourᵉ (num 6 ⊗ q .a) (num 6 ⊗ q .b) (num 6 ⊗ q .c) (num 6 ⊗ q .d)
-sixfoldᵉ BSpline q = fourᵉ (q .a ⊕ num 4 ⊗ q .b ⊕ q .c) (num 4 ⊗ q .b ⊕ num 2 ⊗ q .c) (num 2 ⊗ q .b ⊕ num 4 ⊗ q .c) (q .b ⊕ num 4 ⊗ q .c ⊕ q .d)
-sixfoldᵉ Cardinal q = fourᵉ (num 6 ⊗ q .b) (num 6 ⊗ q .b ⊕ q .c ⊖ q .a) (num 6 ⊗ q .c ⊖ q .d ⊕ q .b) (num 6 ⊗ q .c)
-sixfoldᵉ Hermite q = fourᵉ (num 6 ⊗ q .a) (num 6 ⊗ q .a ⊕ num 2 ⊗ q .b) (num 6 ⊗ q .c ⊖ num 2 ⊗ q .d) (num 6 ⊗ q .c)
+abbrev pub wholeᵉ : Basis → Fourᵉ → Fourᵉ
+wholeᵉ Bezier q = fourᵉ (num 6 ⊗ q .a) (num 6 ⊗ q .b) (num 6 ⊗ q .c) (num 6 ⊗ q .d)
+wholeᵉ BSpline q = fourᵉ (q .a ⊕ num 4 ⊗ q .b ⊕ q .c) (num 4 ⊗ q .b ⊕ num 2 ⊗ q .c) (num 2 ⊗ q .b ⊕ num 4 ⊗ q .c) (q .b ⊕ num 4 ⊗ q .c ⊕ q .d)
+wholeᵉ (Cardinal c) q = fourᵉ (num 192 ⊗ q .b) (num 192 ⊗ q .b ⊕ taut ⊗ (q .c ⊖ q .a)) (num 192 ⊗ q .c ⊖ taut ⊗ (q .d ⊖ q .b)) (num 192 ⊗ q .c)
+wholeᵉ Hermite q = fourᵉ (num 6 ⊗ q .a) (num 6 ⊗ q .a ⊕ num 2 ⊗ q .b) (num 6 ⊗ q .c ⊖ num 2 ⊗ q .d) (num 6 ⊗ q .c)
 
 abbrev pub firstBendᵉ : Fourᵉ → Ex
 firstBendᵉ q = q .a ⊖ num 2 ⊗ q .b ⊕ q .c

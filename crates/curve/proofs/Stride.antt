@@ -10,7 +10,7 @@ use Rattle.curve.specs.Span.{stride, firstRecord}
 pub stride-bounds : (b : Basis) → (1 ≤ stride b) × (stride b ≤ 3)
 stride-bounds Bezier = (omega arith, omega arith)
 stride-bounds BSpline = (omega arith, omega arith)
-stride-bounds Cardinal = (omega arith, omega arith)
+stride-bounds (Cardinal c) = (omega arith, omega arith)
 stride-bounds Hermite = (omega arith, omega arith)
 
 -- the next span's first record is a stride on

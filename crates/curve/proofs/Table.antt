@@ -15,7 +15,7 @@ use Rattle.curve.specs.declared.Four.{Four}
 use Rattle.curve.specs.Four.{dot}
 use Rattle.curve.specs.Published.{weights}
 use Rattle.curve.specs.Span.{weighted}
-use Rattle.curve.specs.Ways.{deepest, mostBits, apart, row, nth, tableSize, tableEntry, weightTable, entryOf}
+use Rattle.curve.specs.Ways.{deepest, apart, row, nth, tableSize, tableEntry, weightTable, entryOf}
 use Rattle.curve.proofs.Tab.{getD-tab}
 use Rattle.curve.proofs.Powers.{cube, thrice}
 use Rattle.curve.proofs.Reflect.{num, p, i, h, weightsᵉ, weightedᵉ}
@@ -102,18 +102,18 @@ row-entry m r b k =
 
 -- The four numbers read for a row sum to 256^3 = 2^24, for every row.
 pub row-sum : (m : ℕ) → m ≤ 2 ^ deepest
-    → getD weightTable (entryOf m 0) (pos 0) +ℤ getD weightTable (entryOf m 1) (pos 0) +ℤ getD weightTable (entryOf m 2) (pos 0) +ℤ getD weightTable (entryOf m 3) (pos 0) ≡ pos (2 ^ mostBits)
+    → getD weightTable (entryOf m 0) (pos 0) +ℤ getD weightTable (entryOf m 1) (pos 0) +ℤ getD weightTable (entryOf m 2) (pos 0) +ℤ getD weightTable (entryOf m 3) (pos 0) ≡ pos (2 ^ (3 * deepest))
 unfolding nth weights
 row-sum m b =
     cong (row-entry m 0 b (lit≤ tt)) (row-entry m 1 b (lit≤ tt)) (row-entry m 2 b (lit≤ tt)) (row-entry m 3 b (lit≤ tt))
-    ∙ solve (pos m ∷ []) (weightsᵉ (var 0) (num (2 ^ deepest)) .a ⊕ weightsᵉ (var 0) (num (2 ^ deepest)) .b ⊕ weightsᵉ (var 0) (num (2 ^ deepest)) .c ⊕ weightsᵉ (var 0) (num (2 ^ deepest)) .d) (num (2 ^ mostBits)) tt
+    ∙ solve (pos m ∷ []) (weightsᵉ (var 0) (num (2 ^ deepest)) .a ⊕ weightsᵉ (var 0) (num (2 ^ deepest)) .b ⊕ weightsᵉ (var 0) (num (2 ^ deepest)) .c ⊕ weightsᵉ (var 0) (num (2 ^ deepest)) .d) (num (2 ^ (3 * deepest))) tt
   where
     cong : {a b c d a′ b′ c′ d′ : ℤ} → a ≡ a′ → b ≡ b′ → c ≡ c′ → d ≡ d′ → a +ℤ b +ℤ c +ℤ d ≡ a′ +ℤ b′ +ℤ c′ +ℤ d′
     cong e f g k = cc
 
 -- no weight of the table is above this
 abbrev pub heaviest : ℕ
-heaviest = 2 ^ (mostBits + 4)
+heaviest = 2 ^ (3 * deepest + 4)
 
 pub weight-size : (m r : ℕ) → m ≤ 2 ^ deepest → natAbs (nth (weights (pos m) (pos (2 ^ deepest))) r) ≤ heaviest
 unfolding nth weights

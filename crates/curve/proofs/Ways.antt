@@ -1,13 +1,13 @@
 -- Halving and differences list the same exact sums as the weights, at any depth. Halving: the two halves of a span are the span itself at twice the steps, so an
 -- induction on the depth joins them. Differences: after x steps the state holds the sum at x and its differences there, so an induction on the steps lists them.
-use mathlib.Core.Path.{_≡_, refl, sym, ap, _∙_}
+use mathlib.Core.Path.{_≡_, refl, sym, ap, _∙_, subst}
 use mathlib.Core.List.{[], _∷_, _++_}
 use Prim.Native.Nat.{ℕ, zero, suc, _+_, _*_, _^_, _≤_}
 use native.Mathlib.Nat.{zero-add, le-trans}
 use native.Mathlib.Numerals.{add-one}
 use native.Mathlib.Omega.{arith}
 use lib.Dec.{lit≤}
-use lib.IntN.{ℤ, pos, _+ℤ_, _-ℤ_, _*ℤ_}
+use lib.IntN.{ℤ, pos, natAbs, _+ℤ_, _-ℤ_, _*ℤ_}
 use Rattle.whole.proofs.Ring.{Ex, var, lit, _⊕_, _⊖_, _⊗_, solve}
 use Rattle.whole.proofs.Fit.{Bounded, ev-size}
 use Rattle.curve.specs.declared.Four.{Four}
@@ -143,11 +143,15 @@ state-small q j m inside hj hm =
     let r = R.values q (pos j) (pos m) in
     let bs = widest ∷ widest ∷ widest ∷ widest ∷ 2 ^ deepest ∷ 2 ^ deepest ∷ [] in
     let ok : Bounded r bs = (inside .a, (inside .b, (inside .c, (inside .d, (hj, (hm, tt)))))) in
+    let a = dotᵉ (litᵉ (bezierMatrix .cubed)) p in
+    let b = dotᵉ (litᵉ (bezierMatrix .squared)) p in
+    let second = num 6 ⊗ a ⊗ (i ⊕ num 1) ⊕ num 2 ⊗ b ⊗ h in
+    let third = num 6 ⊗ a in
     record {
       value = le-trans (ev-size r bs ok (at i)) (lit≤ tt);
       first = le-trans (ev-size r bs ok (firstᵉ i)) (lit≤ tt);
-      second = le-trans (ev-size r bs ok (secondᵉ i)) (lit≤ tt);
-      third = le-trans (ev-size r bs ok (thirdᵉ i)) (lit≤ tt);
+      second = subst (λ z. natAbs z ≤ 2 ^ 61) (solve r second (secondᵉ i) tt) (le-trans (ev-size r bs ok second) (lit≤ tt));
+      third = subst (λ z. natAbs z ≤ 2 ^ 61) (solve r third (thirdᵉ i) tt) (le-trans (ev-size r bs ok third) (lit≤ tt));
     }
 
 -- ---- sizes of halves: eight times as large

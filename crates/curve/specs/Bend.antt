@@ -16,16 +16,16 @@ lastBend q = q .b -ℤ pos 2 *ℤ q .c +ℤ q .d
 unfoldable pub bend : Four → ℕ
 bend q = max (natAbs (firstBend q)) (natAbs (lastBend q))
 
--- ---- those of a span in its own records, for the drawing office (docs/STRAY.md): six times each, as document 01 takes the controls sixfold. Of Hermite the records are start, start tangent, end, end tangent.
+-- ---- those of a span in its own records, for the drawing office (docs/STRAY.md): as many times as the controls are taken, six times, and of a cardinal curve 192 times. Of Hermite the records are start, start tangent, end, end tangent.
 
 abbrev pub firstInRecords : Basis → Four → ℤ
 firstInRecords Bezier p = pos 6 *ℤ (p .a -ℤ pos 2 *ℤ p .b +ℤ p .c)
 firstInRecords BSpline p = p .a -ℤ pos 2 *ℤ p .b +ℤ p .c
-firstInRecords Cardinal p = pos 2 *ℤ p .a -ℤ pos 5 *ℤ p .b +ℤ pos 4 *ℤ p .c -ℤ p .d
+firstInRecords (Cardinal c) p = pos 192 *ℤ (p .c -ℤ p .b) -ℤ pos 2 *ℤ pos c *ℤ (p .c -ℤ p .a) -ℤ pos c *ℤ (p .d -ℤ p .b)
 firstInRecords Hermite p = pos 6 *ℤ (p .c -ℤ p .a) -ℤ pos 4 *ℤ p .b -ℤ pos 2 *ℤ p .d
 
 abbrev pub lastInRecords : Basis → Four → ℤ
 lastInRecords Bezier p = pos 6 *ℤ (p .b -ℤ pos 2 *ℤ p .c +ℤ p .d)
 lastInRecords BSpline p = p .b -ℤ pos 2 *ℤ p .c +ℤ p .d
-lastInRecords Cardinal p = pos 4 *ℤ p .b -ℤ p .a -ℤ pos 5 *ℤ p .c +ℤ pos 2 *ℤ p .d
+lastInRecords (Cardinal c) p = pos 192 *ℤ (p .b -ℤ p .c) +ℤ pos c *ℤ (p .c -ℤ p .a) +ℤ pos 2 *ℤ pos c *ℤ (p .d -ℤ p .b)
 lastInRecords Hermite p = pos 6 *ℤ (p .a -ℤ p .c) +ℤ pos 2 *ℤ p .b +ℤ pos 4 *ℤ p .d

@@ -5,15 +5,27 @@ use lib.Dec.{ltb}
 use lib.IntN.{ℤ, natAbs}
 use lib.Signed.{_≤ℤ_}
 use Rattle.curve.specs.declared.Four.{Four}
+use Rattle.curve.specs.declared.Basis.{Basis}
+use Rattle.curve.specs.declared.Basis.the-variants.{Bezier, BSpline, Cardinal, Hermite}
 use Rattle.curve.specs.Four.{four}
 
 -- A control coordinate is from -4,000,000 to 4,000,000.
 abbrev pub limit : ℕ
 limit = 4000000
 
--- No point of an outline is beyond 5,000,000 either way.
-abbrev pub reach : ℕ
-reach = 5000000
+-- No point of an outline is beyond 5,000,000 either way, and no point of a cardinal one beyond 6,000,000 (document 02, request 7).
+abbrev pub reach : Basis → ℕ
+reach Bezier = 5000000
+reach BSpline = 5000000
+reach (Cardinal c) = 6000000
+reach Hermite = 5000000
+
+-- The parameter of a basis, of which row 24 refuses those above 64 (`shape`); nought where it has none.
+abbrev pub parameterOf : Basis → ℕ
+parameterOf Bezier = 0
+parameterOf BSpline = 0
+parameterOf (Cardinal c) = c
+parameterOf Hermite = 0
 
 -- Further from zero than n, either way.
 abbrev pub beyond : ℕ → ℤ → Bool

@@ -52,7 +52,7 @@ hermiteMatrix =
       constant = four (pos 1) (pos 0) (pos 0) (pos 0);
     }
 
--- 001 "Catmull-Rom Spline Matrix", 000 (20), with the parameter s = n / m, times m.
+-- 001 "Catmull-Rom Spline Matrix", 000 (20), with the parameter s, there a, n / m, times m.
 abbrev pub cardinalMatrix : ℤ → ℤ → Matrix
 cardinalMatrix n m =
     record {
@@ -61,6 +61,15 @@ cardinalMatrix n m =
       single = four (pos 0 -ℤ n) (pos 0) n (pos 0);
       constant = four (pos 0) m (pos 0) (pos 0);
     }
+
+-- 000 (21), its matrix M_bc, with the parameter a = n / m, times 3m: the Bezier controls of a cardinal span's four records.
+abbrev pub cardinalToBezier : ℤ → ℤ → Four → Four
+cardinalToBezier n m p =
+    four
+    (dot (four (pos 0) (pos 3 *ℤ m) (pos 0) (pos 0)) p)
+    (dot (four (pos 0 -ℤ n) (pos 3 *ℤ m) n (pos 0)) p)
+    (dot (four (pos 0) n (pos 3 *ℤ m) (pos 0 -ℤ n)) p)
+    (dot (four (pos 0) (pos 0) (pos 3 *ℤ m) (pos 0)) p)
 
 -- 001 "B-Spline Basis", times 6: it prints the 1/6 that 000 (22) leaves out. `BSpline` has the same curve by 004's recursion.
 abbrev pub bSplineMatrix : Matrix
@@ -74,18 +83,22 @@ bSplineMatrix =
 
 -- ---- a basis' curve over its four records in document 01's order
 
+-- The parameter of a cardinal curve is in 64ths, and at most one (document 02, request 7).
+abbrev pub mostParameter : ℕ
+mostParameter = 64
+
 -- What the published value is multiplied by besides h^3.
 abbrev pub denominator : Basis → ℕ
 denominator Bezier = 1
 denominator BSpline = 6
-denominator Cardinal = 2
+denominator (Cardinal c) = mostParameter
 denominator Hermite = 1
 
--- Document 01 has a Hermite span's records as start, start tangent, end, end tangent; the matrix wants both ends first. The cardinal parameter is 1/2.
+-- Document 01 has a Hermite span's records as start, start tangent, end, end tangent; the matrix wants both ends first.
 unfoldable pub published : Basis → Four → ℤ → ℤ → ℤ
 published Bezier p i h = cubic bezierMatrix p i h
 published BSpline p i h = cubic bSplineMatrix p i h
-published Cardinal p i h = cubic (cardinalMatrix (pos 1) (pos 2)) p i h
+published (Cardinal c) p i h = cubic (cardinalMatrix (pos c) (pos mostParameter)) p i h
 published Hermite p i h = cubic hermiteMatrix (four (p .a) (p .c) (p .b) (p .d)) i h
 
 -- ---- the same curves by weights of t

@@ -1,4 +1,4 @@
--- One span on one axis, as document 01 works it ("The curve, exactly"): six times the Bezier controls, their weighted sum, rounded once.
+-- One span on one axis, as document 01 works it ("The curve, exactly"): the Bezier controls so many times that all are whole, their weighted sum, rounded once.
 use mathlib.Core.List.{List}
 use Prim.Native.Nat.{ℕ, _+_, _*_, _^_}
 use lib.IntN.{ℤ, pos, _+ℤ_, _-ℤ_, _*ℤ_}
@@ -14,7 +14,7 @@ use Rattle.curve.specs.Published.{weights}
 abbrev pub stride : Basis → ℕ
 stride Bezier = 3
 stride BSpline = 1
-stride Cardinal = 1
+stride (Cardinal c) = 1
 stride Hermite = 2
 
 -- The first of the four records that span s uses.
@@ -33,37 +33,41 @@ recordsFrom r at = four (at r) (at (r + 1)) (at (r + 2)) (at (r + 3))
 abbrev pub records : Basis → ℕ → (ℕ → ℤ) → Four
 records b s at = recordsFrom (firstRecord b s) at
 
--- Six times the Bezier controls of a span are whole for every basis, so a sum of them is rounded over six times a power of two.
-abbrev pub sixfold : ℕ
-sixfold = 6
+-- How many times the four Bezier controls of a span are taken, so that all are whole: six, and for a cardinal curve 192, three times the 64 of its parameter (document 02, request 7).
+abbrev pub fold : Basis → ℕ
+fold Bezier = 6
+fold BSpline = 6
+fold (Cardinal c) = 192
+fold Hermite = 6
 
--- Six times the four Bezier controls.
-unfoldable pub sixfoldControls : Basis → Four → Four
-sixfoldControls Bezier p = four (pos 6 *ℤ p .a) (pos 6 *ℤ p .b) (pos 6 *ℤ p .c) (pos 6 *ℤ p .d)
-sixfoldControls BSpline p =
+-- The four Bezier controls, that many times.
+unfoldable pub wholeControls : Basis → Four → Four
+wholeControls Bezier p = four (pos 6 *ℤ p .a) (pos 6 *ℤ p .b) (pos 6 *ℤ p .c) (pos 6 *ℤ p .d)
+wholeControls BSpline p =
     four
     (p .a +ℤ pos 4 *ℤ p .b +ℤ p .c)
     (pos 4 *ℤ p .b +ℤ pos 2 *ℤ p .c)
     (pos 2 *ℤ p .b +ℤ pos 4 *ℤ p .c)
     (p .b +ℤ pos 4 *ℤ p .c +ℤ p .d)
-sixfoldControls Cardinal p = four (pos 6 *ℤ p .b) (pos 6 *ℤ p .b +ℤ p .c -ℤ p .a) (pos 6 *ℤ p .c -ℤ p .d +ℤ p .b) (pos 6 *ℤ p .c)
-sixfoldControls Hermite p = four (pos 6 *ℤ p .a) (pos 6 *ℤ p .a +ℤ pos 2 *ℤ p .b) (pos 6 *ℤ p .c -ℤ pos 2 *ℤ p .d) (pos 6 *ℤ p .c)
+wholeControls (Cardinal c) p =
+    four
+    (pos 192 *ℤ p .b)
+    (pos 192 *ℤ p .b +ℤ pos c *ℤ (p .c -ℤ p .a))
+    (pos 192 *ℤ p .c -ℤ pos c *ℤ (p .d -ℤ p .b))
+    (pos 192 *ℤ p .c)
+wholeControls Hermite p = four (pos 6 *ℤ p .a) (pos 6 *ℤ p .a +ℤ pos 2 *ℤ p .b) (pos 6 *ℤ p .c -ℤ pos 2 *ℤ p .d) (pos 6 *ℤ p .c)
 
 -- The weighted sum of four controls at t = i / h, times h^3.
 unfoldable pub weighted : Four → ℤ → ℤ → ℤ
 weighted q i h = dot (weights i h) q
 
--- What a sixfold sum is divided by, by its bits: 6 · 2^bits.
-abbrev pub divisorOf : ℕ → ℕ
-divisorOf bits = sixfold * 2 ^ bits
-
--- What the sum of a basis at depth k is divided by: 6 · 2^(3k), whichever the basis.
+-- What the sum of a basis at depth k is divided by: 6 · 2^(3k), and for a cardinal curve 192 · 2^(3k).
 abbrev pub divisor : Basis → ℕ → ℕ
-divisor b k = divisorOf (3 * k)
+divisor b k = fold b * 2 ^ (3 * k)
 
 -- The exact sum of a span at t = i / 2^k, over that divisor.
 abbrev pub sumAt : Basis → ℕ → Four → ℕ → ℤ
-sumAt b k p i = weighted (sixfoldControls b p) (pos i) (pos (2 ^ k))
+sumAt b k p i = weighted (wholeControls b p) (pos i) (pos (2 ^ k))
 
 -- The point of a span at t = i / 2^k: worked exactly and rounded once.
 unfoldable pub point : Basis → ℕ → Four → ℕ → ℤ

@@ -1,4 +1,4 @@
--- Three ways to the points of a span at depth k, from the four sixfold controls of an axis: each lists the 2^k + 1 exact sums, all over the divisor 6 · 2^(3k).
+-- Three ways to the points of a span at depth k, from the four whole controls of an axis: each lists the 2^k + 1 exact sums, all over the divisor of the basis at depth k.
 use mathlib.Core.Bool.{cond}
 use mathlib.Core.List.{List, [], _∷_, _++_}
 use Prim.Native.Nat.{ℕ, zero, suc, _+_, _*_, _-_, _/_, _%_, _^_}
@@ -19,10 +19,6 @@ byWeights k q = tab (λ i. weighted q (pos i) (pos (2 ^ k))) 0 (suc (2 ^ k))
 -- Document 02, request 10: a depth is from 0 to 8.
 abbrev pub deepest : ℕ
 deepest = 8
-
--- The most bits of a divisor.
-abbrev pub mostBits : ℕ
-mostBits = 3 * deepest
 
 -- The table has the weights at the deepest alone; depth k uses every 2^(8-k)-th row of it, row i · 2^(8-k) for its step i.
 abbrev pub apart : ℕ → ℕ

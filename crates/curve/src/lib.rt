@@ -7,11 +7,11 @@ pub mod records;
 pub mod rounding;
 pub mod weights;
 
-// The four bases of document 01, numbered 1 to 4 there.
+// The four bases of document 01, numbered 1 to 4 there. A cardinal curve has its parameter, in 64ths (document 02, request 7).
 pub enum Basis {
     Bezier,
     BSpline,
-    Cardinal,
+    Cardinal(usize),
     Hermite,
 }
 
@@ -31,8 +31,10 @@ pub struct Differences {
     pub third: i64,
 }
 
-// The controls of a span are taken six-fold, so that they are whole for every basis.
-pub const SIXFOLD: u32 = 6;
+// Every divisor of a sum is six times a power of two.
+pub const SIX: u32 = 6;
+// The greatest parameter of a cardinal curve, in 64ths: it is one.
+pub const MOST_PARAMETER: usize = 64;
 // A control coordinate is at most this far from zero, in micrometres.
 pub const LIMIT: i32 = 4_000_000;
 // The deepest outline: a span has at most 2^8 steps.

@@ -1,9 +1,10 @@
-// Which records a span uses, and six times its Bezier controls.
+// Which records a span uses, and its Bezier controls, so many times that all are whole.
 ghost use mathlib.Core.Path.{_≡_};
-ghost use Prim.Native.Nat.{_+_, _*_, _^_, _<_};
+ghost use Prim.Native.Nat.{_+_, _*_, _^_, _≤_, _<_};
 ghost use lib.ListN.{length};
-ghost use Rattle.curve.specs.Limits.{Inside, limit};
-ghost use Rattle.curve.specs.Span.{stride, firstRecord, recordsFrom, coordinate, sixfoldControls};
+ghost use Rattle.curve.specs.Published.{mostParameter};
+ghost use Rattle.curve.specs.Limits.{Inside, limit, parameterOf};
+ghost use Rattle.curve.specs.Span.{stride, firstRecord, recordsFrom, coordinate, wholeControls};
 use crate::Basis;
 use crate::Four;
 
@@ -14,7 +15,7 @@ pub fn stride_of(basis: Basis) -> usize
     match basis {
         Basis::Bezier => 3,
         Basis::BSpline => 1,
-        Basis::Cardinal => 1,
+        Basis::Cardinal(_) => 1,
         Basis::Hermite => 2,
     }
 }
@@ -41,22 +42,22 @@ pub fn four_records(controls: &[i32], first: usize, axis: usize) -> Four
     }
 }
 
-// Six times the four Bezier controls of a span.
-pub fn sixfold_controls(basis: Basis, p: Four) -> Four
-    requires { ⌜ Inside limit p ⌝ }
-    ensures { λ r. ⌜ r ≡ sixfoldControls basis p ⌝ }
+// The four Bezier controls of a span: six times, and of a cardinal one 192 times.
+pub fn whole_controls(basis: Basis, p: Four) -> Four
+    requires { ⌜ (parameterOf basis ≤ mostParameter) × Inside limit p ⌝ }
+    ensures { λ r. ⌜ r ≡ wholeControls basis p ⌝ }
 {
     match basis {
         Basis::Bezier => bezier_controls(p),
         Basis::BSpline => bspline_controls(p),
-        Basis::Cardinal => cardinal_controls(p),
+        Basis::Cardinal(parameter) => cardinal_controls(parameter, p),
         Basis::Hermite => hermite_controls(p),
     }
 }
 
 fn bezier_controls(p: Four) -> Four
     requires { ⌜ Inside limit p ⌝ }
-    ensures { λ r. ⌜ r ≡ sixfoldControls Basis.Bezier p ⌝ }
+    ensures { λ r. ⌜ r ≡ wholeControls Basis.Bezier p ⌝ }
 {
     let a = p.a;
     let b = p.b;
@@ -72,7 +73,7 @@ fn bezier_controls(p: Four) -> Four
 
 fn bspline_controls(p: Four) -> Four
     requires { ⌜ Inside limit p ⌝ }
-    ensures { λ r. ⌜ r ≡ sixfoldControls Basis.BSpline p ⌝ }
+    ensures { λ r. ⌜ r ≡ wholeControls Basis.BSpline p ⌝ }
 {
     let a = p.a;
     let b = p.b;
@@ -86,26 +87,28 @@ fn bspline_controls(p: Four) -> Four
     }
 }
 
-fn cardinal_controls(p: Four) -> Four
-    requires { ⌜ Inside limit p ⌝ }
-    ensures { λ r. ⌜ r ≡ sixfoldControls Basis.Cardinal p ⌝ }
+// The parameter is in 64ths.
+fn cardinal_controls(parameter: usize, p: Four) -> Four
+    requires { ⌜ (parameter ≤ mostParameter) × Inside limit p ⌝ }
+    ensures { λ r. ⌜ r ≡ wholeControls (Basis.Cardinal parameter) p ⌝ }
 {
+    let taut = parameter as i64;
     let a = p.a;
     let b = p.b;
     let c = p.c;
     let d = p.d;
     Four {
-        a: 6 * b,
-        b: 6 * b + c - a,
-        c: 6 * c - d + b,
-        d: 6 * c,
+        a: 192 * b,
+        b: 192 * b + taut * (c - a),
+        c: 192 * c - taut * (d - b),
+        d: 192 * c,
     }
 }
 
 // The records of a Hermite span are its start, its start tangent, its end and its end tangent.
 fn hermite_controls(p: Four) -> Four
     requires { ⌜ Inside limit p ⌝ }
-    ensures { λ r. ⌜ r ≡ sixfoldControls Basis.Hermite p ⌝ }
+    ensures { λ r. ⌜ r ≡ wholeControls Basis.Hermite p ⌝ }
 {
     let start = p.a;
     let leaving = p.b;

@@ -17,10 +17,10 @@ use Rattle.curve.specs.declared.Basis.{Basis}
 use Rattle.curve.specs.declared.Basis.the-variants.{Bezier, BSpline, Cardinal, Hermite}
 use Rattle.curve.specs.Bend.{bend, firstBend, lastBend}
 use Rattle.curve.specs.Four.{four}
-use Rattle.curve.specs.Span.{coordinate, divisor, recordsFrom, records, sixfoldControls}
+use Rattle.curve.specs.Span.{coordinate, divisor, recordsFrom, records, wholeControls}
 use Rattle.curve.specs.Tab.{tab}
 use Rattle.curve.specs.Ways.{leftHalf, rightHalf}
-use Rattle.curve.proofs.Reflect.{Fourᵉ, num, p, sixfoldᵉ, leftᵉ, rightᵉ}
+use Rattle.curve.proofs.Reflect.{Fourᵉ, num, p, wholeᵉ, leftᵉ, rightᵉ}
 use Rattle.shape.specs.declared.Shape.{Shape}
 use Rattle.shape.specs.declared.Plan.{Plan}
 use Rattle.shape.specs.Refusals.{judge, shapeRows, pointRows, planOf}
@@ -76,12 +76,12 @@ module _ (q : Four) where
   unfolding rightHalf evFour
   right-turned = turned rightHalf q (alike r (rightᵉ (fromZeroᵉ p)) (fromZeroᵉ (rightᵉ p)) tt tt tt tt)
 
-  sixfold-turned : (b : Basis) → sixfoldControls b (negated q) ≡ negated (sixfoldControls b q)
-  unfolding sixfoldControls evFour
-  sixfold-turned Bezier = turned (sixfoldControls Bezier) q (alike r (sixfoldᵉ Bezier (fromZeroᵉ p)) (fromZeroᵉ (sixfoldᵉ Bezier p)) tt tt tt tt)
-  sixfold-turned BSpline = turned (sixfoldControls BSpline) q (alike r (sixfoldᵉ BSpline (fromZeroᵉ p)) (fromZeroᵉ (sixfoldᵉ BSpline p)) tt tt tt tt)
-  sixfold-turned Cardinal = turned (sixfoldControls Cardinal) q (alike r (sixfoldᵉ Cardinal (fromZeroᵉ p)) (fromZeroᵉ (sixfoldᵉ Cardinal p)) tt tt tt tt)
-  sixfold-turned Hermite = turned (sixfoldControls Hermite) q (alike r (sixfoldᵉ Hermite (fromZeroᵉ p)) (fromZeroᵉ (sixfoldᵉ Hermite p)) tt tt tt tt)
+  controls-turned : (b : Basis) → wholeControls b (negated q) ≡ negated (wholeControls b q)
+  unfolding wholeControls evFour
+  controls-turned Bezier = turned (wholeControls Bezier) q (alike r (wholeᵉ Bezier (fromZeroᵉ p)) (fromZeroᵉ (wholeᵉ Bezier p)) tt tt tt tt)
+  controls-turned BSpline = turned (wholeControls BSpline) q (alike r (wholeᵉ BSpline (fromZeroᵉ p)) (fromZeroᵉ (wholeᵉ BSpline p)) tt tt tt tt)
+  controls-turned Cardinal = turned (wholeControls Cardinal) q (alike r (wholeᵉ Cardinal (fromZeroᵉ p)) (fromZeroᵉ (wholeᵉ Cardinal p)) tt tt tt tt)
+  controls-turned Hermite = turned (wholeControls Hermite) q (alike r (wholeᵉ Hermite (fromZeroᵉ p)) (fromZeroᵉ (wholeᵉ Hermite p)) tt tt tt tt)
 
   -- its second differences are negated, and keep their sizes
   size-turned : (f : Four → ℤ) → f (fromZero q) ≡ pos 0 -ℤ f q → natAbs (f (negated q)) ≡ natAbs (f q)
@@ -219,19 +219,19 @@ module _ (axis : Axis) (p : Plan) (tolerance : ℕ) (controls : List ℤ) where
 
   controls-x : (s : ℕ) → controlsOf p (mirror axis controls) s 0 ≡ turnX axis (controlsOf p controls s 0)
   unfolding recordsFrom
-  controls-x s = ap (λ c. sixfoldControls (p .basis) (records (p .basis) s c)) (λ j r. coordinate-mirror axis controls 0 r j) ∙ go axis
+  controls-x s = ap (λ c. wholeControls (p .basis) (records (p .basis) s c)) (λ j r. coordinate-mirror axis controls 0 r j) ∙ go axis
     where
-      go : (a : Axis) → sixfoldControls (p .basis) (records (p .basis) s (λ r. mirrorX negℤ a (coordinate controls 0 r))) ≡ turnX a (controlsOf p controls s 0)
-      go X = sixfold-turned (records (p .basis) s (coordinate controls 0)) (p .basis)
+      go : (a : Axis) → wholeControls (p .basis) (records (p .basis) s (λ r. mirrorX negℤ a (coordinate controls 0 r))) ≡ turnX a (controlsOf p controls s 0)
+      go X = controls-turned (records (p .basis) s (coordinate controls 0)) (p .basis)
       go Y = refl
 
   controls-y : (s : ℕ) → controlsOf p (mirror axis controls) s 1 ≡ turnY axis (controlsOf p controls s 1)
   unfolding recordsFrom
-  controls-y s = ap (λ c. sixfoldControls (p .basis) (records (p .basis) s c)) (λ j r. coordinate-mirror axis controls 1 r j) ∙ go axis
+  controls-y s = ap (λ c. wholeControls (p .basis) (records (p .basis) s c)) (λ j r. coordinate-mirror axis controls 1 r j) ∙ go axis
     where
-      go : (a : Axis) → sixfoldControls (p .basis) (records (p .basis) s (λ r. mirrorY negℤ a (coordinate controls 1 r))) ≡ turnY a (controlsOf p controls s 1)
+      go : (a : Axis) → wholeControls (p .basis) (records (p .basis) s (λ r. mirrorY negℤ a (coordinate controls 1 r))) ≡ turnY a (controlsOf p controls s 1)
       go X = refl
-      go Y = sixfold-turned (records (p .basis) s (coordinate controls 1)) (p .basis)
+      go Y = controls-turned (records (p .basis) s (coordinate controls 1)) (p .basis)
 
   turn-tree : Tree → Tree
   turn-tree = overTree axis (turnX axis) (turnY axis) (turning-x axis) (turning-y axis) d

@@ -13,8 +13,8 @@ use Rattle.curve.specs.declared.Basis.the-variants.{Bezier, BSpline, Cardinal, 
 use Rattle.curve.specs.Four.{four, dot}
 use Rattle.curve.specs.Published.{weights}
 use Rattle.curve.specs.Tab.{tab}
-use Rattle.curve.specs.Span.{coordinate, recordsFrom, records, sixfoldControls, weighted, divisor, sumAt}
-use Rattle.curve.proofs.Reflect.{Fourᵉ, fourᵉ, num, p, i, h, values, weightedᵉ, sixfoldᵉ}
+use Rattle.curve.specs.Span.{coordinate, recordsFrom, records, wholeControls, weighted, divisor, sumAt}
+use Rattle.curve.proofs.Reflect.{Fourᵉ, fourᵉ, num, p, i, h, values, weightedᵉ, wholeᵉ}
 use Rattle.shape.specs.declared.Plan.{Plan}
 use Rattle.spans.specs.Numbers.{sumOf, number, remainderOf, nought, noughts, exactIn}
 use Rattle.mirror.specs.Mirror.{Axis, across, mirror}
@@ -28,12 +28,12 @@ fromZero q = four (pos 0 -ℤ q .a) (pos 0 -ℤ q .b) (pos 0 -ℤ q .c) (pos 0 -
 abbrev pub fromZeroᵉ : Fourᵉ → Fourᵉ
 fromZeroᵉ q = fourᵉ (num 0 ⊖ q .a) (num 0 ⊖ q .b) (num 0 ⊖ q .c) (num 0 ⊖ q .d)
 
-sum-from-zero : (b : Basis) (q : Four) (x y : ℤ) → weighted (sixfoldControls b (fromZero q)) x y ≡ pos 0 -ℤ weighted (sixfoldControls b q) x y
-unfolding weighted sixfoldControls weights dot
-sum-from-zero Bezier q x y = solve (values q x y) (weightedᵉ (sixfoldᵉ Bezier (fromZeroᵉ p)) i h) (num 0 ⊖ weightedᵉ (sixfoldᵉ Bezier p) i h) tt
-sum-from-zero BSpline q x y = solve (values q x y) (weightedᵉ (sixfoldᵉ BSpline (fromZeroᵉ p)) i h) (num 0 ⊖ weightedᵉ (sixfoldᵉ BSpline p) i h) tt
-sum-from-zero Cardinal q x y = solve (values q x y) (weightedᵉ (sixfoldᵉ Cardinal (fromZeroᵉ p)) i h) (num 0 ⊖ weightedᵉ (sixfoldᵉ Cardinal p) i h) tt
-sum-from-zero Hermite q x y = solve (values q x y) (weightedᵉ (sixfoldᵉ Hermite (fromZeroᵉ p)) i h) (num 0 ⊖ weightedᵉ (sixfoldᵉ Hermite p) i h) tt
+sum-from-zero : (b : Basis) (q : Four) (x y : ℤ) → weighted (wholeControls b (fromZero q)) x y ≡ pos 0 -ℤ weighted (wholeControls b q) x y
+unfolding weighted wholeControls weights dot
+sum-from-zero Bezier q x y = solve (values q x y) (weightedᵉ (wholeᵉ Bezier (fromZeroᵉ p)) i h) (num 0 ⊖ weightedᵉ (wholeᵉ Bezier p) i h) tt
+sum-from-zero BSpline q x y = solve (values q x y) (weightedᵉ (wholeᵉ BSpline (fromZeroᵉ p)) i h) (num 0 ⊖ weightedᵉ (wholeᵉ BSpline p) i h) tt
+sum-from-zero Cardinal q x y = solve (values q x y) (weightedᵉ (wholeᵉ Cardinal (fromZeroᵉ p)) i h) (num 0 ⊖ weightedᵉ (wholeᵉ Cardinal p) i h) tt
+sum-from-zero Hermite q x y = solve (values q x y) (weightedᵉ (wholeᵉ Hermite (fromZeroᵉ p)) i h) (num 0 ⊖ weightedᵉ (wholeᵉ Hermite p) i h) tt
 
 plain-from-zero : (q : Four) (x y : ℤ) → weighted (fromZero q) x y ≡ pos 0 -ℤ weighted q x y
 unfolding weighted weights dot
@@ -45,8 +45,8 @@ negated q = four (negℤ (q .a)) (negℤ (q .b)) (negℤ (q .c)) (negℤ (q .d))
 sum-minus : (sum : Four → ℤ) → ((q : Four) → sum (fromZero q) ≡ pos 0 -ℤ sum q) → (q : Four) → sum (negated q) ≡ negℤ (sum q)
 sum-minus sum from q = ap sum (λ j. four (minus (q .a) j) (minus (q .b) j) (minus (q .c) j) (minus (q .d) j)) ∙ from q ∙ sym (minus (sum q))
 
-sixfold-minus : (b : Basis) (q : Four) (x y : ℤ) → weighted (sixfoldControls b (negated q)) x y ≡ negℤ (weighted (sixfoldControls b q) x y)
-sixfold-minus b q x y = sum-minus (λ r. weighted (sixfoldControls b r) x y) (λ r. sum-from-zero b r x y) q
+controls-minus : (b : Basis) (q : Four) (x y : ℤ) → weighted (wholeControls b (negated q)) x y ≡ negℤ (weighted (wholeControls b q) x y)
+controls-minus b q x y = sum-minus (λ r. weighted (wholeControls b r) x y) (λ r. sum-from-zero b r x y) q
 
 -- of the plain controls, as the preview has them
 pub plain-minus : (q : Four) (x y : ℤ) → weighted (negated q) x y ≡ negℤ (weighted q x y)
@@ -69,7 +69,7 @@ sum-mirror axis p controls q =
     ap (λ c. sumAt (p .basis) (p .depth) (records (p .basis) s c) i) (λ j r. coordinate-mirror axis controls q r j)
     ∙ across-cases negℤ axis (λ g. sumAt (p .basis) (p .depth) (records (p .basis) s (λ r. g (at r))) i ≡ g (sumAt (p .basis) (p .depth) (records (p .basis) s at) i))
     refl
-    (sixfold-minus (p .basis) (records (p .basis) s at) (pos i) (pos (2 ^ p .depth)))
+    (controls-minus (p .basis) (records (p .basis) s at) (pos i) (pos (2 ^ p .depth)))
     q
 
 module _ (axis : Axis) (p : Plan) (controls : List ℤ) where

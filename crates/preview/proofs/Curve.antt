@@ -25,10 +25,10 @@ use Rattle.curve.specs.Limits.{Inside, limit}
 use Rattle.curve.specs.Tab.{tab}
 use Rattle.curve.specs.Four.{dot}
 use Rattle.curve.specs.Published.{weights}
-use Rattle.curve.specs.Span.{sixfold, divisor, weighted, sixfoldControls, point}
+use Rattle.curve.specs.Span.{sixfold, divisor, weighted, wholeControls, point}
 use Rattle.curve.specs.Ways.{deepest}
 use Rattle.curve.proofs.Reflect as R
-use Rattle.curve.proofs.Reflect.{p, i, h, num, weightedᵉ, sixfoldᵉ}
+use Rattle.curve.proofs.Reflect.{p, i, h, num, weightedᵉ, wholeᵉ}
 use Rattle.curve.proofs.Tab.{length-tab, getD-tab}
 use Rattle.shape.specs.declared.Shape.{Shape}
 use Rattle.shape.specs.Shape.{pointsOf}
@@ -129,9 +129,9 @@ drawn-exact s controls points n l e q below =
 
 -- ---- the outline's point is the same value, rounded
 
-sixfold-sum : (q : Four) (x y : ℤ) → weighted (sixfoldControls Bezier q) x y ≡ pos sixfold *ℤ weighted q x y
-unfolding weighted weights dot sixfoldControls
-sixfold-sum q x y = solve (R.values q x y) (weightedᵉ (sixfoldᵉ Bezier p) i h) (num 6 ⊗ weightedᵉ p i h) tt
+sixfold-sum : (q : Four) (x y : ℤ) → weighted (wholeControls Bezier q) x y ≡ pos sixfold *ℤ weighted q x y
+unfolding weighted weights dot wholeControls
+sixfold-sum q x y = solve (R.values q x y) (weightedᵉ (wholeᵉ Bezier p) i h) (num 6 ⊗ weightedᵉ p i h) tt
 
 pub point-rounds : (k : ℕ) (q : Four) (j : ℕ) → point Bezier k q j ≡ nearest (weighted q (pos j) (pos (2 ^ k))) (2 ^ (3 * k))
 unfolding point

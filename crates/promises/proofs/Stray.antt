@@ -11,7 +11,7 @@ use Rattle.whole.specs.Outcome.{outcome}
 use Rattle.curve.specs.declared.Four.{Four}
 use Rattle.curve.specs.declared.Basis.{Basis}
 use Rattle.curve.specs.Bend.{firstBend, lastBend, firstInRecords, lastInRecords}
-use Rattle.curve.specs.Span.{coordinate, records, sixfoldControls}
+use Rattle.curve.specs.Span.{coordinate, records, wholeControls}
 use Rattle.curve.specs.Ways.{deepest}
 use Rattle.curve.proofs.Bend as bends
 use Rattle.shape.specs.declared.Shape.{Shape}
@@ -50,12 +50,12 @@ chord-within b k l controls s axis i j = spans.published-within b (records b s (
 
 -- and by no less than that in the middle of every chord, where both second differences are the same: no smaller bound would do, at any depth
 pub chord-met : (b : Basis) (k l : ℕ) (controls : List ℤ) (s axis i j : ℕ) → i < 2 ^ k → j + j ≡ 2 ^ l
-    → (let q = sixfoldControls b (records b s (coordinate controls axis)) in firstBend q ≡ lastBend q)
+    → (let q = wholeControls b (records b s (coordinate controls axis)) in firstBend q ≡ lastBend q)
     → Meets (spanBound b k controls s axis) (offExact b k l controls s axis i j) (2 ^ l * publishedDivisor b (k + l))
 chord-met b k l controls s axis i j = spans.published-meets b (records b s (coordinate controls axis)) k l i j
 
 -- the two second differences, six times, in the records of each basis
-pub bends-in-records : (b : Basis) (p : Four) → (firstBend (sixfoldControls b p) ≡ firstInRecords b p) × (lastBend (sixfoldControls b p) ≡ lastInRecords b p)
+pub bends-in-records : (b : Basis) (p : Four) → (firstBend (wholeControls b p) ≡ firstInRecords b p) × (lastBend (wholeControls b p) ≡ lastInRecords b p)
 bends-in-records b p = (bends.first-in-records b p, bends.last-in-records b p)
 
 -- a piece is flat, as tolerance cutting has it, exactly where this bound for the piece itself is at most the tolerance, on both axes

@@ -9,7 +9,7 @@ use Rattle.whole.specs.Outcome.{Outcome, refuses}
 use Rattle.whole.specs.Nearest.{nearest, remainder}
 use Rattle.curve.specs.declared.Four.{Four}
 use Rattle.curve.specs.declared.Basis.{Basis}
-use Rattle.curve.specs.Span.{sixfoldControls, weighted, divisor}
+use Rattle.curve.specs.Span.{wholeControls, weighted, divisor}
 use Rattle.shape.specs.declared.Shape.{Shape}
 use Rattle.shape.specs.declared.Refusal.{Refusal}
 use Rattle.shape.specs.Refusals.{Row, row, judge, basisRow, countRow, planOf}
@@ -26,7 +26,7 @@ use Rattle.file_list.specs.Files.{controls, points, drawnText, readText}
 
 -- Step i of depth k by the table of depth d, in which it is row i · 2^(d-k): the weighted sum, the number that it is rounded to over the table's own divisor, and what is left over.
 abbrev pub sumBy : ℕ → Basis → ℕ → Four → ℕ → ℤ
-sumBy d b k p i = weighted (sixfoldControls b p) (pos (i * 2 ^ (d - k))) (pos (2 ^ d))
+sumBy d b k p i = weighted (wholeControls b p) (pos (i * 2 ^ (d - k))) (pos (2 ^ d))
 
 abbrev pub numberBy : ℕ → Basis → ℕ → Four → ℕ → ℤ
 numberBy d b k p i = nearest (sumBy d b k p i) (divisor b d)

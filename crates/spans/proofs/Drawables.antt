@@ -4,7 +4,7 @@ use Prim.Native.Nat.{ℕ, _<_}
 use native.Mathlib.Omega.{arith}
 use lib.IntN.{ℤ}
 use Rattle.curve.specs.Span.{coordinate, records, divisor}
-use Rattle.curve.proofs.Limits.{sum-size, sixfold-inside}
+use Rattle.curve.proofs.Limits.{sum-size, controls-inside}
 use Rattle.shape.specs.declared.Shape.{Shape}
 use Rattle.shape.specs.declared.Plan.{Plan}
 use Rattle.shape.specs.Inner.{Good, Lent}
@@ -16,7 +16,7 @@ pub span-ready : (p : Plan) (controls : List ℤ) → Drawable p controls → (s
 span-ready p controls d s axis h a =
     let q = records (p .basis) s (coordinate controls axis) in
     let inside = d .inside s axis h a in
-    record { inside = sixfold-inside (p .basis) q inside; near = λ i n. sum-size (p .basis) (p .depth) i q n inside }
+    record { inside = controls-inside (p .basis) q inside; near = λ i n. sum-size (p .basis) (p .depth) i q n inside }
 
 pub drawable : (s : Shape) (p : Plan) → Good s p → (controls : List ℤ) (k len : ℕ) → Lent (s .count) controls k len → Drawable p controls
 drawable s p good controls k len lent =

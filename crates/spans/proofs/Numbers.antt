@@ -15,7 +15,7 @@ use Rattle.whole.specs.Nearest.{nearest}
 use Rattle.curve.specs.declared.Four.{Four}
 use Rattle.curve.specs.declared.Basis.{Basis}
 use Rattle.curve.specs.Tab.{tab}
-use Rattle.curve.specs.Span.{coordinate, records, sixfoldControls, weighted, divisor, sumAt, point}
+use Rattle.curve.specs.Span.{coordinate, records, wholeControls, weighted, divisor, sumAt, point}
 use Rattle.curve.specs.Ways.{deepest}
 use Rattle.curve.proofs.Span.{joint}
 use Rattle.curve.proofs.Tab.{tab-append, tab-same}
@@ -30,7 +30,7 @@ stride-is k h = mod-eq-of-lt (lt-of-le-of-lt (mul-le-mul (le-refl 2) (pow-mono {
 
 -- the sixfold controls of span s on an axis
 abbrev pub spanControls : Basis → List ℤ → ℕ → ℕ → Four
-spanControls b controls s axis = sixfoldControls b (records b s (coordinate controls axis))
+spanControls b controls s axis = wholeControls b (records b s (coordinate controls axis))
 
 -- a span's numbers are twice its steps
 pub per-span : (s k : ℕ) → s * perSpan k ≡ 2 * (s * 2 ^ k)

@@ -7,7 +7,7 @@ ghost use Rattle.whole.specs.Outcome.{outcome};
 ghost use Rattle.curve.specs.Limits.{Inside};
 ghost use Rattle.curve.specs.Inner.{widest};
 ghost use Rattle.curve.specs.Tab.{tab};
-ghost use Rattle.curve.specs.Span.{coordinate, divisorOf, records, sixfoldControls, weighted};
+ghost use Rattle.curve.specs.Span.{coordinate, divisorOf, records, wholeControls, weighted};
 ghost use Rattle.curve.specs.Ways.{deepest, mostBits};
 ghost use Rattle.spans.specs.Numbers.{perSpan};
 ghost use Rattle.spans.specs.Filled.{fillsRun};
@@ -19,7 +19,7 @@ use crate::weights;
 use curve::Four;
 use curve::records::first_record;
 use curve::records::four_records;
-use curve::records::sixfold_controls;
+use curve::records::whole_controls;
 use curve::weights::weight_table;
 use shape::Plan;
 
@@ -34,11 +34,11 @@ pub enum Way {
 pub fn span_controls(controls: &[i32], plan: Plan, span: usize, axis: usize) -> Four
     requires { ⌜ (span < plan .spans) × (axis < 2) ⌝ }
     requires { ⌜ Drawable plan (now controls) ⌝ }
-    ensures { λ r. ⌜ r ≡ sixfoldControls (plan .basis) (records (plan .basis) span (coordinate (now (controls .entry)) axis)) ⌝ }
+    ensures { λ r. ⌜ r ≡ wholeControls (plan .basis) (records (plan .basis) span (coordinate (now (controls .entry)) axis)) ⌝ }
 {
     let basis = plan.basis;
     let first = first_record(basis, span);
-    sixfold_controls(basis, four_records(controls, first, axis))
+    whole_controls(basis, four_records(controls, first, axis))
 }
 
 // The 2^depth points of a span but its end, by a way, and how many numbers are exact with them.

@@ -15,7 +15,7 @@ use Rattle.whole.proofs.Nearest.{nearest-rounded, nearest-scale}
 use Rattle.whole.proofs.Remainder.{remainder-scale}
 use Rattle.curve.specs.declared.Four.{Four}
 use Rattle.curve.specs.declared.Basis.{Basis}
-use Rattle.curve.specs.Span.{sixfold, coordinate, records, sixfoldControls, weighted, divisor, sumAt}
+use Rattle.curve.specs.Span.{sixfold, coordinate, records, wholeControls, weighted, divisor, sumAt}
 use Rattle.curve.specs.Ways.{deepest}
 use Rattle.curve.proofs.Powers.{cube, thrice}
 use Rattle.curve.proofs.Span.{divisor-pos}
@@ -39,8 +39,8 @@ use Rattle.stray.specs.Chord.{finer}
 pub sum-again : (b : Basis) (k l : ℕ) (p : Four) (i : ℕ) → sumAt b (k + l) p (i * 2 ^ l) ≡ finer l (sumAt b k p i)
 unfolding cube
 sum-again b k l p i =
-    ap (λ (n : ℕ). weighted (sixfoldControls b p) (pos (i * 2 ^ l)) (pos n)) (pow-add 2 k l)
-    ∙ weighted-scale (pos (2 ^ l)) (sixfoldControls b p) (pos i) (pos (2 ^ k))
+    ap (λ (n : ℕ). weighted (wholeControls b p) (pos (i * 2 ^ l)) (pos n)) (pow-add 2 k l)
+    ∙ weighted-scale (pos (2 ^ l)) (wholeControls b p) (pos i) (pos (2 ^ k))
     ∙ ap (λ (n : ℕ). pos n *ℤ sumAt b k p i) (sym (thrice l))
 
 pub divisor-again : (b : Basis) (k l : ℕ) → divisor b (k + l) ≡ 2 ^ (3 * l) * divisor b k

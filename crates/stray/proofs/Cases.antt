@@ -14,7 +14,7 @@ use Rattle.curve.specs.Bend.{bend}
 use Rattle.curve.specs.Four.{four, dot}
 use Rattle.curve.specs.Numbers.{neg}
 use Rattle.curve.specs.Published.{published, denominator, cubic, weights}
-use Rattle.curve.specs.Span.{firstRecord, coordinate, recordsFrom, sixfoldControls, weighted, divisor}
+use Rattle.curve.specs.Span.{firstRecord, coordinate, recordsFrom, wholeControls, weighted, divisor}
 use Rattle.curve.specs.Tab.{tab}
 use Rattle.curve.specs.Ways.{leftHalf, rightHalf}
 use Rattle.shape.specs.Refusals.{judge, seek, planOf, outside}
@@ -45,7 +45,7 @@ abbrev pub case : Basis → Four → ℕ → ℕ → ℕ → ℕ → Case
 case b p k i l j = record { basis = b; records = p; depth = k; step = i; l = l; j = j }
 
 abbrev pub bound : Case → Bound
-bound c = bendBound (divisor (c .basis) 0) (sixfoldControls (c .basis) (c .records)) (c .depth)
+bound c = bendBound (divisor (c .basis) 0) (wholeControls (c .basis) (c .records)) (c .depth)
 
 -- the published curve at a step of a depth, and how far it is from the chord
 abbrev curve : Case → ℕ → ℕ → ℤ
@@ -74,12 +74,12 @@ meeting =
     ∷ []
 
 pub bound-met : AllMeet meeting
-unfolding published cubic dot sixfoldControls bend
+unfolding published cubic dot wholeControls bend
 bound-met = (refl, (refl, (refl, (refl, (refl, (refl, (refl, tt)))))))
 
 -- Where one second difference is nought the other one counts.
 pub larger-counts : let c = case Bezier (four (pos 0) (pos 0) (pos 0) (pos 8)) 0 0 1 1 in Within (bound c) (off c) (under c)
-unfolding published cubic dot sixfoldControls bend
+unfolding published cubic dot wholeControls bend
 larger-counts = lit≤ tt
 
 -- ---- the chord of the router
@@ -89,17 +89,17 @@ abbrev quarters : Four
 quarters = four (pos 0) (pos 1) (pos 5) (pos 9)
 
 pub drawn-quarters : draws (record { basis = 4; depth = 2; count = 4 }) (onX (pos 0 ∷ pos 1 ∷ pos 5 ∷ pos 9 ∷ [])) (replicate 10 (neg 1)) ≡ outcome (drawn.Done (record { points = 5; exact = 8 })) (onX (pos 0 ∷ pos 1 ∷ pos 2 ∷ pos 3 ∷ pos 5 ∷ []))
-unfolding draws judge planOf basisOf spansOf recordsOf pointsOf allowed outside seek coordinate onX tab number sumOf remainderOf weighted weights dot firstRecord recordsFrom sixfoldControls nearest halfUp remainder noughts
+unfolding draws judge planOf basisOf spansOf recordsOf pointsOf allowed outside seek coordinate onX tab number sumOf remainderOf weighted weights dot firstRecord recordsFrom wholeControls nearest halfUp remainder noughts
 drawn-quarters = refl
 
 -- In the middle between them the curve is at 15/16 and the chord from 1 to 2 at 24/16: 9/16 apart, which is the bound, 1/16, and the half.
-pub half-met : Meets (halfMore (bendBound (divisor Hermite 0) (sixfoldControls Hermite quarters) 2)) (offChord 2 1 (pos (2 ^ 9) *ℤ pos 1) (pos (2 ^ 9) *ℤ pos 2) (published Hermite quarters (pos 3) (pos (2 ^ 3)))) (2 * 2 ^ 9)
-unfolding published cubic dot sixfoldControls bend
+pub half-met : Meets (halfMore (bendBound (divisor Hermite 0) (wholeControls Hermite quarters) 2)) (offChord 2 1 (pos (2 ^ 9) *ℤ pos 1) (pos (2 ^ 9) *ℤ pos 2) (published Hermite quarters (pos 3) (pos (2 ^ 3)))) (2 * 2 ^ 9)
+unfolding published cubic dot wholeControls bend
 half-met = refl
 
 -- By tolerance: a Bezier span 0, 1, 18, 51 on x at 3 micrometres is cut once, at 13 1/2, which is rounded to 14.
 pub cut-once : chooses (record { basis = 1; depth = 0; count = 4 }) 3 1 (onX (pos 0 ∷ pos 1 ∷ pos 18 ∷ pos 51 ∷ [])) (replicate 6 (neg 1)) ≡ outcome (Done (record { points = 3; cuts = 1; exact = 5 })) (onX (pos 0 ∷ pos 14 ∷ pos 51 ∷ []))
-unfolding chooses judge planOf basisOf spansOf recordsOf allowed outside seek coordinate onX treeOf tab tree isFlat bend leftHalf rightHalf cuts allCuts starts allStarts walk walkAll firstRecord recordsFrom sixfoldControls nearest halfUp remainder noughts
+unfolding chooses judge planOf basisOf spansOf recordsOf allowed outside seek coordinate onX treeOf tab tree isFlat bend leftHalf rightHalf cuts allCuts starts allStarts walk walkAll firstRecord recordsFrom wholeControls nearest halfUp remainder noughts
 cut-once = refl
 
 -- At a quarter of the span, in the middle of its first chord, the curve is at 3 3/4 and the chord from 0 to 14 at 7: more than 3 micrometres apart, and within 3 1/2.

@@ -11,7 +11,7 @@ use Rattle.curve.specs.declared.Four.{Four}
 use Rattle.curve.specs.declared.Basis.{Basis}
 use Rattle.curve.specs.Bend.{bend, firstBend, lastBend}
 use Rattle.curve.specs.Published.{published, denominator}
-use Rattle.curve.specs.Span.{sixfold, sixfoldControls, weighted, divisor, sumAt}
+use Rattle.curve.specs.Span.{sixfold, wholeControls, weighted, divisor, sumAt}
 use Rattle.curve.proofs.Powers.{cube, thrice}
 use Rattle.curve.proofs.Reflect.{num}
 use Rattle.curve.proofs.Span.{same-value}
@@ -30,7 +30,7 @@ fours (suc k) =
 
 module _ (b : Basis) (p : Four) (k l i : ℕ) where
   abbrev q : Four
-  q = sixfoldControls b p
+  q = wholeControls b p
 
   -- ---- over the sums: how far the one at step i·2^l + j of depth k + l is from the chord between those at i and i + 1 of depth k
 

@@ -7,7 +7,7 @@ use lib.IntN.{ℤ, pos, natAbs, _+ℤ_, _-ℤ_, _*ℤ_}
 use Rattle.curve.specs.declared.Four.{Four}
 use Rattle.curve.specs.declared.Basis.{Basis}
 use Rattle.curve.specs.Bend.{bend}
-use Rattle.curve.specs.Span.{coordinate, records, sixfoldControls, divisor}
+use Rattle.curve.specs.Span.{coordinate, records, wholeControls, divisor}
 
 -- ---- bounds
 
@@ -29,7 +29,7 @@ bendBound d controls k = record { over = 3 * bend controls; under = 4 * (4 ^ k *
 
 -- That of span s on an axis (0 is x, 1 is y), at depth k: document 01's Bezier controls of a span, over what they are a multiple of.
 abbrev pub spanBound : Basis → ℕ → List ℤ → ℕ → ℕ → Bound
-spanBound b k controls s axis = bendBound (divisor b 0) (sixfoldControls b (records b s (coordinate controls axis))) k
+spanBound b k controls s axis = bendBound (divisor b 0) (wholeControls b (records b s (coordinate controls axis))) k
 
 -- So many whole micrometres.
 abbrev pub micrometres : ℕ → Bound

@@ -10,7 +10,7 @@ use Rattle.whole.proofs.Fit.{natAbs-mul}
 use Rattle.curve.specs.declared.Basis.the-variants.{Bezier}
 use Rattle.curve.specs.Bend.{bend, firstBend, lastBend}
 use Rattle.curve.specs.Four.{four}
-use Rattle.curve.specs.Span.{coordinate, divisor, records, sixfoldControls}
+use Rattle.curve.specs.Span.{coordinate, divisor, records, wholeControls}
 use Rattle.curve.proofs.Reflect.{num}
 use Rattle.shape.specs.declared.Plan.{Plan}
 use Rattle.pieces.specs.Tree.{finest, piece, Sound}
@@ -27,10 +27,10 @@ sound-exactly p tolerance controls t =
 -- ---- a straight edge
 
 -- its second differences are the way from A to B and back
-line-bend : (a b : ℤ) → bend (sixfoldControls Bezier (four a a b b)) ≡ 6 * natAbs (b -ℤ a)
-unfolding bend sixfoldControls
+line-bend : (a b : ℤ) → bend (wholeControls Bezier (four a a b b)) ≡ 6 * natAbs (b -ℤ a)
+unfolding bend wholeControls
 line-bend a b =
-    let q = sixfoldControls Bezier (four a a b b) in
+    let q = wholeControls Bezier (four a a b b) in
     let there : natAbs (firstBend q) ≡ 6 * natAbs (b -ℤ a) =
     ap natAbs (solve (a ∷ b ∷ []) (num 6 ⊗ var 0 ⊖ num 2 ⊗ (num 6 ⊗ var 0) ⊕ num 6 ⊗ var 1) (num 6 ⊗ (var 1 ⊖ var 0)) tt) ∙ natAbs-mul (pos 6) (b -ℤ a) in
     let back : natAbs (lastBend q) ≡ 6 * natAbs (b -ℤ a) =
@@ -44,7 +44,7 @@ pub line-exactly : (p : Plan) (tolerance : ℕ) (controls : List ℤ) (t : ℕ) 
     → records (p .basis) t (coordinate controls 1) ≡ four ay ay by by
     → Sound (treeOf p tolerance controls t) ↔ ((3 * natAbs (bx -ℤ ax) ≤ 4 * 4 ^ finest * tolerance) × (3 * natAbs (by -ℤ ay) ≤ 4 * 4 ^ finest * tolerance))
 line-exactly p tolerance controls t ax bx ay by b ex ey =
-    let x : bend (controlsOf p controls t 0) ≡ 6 * natAbs (bx -ℤ ax) = (λ i. bend (sixfoldControls (b i) (ex i))) ∙ line-bend ax bx in
-    let y : bend (controlsOf p controls t 1) ≡ 6 * natAbs (by -ℤ ay) = (λ i. bend (sixfoldControls (b i) (ey i))) ∙ line-bend ay by in
+    let x : bend (controlsOf p controls t 0) ≡ 6 * natAbs (bx -ℤ ax) = (λ i. bend (wholeControls (b i) (ex i))) ∙ line-bend ax bx in
+    let y : bend (controlsOf p controls t 1) ≡ 6 * natAbs (by -ℤ ay) = (λ i. bend (wholeControls (b i) (ey i))) ∙ line-bend ay by in
     let span = sound-exactly p tolerance controls t in
     ((λ s. let w = span .0 s in (omega (arith, x, w .0), omega (arith, y, w .1))), (λ w. span .1 (omega (arith, x, w .0), omega (arith, y, w .1))))

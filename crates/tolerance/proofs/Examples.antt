@@ -8,7 +8,7 @@ use Rattle.whole.specs.Nearest.{halfUp, nearest, remainder}
 use Rattle.whole.specs.Outcome.{Outcome, outcome}
 use Rattle.curve.specs.Bend.{bend}
 use Rattle.curve.specs.Numbers.{neg}
-use Rattle.curve.specs.Span.{firstRecord, coordinate, recordsFrom, sixfoldControls}
+use Rattle.curve.specs.Span.{firstRecord, coordinate, recordsFrom, wholeControls}
 use Rattle.curve.specs.Tab.{tab}
 use Rattle.curve.specs.Ways.{leftHalf, rightHalf}
 use Rattle.shape.specs.Refusals.{judge, seek, planOf, outside}
@@ -46,5 +46,5 @@ pub edges :
     -- tolerances 10,000 and 10,001
     × (spanAt 10000 0 (pos 0 ∷ pos 0 ∷ pos 0 ∷ pos 4 ∷ []) ≡ done 2 0 4 (pos 0 ∷ pos 4 ∷ []))
     × (spanAt 10001 0 (pos 0 ∷ pos 0 ∷ pos 0 ∷ pos 4 ∷ []) ≡ refused 20)
-unfolding chooses judge planOf basisOf spansOf recordsOf allowed outside seek coordinate onX treeOf tab tree isFlat bend leftHalf rightHalf cuts allCuts starts allStarts walk walkAll firstRecord recordsFrom sixfoldControls nearest halfUp remainder noughts
+unfolding chooses judge planOf basisOf spansOf recordsOf allowed outside seek coordinate onX treeOf tab tree isFlat bend leftHalf rightHalf cuts allCuts starts allStarts walk walkAll firstRecord recordsFrom wholeControls nearest halfUp remainder noughts
 edges = (refl, refl, refl, refl, refl, refl, refl, refl, refl)

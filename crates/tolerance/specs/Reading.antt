@@ -8,7 +8,7 @@ use lib.ListN.{length}
 use lib.Seq.{sets}
 use Rattle.whole.specs.Outcome.{Outcome, outcome, refuses}
 use Rattle.curve.specs.declared.Four.{Four}
-use Rattle.curve.specs.Span.{coordinate, divisor, records, sixfoldControls}
+use Rattle.curve.specs.Span.{coordinate, divisor, records, wholeControls}
 use Rattle.curve.specs.Tab.{tab}
 use Rattle.shape.specs.declared.Shape.{Shape}
 use Rattle.shape.specs.declared.Plan.{Plan}
@@ -27,7 +27,7 @@ use Rattle.tolerance.specs.declared.Chosen.the-variants.{Done, Refused}
 
 -- The Bezier controls of span s on an axis (0 is x, 1 is y), over the basis' own divisor.
 abbrev pub controlsOf : Plan → List ℤ → ℕ → ℕ → Four
-controlsOf p controls s axis = sixfoldControls (p .basis) (records (p .basis) s (coordinate controls axis))
+controlsOf p controls s axis = wholeControls (p .basis) (records (p .basis) s (coordinate controls axis))
 
 unfoldable pub treeOf : Plan → ℕ → List ℤ → ℕ → Tree
 treeOf p tolerance controls s = spanTree (divisor (p .basis)) tolerance (controlsOf p controls s 0) (controlsOf p controls s 1)

@@ -7,7 +7,7 @@ use mir.Syntax.{w64}
 use Rattle.whole.proofs.Ring.{Ex, _⊗_, ev}
 use Rattle.whole.proofs.Fit.{Need, raw, safe}
 use Rattle.curve.specs.Limits.{limit}
-use Rattle.curve.specs.Span.{sixfoldControls}
+use Rattle.curve.specs.Span.{wholeControls}
 use Rattle.curve.proofs.Reflect.{num, p}
 use Rattle.curve.proofs.Machine.{numbers, bounds, asked, worked}
 use Rattle.curve.proofs.records.bezier_controls.Statement.{statement}
@@ -32,7 +32,7 @@ mul-t9 : tie.Need-mul-t9
 mul-t9 c = fits c (num 6 ⊗ p .d) tt
 
 returns : tie.Need-returns
-unfolding sixfoldControls
+unfolding wholeControls
 returns c = λ k. record { a = is c (num 6 ⊗ p .a) tt k; b = is c (num 6 ⊗ p .b) tt k; c = is c (num 6 ⊗ p .c) tt k; d = is c (num 6 ⊗ p .d) tt k }
 
 pub bezier-controls-spec : {M : Type 1} → statement M

@@ -7,7 +7,7 @@ use mir.Syntax.{w64}
 use Rattle.whole.proofs.Ring.{Ex, _⊕_, _⊗_, ev}
 use Rattle.whole.proofs.Fit.{Need, raw, safe}
 use Rattle.curve.specs.Limits.{limit}
-use Rattle.curve.specs.Span.{sixfoldControls}
+use Rattle.curve.specs.Span.{wholeControls}
 use Rattle.curve.proofs.Reflect.{num, p}
 use Rattle.curve.proofs.Machine.{numbers, bounds, asked, worked}
 use Rattle.curve.proofs.records.bspline_controls.Statement.{statement}
@@ -56,7 +56,7 @@ add-t17 : tie.Need-add-t17
 add-t17 c = fits c (p .b ⊕ num 4 ⊗ p .c ⊕ p .d) tt
 
 returns : tie.Need-returns
-unfolding sixfoldControls
+unfolding wholeControls
 returns c = λ k. record { a = is c (p .a ⊕ num 4 ⊗ p .b ⊕ p .c) tt k; b = is c (num 4 ⊗ p .b ⊕ num 2 ⊗ p .c) tt k; c = is c (num 2 ⊗ p .b ⊕ num 4 ⊗ p .c) tt k; d = is c (p .b ⊕ num 4 ⊗ p .c ⊕ p .d) tt k }
 
 pub bspline-controls-spec : {M : Type 1} → statement M

@@ -7,7 +7,7 @@ use mir.Syntax.{w64}
 use Rattle.whole.proofs.Ring.{Ex, _⊕_, _⊖_, _⊗_, ev}
 use Rattle.whole.proofs.Fit.{Need, raw, safe}
 use Rattle.curve.specs.Limits.{limit}
-use Rattle.curve.specs.Span.{sixfoldControls}
+use Rattle.curve.specs.Span.{wholeControls}
 use Rattle.curve.proofs.Reflect.{num, p}
 use Rattle.curve.proofs.Machine.{numbers, bounds, asked, worked}
 use Rattle.curve.proofs.records.hermite_controls.Statement.{statement}
@@ -44,7 +44,7 @@ mul-t13 : tie.Need-mul-t13
 mul-t13 c = fits c (num 6 ⊗ p .c) tt
 
 returns : tie.Need-returns
-unfolding sixfoldControls
+unfolding wholeControls
 returns c = λ k. record { a = is c (num 6 ⊗ p .a) tt k; b = is c (num 6 ⊗ p .a ⊕ num 2 ⊗ p .b) tt k; c = is c (num 6 ⊗ p .c ⊖ num 2 ⊗ p .d) tt k; d = is c (num 6 ⊗ p .c) tt k }
 
 pub hermite-controls-spec : {M : Type 1} → statement M

@@ -1,4 +1,4 @@
--- A sum within the divisor times 5,000,000 is one that can be rounded.
+-- A sum within the divisor times the farthest reach is one that can be rounded.
 use mathlib.Core.Path.{refl, sym, ap, _∙_, subst}
 use Prim.Native.Nat.{_*_, _≤_}
 use native.Mathlib.Nat.{le-trans, mul-le-mul, le-refl}
@@ -9,7 +9,7 @@ use mir.Syntax.{w64}
 use Rattle.whole.specs.Nearest.{rounding}
 use Rattle.whole.specs.Inner.{farthest}
 use Rattle.whole.proofs.Fit.{kept-is}
-use Rattle.curve.specs.Span.{divisorOf}
+use Rattle.curve.specs.Inner.{divisorOf}
 use Rattle.curve.proofs.rounding.rounded.Statement.{statement}
 use Rattle.curve.proofs.rounding.rounded.Tie as tie
 

@@ -3,7 +3,7 @@ use mathlib.Core.Path.{_≡_, sym, ap, _∙_, subst}
 use Prim.Native.Nat.{ℕ}
 use native.Mathlib.Omega.{arith}
 use Rattle.curve.specs.Limits.{Inside, limit}
-use Rattle.curve.specs.Span.{coordinate, recordsFrom, records, sixfoldControls}
+use Rattle.curve.specs.Span.{coordinate, recordsFrom, records, wholeControls}
 use Rattle.spans.proofs.run.span_controls.Statement.{statement}
 use Rattle.spans.proofs.run.span_controls.Tie as tie
 
@@ -19,13 +19,13 @@ read c =
     let a = c .before .before .args in
     c .four-records .ensures ∙ ap (λ (r : ℕ). recordsFrom r (coordinate (a .controls .now) (a .axis))) (c .before .first-record .ensures)
 
-sixfold-controls-requires : tie.Need-sixfold-controls-requires
-sixfold-controls-requires c κs =
+whole-controls-requires : tie.Need-whole-controls-requires
+whole-controls-requires c κs =
     let s = c .before .before in
     subst (Inside limit) (sym (read c)) (s .pre .1 .inside (s .args .span) (s .args .axis) (s .pre .0 .0) (s .pre .0 .1))
 
 returns : tie.Need-returns
-returns c = c .sixfold-controls .ensures ∙ ap (sixfoldControls (c .before .before .before .args .plan .basis)) (read (c .before))
+returns c = c .whole-controls .ensures ∙ ap (wholeControls (c .before .before .before .args .plan .basis)) (read (c .before))
 
 pub span-controls-spec : {M : Type 1} → statement M
-span-controls-spec = tie.close (tie.spec first-record-requires four-records-requires sixfold-controls-requires returns)
+span-controls-spec = tie.close (tie.spec first-record-requires four-records-requires whole-controls-requires returns)
