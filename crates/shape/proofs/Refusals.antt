@@ -8,10 +8,11 @@ use Prim.Native.Nat.{ℕ, zero, suc, _+_, _*_, _≤_, _<_}
 use native.Mathlib.Nat.{le-trans}
 use native.Mathlib.Omega.{arith}
 use borrow.Author.Tests.{leb-true, ltb-false, not-false}
-use lib.Dec.{leb, eqb}
+use lib.Dec.{leb, ltb, eqb, lit≤}
 use lib.IntN.{ℤ, natAbs}
 use lib.ListN.{length}
-use Rattle.curve.specs.Limits.{Inside, beyond, limit}
+use Rattle.curve.specs.Published.{mostParameter}
+use Rattle.curve.specs.Limits.{Inside, beyond, limit, parameterOf}
 use Rattle.curve.specs.Span.{coordinate, firstRecord, recordsFrom}
 use Rattle.curve.specs.Ways.{deepest}
 use Rattle.shape.specs.declared.Shape.{Shape}
@@ -19,7 +20,7 @@ use Rattle.shape.specs.declared.Plan.{Plan}
 use Rattle.shape.specs.declared.Refusal.{Refusal}
 use Rattle.shape.specs.declared.Judged.the-variants.{Sound, Unsound}
 use Rattle.shape.specs.declared.Checked.the-variants.{Fine, Bad}
-use Rattle.shape.specs.Shape.{lastBasis, basisOf, spansOf, allowed}
+use Rattle.shape.specs.Shape.{lastBasis, cardinal, sixtyFourths, basisOf, basisIn, spansOf, allowed}
 use Rattle.shape.specs.Refusals.{Row, judge, First, NoRow, shapeRows, planOf, judgeShape, outside, firstOutside, limitsRow, controlRows, judgeControls, listRows, judgeLists}
 use Rattle.shape.specs.Inner.{Good, Lent}
 use Rattle.shape.proofs.Tests.{passes, and-true, or-false}
@@ -158,10 +159,20 @@ unsound s r e rest f a = judge-append (shapeRows s) rest f a ∙ judge-first (sh
 pub sound {ℓ} : {A : Type ℓ} (s : Shape) (p : Plan) → judgeShape s ≡ Sound p → (rest : List Row) (f : Refusal → A) (a : A) → judge (shapeRows s ++ rest) f a ≡ judge rest f a
 sound s p e rest f a = judge-append (shapeRows s) rest f a ∙ judge-none (shapeRows s) f (judge rest f a) (sound-none s p e)
 
+-- a basis whose row 24 fails has a parameter that is offered
+offered : (n c : ℕ) → (eqb n cardinal && ltb mostParameter c) ≡ false → parameterOf (basisOf n c) ≤ mostParameter
+unfolding basisOf sixtyFourths
+offered zero c e = lit≤ tt
+offered (suc zero) c e = lit≤ tt
+offered (suc (suc zero)) c e = lit≤ tt
+offered (suc (suc (suc zero))) zero e = lit≤ tt
+offered (suc (suc (suc zero))) (suc c) e = ltb-false mostParameter (suc c) e
+offered (suc (suc (suc (suc n)))) c e = lit≤ tt
+
 pub good-plan : (s : Shape) → NoRow (shapeRows s) → Good s (planOf s)
 unfolding planOf
 good-plan s h =
-    let b = basisOf (s .basis) in
+    let b = basisIn s in
     let (least, most) = and-true (leb 1 (s .basis)) (leb (s .basis) lastBasis) (not-false (leb 1 (s .basis) && leb (s .basis) lastBasis) (row-fails 1 (shapeRows s) h)) in
     let (records-most, spans, records) = allowed-facts b (s .count) (not-false (allowed b (s .count)) (row-fails 3 (shapeRows s) h)) in
     record {
@@ -170,6 +181,7 @@ good-plan s h =
       basis-most = leb-true (s .basis) lastBasis most;
       depth = refl;
       depth-most = ltb-false deepest (s .depth) (row-fails 2 (shapeRows s) h);
+      offered = offered (s .basis) (s .parameter) (row-fails 24 (shapeRows s) h);
       spans-least = spans;
       spans-most = subst (λ n. spansOf b (s .count) + 3 ≤ n) records (spans-below b (spansOf b (s .count)) spans);
       records = records;

@@ -35,6 +35,6 @@ table =
     record {
       bezier = row-of _ _ _ _ (λ m. refl) (λ m. (omega arith, omega arith)) (λ s. refl);
       bSpline = row-of _ _ _ _ (λ m. omega arith) (λ m. (omega arith, omega arith)) one-mul;
-      cardinal = row-of _ _ _ _ (λ m. omega arith) (λ m. (omega arith, omega arith)) one-mul;
+      cardinal = λ c. row-of _ _ _ _ (λ m. omega arith) (λ m. (omega arith, omega arith)) one-mul;
       hermite = row-of _ _ _ _ (λ m. refl) (λ m. (omega arith, omega arith)) (λ s. refl);
     }

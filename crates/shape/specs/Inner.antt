@@ -5,20 +5,22 @@ use mathlib.Core.Path.{_≡_}
 use Prim.Native.Nat.{ℕ, _+_, _*_, _≤_, _<_}
 use lib.IntN.{ℤ, natAbs}
 use lib.ListN.{length}
-use Rattle.curve.specs.Limits.{limit}
+use Rattle.curve.specs.Published.{mostParameter}
+use Rattle.curve.specs.Limits.{limit, parameterOf}
 use Rattle.curve.specs.Span.{coordinate}
 use Rattle.curve.specs.Ways.{deepest}
 use Rattle.shape.specs.declared.Shape.{Shape}
 use Rattle.shape.specs.declared.Plan.{Plan}
-use Rattle.shape.specs.Shape.{lastBasis, basisOf, recordsOf, mostRecords}
+use Rattle.shape.specs.Shape.{lastBasis, basisIn, recordsOf, mostRecords}
 
 -- A sound shape and its plan.
 pub record Good (s : Shape) (p : Plan) : Type 0 where
-  pub basis : p .basis ≡ basisOf (s .basis)
+  pub basis : p .basis ≡ basisIn s
   pub basis-least : 1 ≤ s .basis
   pub basis-most : s .basis ≤ lastBasis
   pub depth : p .depth ≡ s .depth
   pub depth-most : p .depth ≤ deepest
+  pub offered : parameterOf (p .basis) ≤ mostParameter
   pub spans-least : 1 ≤ p .spans
   pub spans-most : p .spans + 3 ≤ s .count
   pub records : recordsOf (p .basis) (p .spans) ≡ s .count

@@ -5,9 +5,10 @@ use mathlib.Core.List.{List, [], _∷_, _++_}
 use mathlib.Core.Logic.{_⊎_}
 use mathlib.Core.Path.{_≡_}
 use Prim.Native.Nat.{ℕ, zero, suc, _*_}
-use lib.Dec.{leb, ltb}
+use lib.Dec.{leb, ltb, eqb}
 use lib.IntN.{ℤ}
 use lib.ListN.{length}
+use Rattle.curve.specs.Published.{mostParameter}
 use Rattle.curve.specs.Limits.{limit, beyond}
 use Rattle.curve.specs.Span.{coordinate}
 use Rattle.curve.specs.Ways.{deepest}
@@ -18,7 +19,7 @@ use Rattle.shape.specs.declared.Judged.{Judged}
 use Rattle.shape.specs.declared.Judged.the-variants.{Sound, Unsound}
 use Rattle.shape.specs.declared.Checked.{Checked}
 use Rattle.shape.specs.declared.Checked.the-variants.{Fine, Bad}
-use Rattle.shape.specs.Shape.{lastBasis, basisOf, spansOf, allowed}
+use Rattle.shape.specs.Shape.{lastBasis, cardinal, basisIn, spansOf, allowed}
 
 pub record Row : Type 0 where
   pub holds : Bool
@@ -46,7 +47,7 @@ unfoldable pub seek : (ℕ → Bool) → ℕ → ℕ → ℕ
 seek test i zero = i
 seek test i (suc n) = cond (test i) i (seek test (suc i) n)
 
--- ---- rows 1, 2, 3: the shape
+-- ---- rows 1, 2, 24, 3: the shape
 
 abbrev pub basisRow : Shape → Row
 basisRow s = row (not (leb 1 (s .basis) && leb (s .basis) lastBasis)) 1 0
@@ -54,15 +55,25 @@ basisRow s = row (not (leb 1 (s .basis) && leb (s .basis) lastBasis)) 1 0
 abbrev pub depthRow : Shape → Row
 depthRow s = row (ltb deepest (s .depth)) 2 0
 
+-- Document 02, request 7: the parameter of a cardinal curve above 64.
+abbrev pub parameterRow : Shape → Row
+parameterRow s = row (eqb (s .basis) cardinal && ltb mostParameter (s .parameter)) 24 0
+
 abbrev pub countRow : Shape → Row
-countRow s = row (not (allowed (basisOf (s .basis)) (s .count))) 3 0
+countRow s = row (not (allowed (basisIn s) (s .count))) 3 0
+
+abbrev pub numberRows : Shape → List Row
+numberRows s = basisRow s ∷ depthRow s ∷ parameterRow s ∷ []
 
 abbrev pub shapeRows : Shape → List Row
-shapeRows s = basisRow s ∷ depthRow s ∷ countRow s ∷ []
+shapeRows s = numberRows s ++ countRow s ∷ []
 
 -- A shape that no row refuses: its basis, depth and spans.
 unfoldable pub planOf : Shape → Plan
-planOf s = record { basis = basisOf (s .basis); depth = s .depth; spans = spansOf (basisOf (s .basis)) (s .count) }
+planOf s = record { basis = basisIn s; depth = s .depth; spans = spansOf (basisIn s) (s .count) }
+
+unfoldable pub judgeNumbers : Shape → Checked
+judgeNumbers s = judge (numberRows s) Bad Fine
 
 unfoldable pub judgeShape : Shape → Judged
 judgeShape s = judge (shapeRows s) Unsound (Sound (planOf s))

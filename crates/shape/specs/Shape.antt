@@ -1,4 +1,4 @@
--- A shape is basis, depth k and control count n (document 01, "What it draws"): how many spans and points it has. The numbers are as they were passed, wrong ones too.
+-- A shape is basis, depth k and control count n (document 01, "What it draws"), and a parameter (document 02, request 7): how many spans and points it has. The numbers are as they were passed, wrong ones too.
 use mathlib.Core.Bool.{Bool, _&&_}
 use Prim.Native.Nat.{ℕ, zero, suc, _+_, _*_, _-_, _/_, _^_}
 use lib.Dec.{leb, eqb}
@@ -6,18 +6,31 @@ use Rattle.curve.specs.Span.{stride}
 use Rattle.curve.specs.Ways.{deepest}
 use Rattle.curve.specs.declared.Basis.{Basis}
 use Rattle.curve.specs.declared.Basis.the-variants.{Bezier, BSpline, Cardinal, Hermite}
+use Rattle.shape.specs.declared.Shape.{Shape}
 
 -- The bases are numbered from 1 to 4.
 abbrev pub lastBasis : ℕ
 lastBasis = 4
 
--- The basis of a number from 1 to 4. Of any other number, which row 1 refuses, it says Hermite, and nothing comes of that.
-unfoldable pub basisOf : ℕ → Basis
-basisOf zero = Hermite
-basisOf (suc zero) = Bezier
-basisOf (suc (suc zero)) = BSpline
-basisOf (suc (suc (suc zero))) = Cardinal
-basisOf (suc (suc (suc (suc n)))) = Hermite
+-- The number of the one that has a parameter.
+abbrev pub cardinal : ℕ
+cardinal = 3
+
+-- A parameter in 64ths: 0 means one half, as 32 does (document 02, request 7).
+unfoldable pub sixtyFourths : ℕ → ℕ
+sixtyFourths zero = 32
+sixtyFourths (suc c) = suc c
+
+-- The basis of a number from 1 to 4 and a parameter, which a cardinal curve alone looks at. Of any other number, which row 1 refuses, it says Hermite, and nothing comes of that.
+unfoldable pub basisOf : ℕ → ℕ → Basis
+basisOf zero c = Hermite
+basisOf (suc zero) c = Bezier
+basisOf (suc (suc zero)) c = BSpline
+basisOf (suc (suc (suc zero))) c = Cardinal (sixtyFourths c)
+basisOf (suc (suc (suc (suc n)))) c = Hermite
+
+abbrev pub basisIn : Shape → Basis
+basisIn s = basisOf (s .basis) (s .parameter)
 
 -- One span takes four records, whatever the basis, and n is at most 64.
 abbrev pub leastRecords : ℕ

@@ -17,5 +17,5 @@ pub record Line (b : Basis) (controls : ℕ → ℕ) (most : ℕ) (first : ℕ �
 pub record Table : Type 0 where
   pub bezier : Line Bezier (λ m. 3 * m + 1) 21 (λ s. 3 * s)
   pub bSpline : Line BSpline (λ m. m + 3) 61 (λ s. s)
-  pub cardinal : Line Cardinal (λ m. m + 3) 61 (λ s. s)
+  pub cardinal : (c : ℕ) → Line (Cardinal c) (λ m. m + 3) 61 (λ s. s)
   pub hermite : Line Hermite (λ m. 2 * m + 2) 31 (λ s. 2 * s)

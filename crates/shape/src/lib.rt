@@ -4,20 +4,22 @@ ghost use mathlib.Core.Path.{_≡_};
 ghost use Prim.Native.Nat.{_*_, _^_, _≤_};
 ghost use lib.ListN.{length};
 ghost use Rattle.curve.specs.Ways.{deepest};
-ghost use Rattle.shape.specs.Shape.{basisOf, shared, spansOf, lastUsing, recordsOf, allowed, pointsOf, mostRecords, mostPoints};
-ghost use Rattle.shape.specs.Refusals.{judgeShape, judgeControls, judgeLists, firstOutside};
+ghost use Rattle.shape.specs.Shape.{sixtyFourths, basisOf, shared, spansOf, lastUsing, recordsOf, allowed, pointsOf, mostRecords, mostPoints};
+ghost use Rattle.shape.specs.Refusals.{judgeNumbers, judgeShape, judgeControls, judgeLists, firstOutside};
 use curve::Basis;
 use curve::DEEPEST;
 use curve::LIMIT;
+use curve::MOST_PARAMETER;
 use curve::bounds::is_beyond;
 use curve::records::first_record;
 use curve::records::stride_of;
 
-// A shape as a caller passes it: basis, depth and control count, right or wrong.
+// A shape as a caller passes it: basis, depth, control count and parameter, right or wrong. The parameter is looked at for basis 3 alone, and is handed on as it came.
 pub struct Shape {
     pub basis: usize,
     pub depth: usize,
     pub count: usize,
+    pub parameter: usize,
 }
 
 // A shape that was found sound: its basis, its depth and its spans.
@@ -33,7 +35,7 @@ pub struct Refusal {
     pub place: usize,
 }
 
-// What the checks of a shape find (rows 1, 2, 3).
+// What the checks of a shape find (rows 1, 2, 24, 3).
 pub enum Judged {
     Sound(Plan),
     Unsound(Refusal),
@@ -68,19 +70,31 @@ const FIRST_BASIS: usize = 1;
 
 const LAST_BASIS: usize = 4;
 
+// The number of the one that has a parameter, and the parameter that nought stands for, one half in 64ths.
+const CARDINAL: usize = 3;
+
+const ONE_HALF: usize = 32;
+
 // One span takes four records, whatever the basis; n is at most 64.
 pub const LEAST_RECORDS: usize = 4;
 
 pub const MOST_RECORDS: usize = 64;
 
-// The basis of a number from 1 to 4.
-fn basis_of(number: usize) -> Basis
-    ensures { λ r. ⌜ r ≡ basisOf number ⌝ }
+// A parameter in 64ths, where nought stands for one half.
+fn sixty_fourths(parameter: usize) -> usize
+    ensures { λ r. ⌜ r ≡ sixtyFourths parameter ⌝ }
+{
+    if parameter == 0 { ONE_HALF } else { parameter }
+}
+
+// The basis of a number from 1 to 4, the cardinal one with its parameter.
+fn basis_of(number: usize, parameter: usize) -> Basis
+    ensures { λ r. ⌜ r ≡ basisOf number parameter ⌝ }
 {
     match number {
         1 => Basis::Bezier,
         2 => Basis::BSpline,
-        3 => Basis::Cardinal,
+        3 => Basis::Cardinal(sixty_fourths(parameter)),
         _ => Basis::Hermite,
     }
 }
@@ -134,33 +148,49 @@ fn allowed_spans(basis: Basis, count: usize) -> usize
     spans
 }
 
-// The checks of a shape in the paper's order, 1, 2, 3: whatever numbers it holds, a refusal or the plan.
-pub fn check_shape(shape: Shape) -> Judged
-    ensures { λ r. ⌜ r ≡ judgeShape shape ⌝ }
+// The checks of a shape's basis, depth and parameter in the paper's order, 1, 2, 24.
+fn check_numbers(shape: Shape) -> Checked
+    ensures { λ r. ⌜ r ≡ judgeNumbers shape ⌝ }
 {
     let number = shape.basis;
-    let depth = shape.depth;
-    let count = shape.count;
     if number < FIRST_BASIS {
-        return Judged::Unsound(Refusal {
+        return Checked::Bad(Refusal {
             number: 1,
             place: 0,
         });
     }
     if LAST_BASIS < number {
-        return Judged::Unsound(Refusal {
+        return Checked::Bad(Refusal {
             number: 1,
             place: 0,
         });
     }
-    if DEEPEST < depth {
-        return Judged::Unsound(Refusal {
+    if DEEPEST < shape.depth {
+        return Checked::Bad(Refusal {
             number: 2,
             place: 0,
         });
     }
-    let basis = basis_of(number);
-    let spans = allowed_spans(basis, count);
+    if number == CARDINAL {
+        if MOST_PARAMETER < shape.parameter {
+            return Checked::Bad(Refusal {
+                number: 24,
+                place: 0,
+            });
+        }
+    }
+    Checked::Fine
+}
+
+// The checks of a shape in the paper's order, 1, 2, 24, 3: whatever numbers it holds, a refusal or the plan.
+pub fn check_shape(shape: Shape) -> Judged
+    ensures { λ r. ⌜ r ≡ judgeShape shape ⌝ }
+{
+    if let Checked::Bad(refusal) = check_numbers(shape) {
+        return Judged::Unsound(refusal);
+    }
+    let basis = basis_of(shape.basis, shape.parameter);
+    let spans = allowed_spans(basis, shape.count);
     if spans == 0 {
         return Judged::Unsound(Refusal {
             number: 3,
@@ -169,7 +199,7 @@ pub fn check_shape(shape: Shape) -> Judged
     }
     Judged::Sound(Plan {
         basis,
-        depth,
+        depth: shape.depth,
         spans,
     })
 }
