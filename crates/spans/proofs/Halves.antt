@@ -16,8 +16,8 @@ use Rattle.whole.proofs.Ring.{var, lit, _⊗_, solve}
 use Rattle.whole.proofs.Fit.{sfits}
 use Rattle.curve.specs.declared.Four.{Four}
 use Rattle.curve.specs.Tab.{tab}
-use Rattle.curve.specs.Limits.{Inside, reach}
-use Rattle.curve.specs.Inner.{widest}
+use Rattle.curve.specs.Limits.{Inside}
+use Rattle.curve.specs.Inner.{widest, farReach}
 use Rattle.curve.specs.Span.{weighted}
 use Rattle.curve.specs.Ways.{deepest, leftHalf, rightHalf}
 use Rattle.curve.proofs.Tab.{tab-append, tab-same, length-tab}
@@ -50,7 +50,7 @@ module _ (l d : ℕ) (q : Four) (h : l < deepest) (cut : Cuttable (suc l) d q) w
       record {
         inside = subst (λ (n : ℕ). Inside n (leftHalf q)) (next-bound l h) (eightfold (widest * 8 ^ (deepest - suc l)) (8 * (widest * 8 ^ (deepest - suc l))) q (le-refl _) (cut .inside) .0);
         near = λ i b.
-            subst (λ z. natAbs z ≤ d * reach) (ap (λ (n : ℕ). weighted q (pos i) (pos n)) (sym (doubled l)) ∙ sym (left-half q (pos i) (pos (2 ^ l))))
+            subst (λ z. natAbs z ≤ d * farReach) (ap (λ (n : ℕ). weighted q (pos i) (pos n)) (sym (doubled l)) ∙ sym (left-half q (pos i) (pos (2 ^ l))))
             (cut .near i (omega (arith, doubled l)));
       }
 
@@ -59,7 +59,7 @@ module _ (l d : ℕ) (q : Four) (h : l < deepest) (cut : Cuttable (suc l) d q) w
       record {
         inside = subst (λ (n : ℕ). Inside n (rightHalf q)) (next-bound l h) (eightfold (widest * 8 ^ (deepest - suc l)) (8 * (widest * 8 ^ (deepest - suc l))) q (le-refl _) (cut .inside) .1);
         near = λ i b.
-            subst (λ z. natAbs z ≤ d * reach) (ap (λ (n : ℕ). weighted q (pos (2 ^ l + i)) (pos n)) (sym (doubled l)) ∙ sym (right-half q (pos i) (pos (2 ^ l))))
+            subst (λ z. natAbs z ≤ d * farReach) (ap (λ (n : ℕ). weighted q (pos (2 ^ l + i)) (pos n)) (sym (doubled l)) ∙ sym (right-half q (pos i) (pos (2 ^ l))))
             (cut .near (2 ^ l + i) (omega (arith, doubled l)));
       }
 
@@ -165,8 +165,8 @@ halves-rounded left d x y at n l h {first} {second} e f =
     ∙ ap (λ (k : ℕ). rounds d (pieceSums k x y) at n l) (sym whole)
 
 -- and that start is within the divisor's reach
-pub leaf-near : (left d : ℕ) (q : Four) → left ≡ 0 → Cuttable left d q → natAbs (q .a) ≤ d * reach
-leaf-near left d q e cut = subst (λ z. natAbs z ≤ d * reach) (ap (λ (n : ℕ). weighted q (pos 0) (pos (2 ^ n))) e ∙ uncut q) (cut .near 0 (pow-pos left))
+pub leaf-near : (left d : ℕ) (q : Four) → left ≡ 0 → Cuttable left d q → natAbs (q .a) ≤ d * farReach
+leaf-near left d q e cut = subst (λ z. natAbs z ≤ d * farReach) (ap (λ (n : ℕ). weighted q (pos 0) (pos (2 ^ n))) e ∙ uncut q) (cut .near 0 (pow-pos left))
 
 -- a first control is inside 64 bits
 pub leaf-fits : (left d : ℕ) (q : Four) → Cuttable left d q → SFits w64 (q .a)

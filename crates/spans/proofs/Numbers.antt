@@ -28,7 +28,7 @@ use Rattle.spans.specs.Inner.{paired, onAxis, ending}
 pub stride-is : (k : ℕ) → k ≤ deepest → 2 * 2 ^ k % 2 ^ 64 ≡ perSpan k
 stride-is k h = mod-eq-of-lt (lt-of-le-of-lt (mul-le-mul (le-refl 2) (pow-mono {i = k} {j = deepest} h)) (lit< tt))
 
--- the sixfold controls of span s on an axis
+-- the whole controls of span s on an axis
 abbrev pub spanControls : Basis → List ℤ → ℕ → ℕ → Four
 spanControls b controls s axis = wholeControls b (records b s (coordinate controls axis))
 

@@ -12,8 +12,7 @@ use mir.Val.{SFits}
 use Rattle.whole.proofs.Fit.{sfits}
 use Rattle.curve.specs.declared.Four.{Four}
 use Rattle.curve.specs.declared.Differences.{Differences}
-use Rattle.curve.specs.Limits.{reach}
-use Rattle.curve.specs.Inner.{Small}
+use Rattle.curve.specs.Inner.{Small, farReach}
 use Rattle.curve.specs.Span.{weighted}
 use Rattle.curve.specs.Ways.{deepest, differences, advance}
 use Rattle.curve.proofs.Ways.{state, begins, advances, state-small}
@@ -41,7 +40,7 @@ ready-steady k d q h ready =
     let deep = pow-mono {i = k} {j = deepest} h in
     record {
       small = λ i b. subst Small (sym (after-state q (2 ^ k) i)) (state-small q i (2 ^ k) (ready .inside) (omega arith) deep);
-      near = λ i b. subst (λ z. natAbs z ≤ d * reach) (sym (after-value q (2 ^ k) i)) (ready .near i (omega arith));
+      near = λ i b. subst (λ z. natAbs z ≤ d * farReach) (sym (after-value q (2 ^ k) i)) (ready .near i (omega arith));
     }
 
 -- the sums of a step

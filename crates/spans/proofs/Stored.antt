@@ -13,20 +13,18 @@ use Rattle.whole.specs.Nearest.{nearest, remainder, rounding}
 use Rattle.whole.proofs.Nearest.{nearest-size}
 use Rattle.whole.proofs.Remainder.{remainder-close}
 use Rattle.whole.proofs.Fit.{kept, kept-is, sfits, size-fits}
-use Rattle.curve.specs.Limits.{reach}
-use Rattle.curve.specs.Span.{divisorOf}
-use Rattle.curve.specs.Ways.{mostBits}
-use Rattle.curve.proofs.Span.{divisor-most}
+use Rattle.curve.specs.Inner.{farReach, divisorOf, mostBits}
+use Rattle.curve.proofs.Bits.{divisor-most}
 
-module _ (bits : ℕ) (deep : bits ≤ mostBits) (z : ℤ) (near : natAbs z ≤ divisorOf bits * reach) where
+module _ (bits : ℕ) (deep : bits ≤ mostBits) (z : ℤ) (near : natAbs z ≤ divisorOf bits * farReach) where
   abbrev d : ℕ
   d = divisorOf bits
 
   some : 0 < d
   some = mul-pos (lit< tt) (pow-pos bits)
 
-  small : natAbs (nearest z d) ≤ reach
-  small = nearest-size z d reach some near
+  small : natAbs (nearest z d) ≤ farReach
+  small = nearest-size z d farReach some near
 
   left-fits : SFits w64 (remainder z d)
   left-fits =
@@ -35,17 +33,17 @@ module _ (bits : ℕ) (deep : bits ≤ mostBits) (z : ℤ) (near : natAbs z ≤ 
 
   -- the sum itself is far inside 64 bits
   pub sum-small : natAbs z < 2 ^ 63
-  sum-small = lt-of-le-of-lt (le-trans near (mul-le-mul (divisor-most bits deep) (le-refl reach))) (lit< tt)
+  sum-small = lt-of-le-of-lt (le-trans near (mul-le-mul (divisor-most bits deep) (le-refl farReach))) (lit< tt)
 
   module _ (r : Rounding) (answer : r ≡ rounding z d) where
     whole-is : kept w64 (r .whole) ≡ nearest z d
-    whole-is = ap (λ (q : Rounding). kept w64 (q .whole)) answer ∙ kept-is w64 (nearest z d) (sfits w64 (nearest z d) reach small tt)
+    whole-is = ap (λ (q : Rounding). kept w64 (q .whole)) answer ∙ kept-is w64 (nearest z d) (sfits w64 (nearest z d) farReach small tt)
 
     pub whole-fits : SFits w32 (kept w64 (r .whole))
-    whole-fits = subst (SFits w32) (sym whole-is) (sfits w32 (nearest z d) reach small tt)
+    whole-fits = subst (SFits w32) (sym whole-is) (sfits w32 (nearest z d) farReach small tt)
 
     pub stored : kept w32 (kept w64 (r .whole)) ≡ nearest z d
-    stored = ap (kept w32) whole-is ∙ kept-is w32 (nearest z d) (sfits w32 (nearest z d) reach small tt)
+    stored = ap (kept w32) whole-is ∙ kept-is w32 (nearest z d) (sfits w32 (nearest z d) farReach small tt)
 
     left-is : kept w64 (r .remainder) ≡ remainder z d
     left-is = ap (λ (q : Rounding). kept w64 (q .remainder)) answer ∙ kept-is w64 (remainder z d) left-fits

@@ -14,8 +14,9 @@ use Rattle.curve.specs.declared.Four.{Four}
 use Rattle.curve.specs.declared.Differences.{Differences}
 use Rattle.curve.specs.Span.{coordinate, records, weighted, firstRecord}
 use Rattle.curve.specs.Ways.{advance, deepest, weightTable}
-use Rattle.curve.specs.Limits.{Inside, limit, reach}
-use Rattle.curve.specs.Inner.{Small, widest}
+use Rattle.curve.specs.Published.{mostParameter}
+use Rattle.curve.specs.Limits.{Inside, limit, parameterOf}
+use Rattle.curve.specs.Inner.{Small, widest, farReach}
 use Rattle.shape.specs.declared.Plan.{Plan}
 use Rattle.shape.specs.Shape.{mostRecords}
 use Rattle.spans.specs.Numbers.{noughts, perSpan}
@@ -58,24 +59,25 @@ stepped x y j = after (j / 2) (cond (eqb (j % 2) 0) x y) .value
 
 -- ---- what it can be drawn from
 
--- Controls of one axis that a span can be drawn from: sixfold controls of records inside the limits, so that each sum, of 2^k steps, is within its divisor d times 5,000,000.
+-- Controls of one axis that a span can be drawn from: whole controls of records inside the limits, so that each sum, of 2^k steps, is within its divisor d times the farthest reach.
 pub record Ready (k d : ℕ) (q : Four) : Type 0 where
   pub inside : Inside widest q
-  pub near : (i : ℕ) → i ≤ 2 ^ k → natAbs (weighted q (pos i) (pos (2 ^ k))) ≤ d * reach
+  pub near : (i : ℕ) → i ≤ 2 ^ k → natAbs (weighted q (pos i) (pos (2 ^ k))) ≤ d * farReach
 
 -- The same for halving, with `left` more cuts to make: eight times as large with each cut made.
 pub record Cuttable (left d : ℕ) (q : Four) : Type 0 where
   pub inside : Inside (widest * 8 ^ (deepest - left)) q
-  pub near : (i : ℕ) → i < 2 ^ left → natAbs (weighted q (pos i) (pos (2 ^ left))) ≤ d * reach
+  pub near : (i : ℕ) → i < 2 ^ left → natAbs (weighted q (pos i) (pos (2 ^ left))) ≤ d * farReach
 
 -- The same for differences: each of the 2^k steps' states is small, and its sum within the reach.
 pub record Steady (k d : ℕ) (s : Differences) : Type 0 where
   pub small : (i : ℕ) → i < 2 ^ k → Small (after i s)
-  pub near : (i : ℕ) → i < 2 ^ k → natAbs (after i s .value) ≤ d * reach
+  pub near : (i : ℕ) → i < 2 ^ k → natAbs (after i s .value) ≤ d * farReach
 
--- A list of controls that a plan's spans can be drawn from: each span's four records are in the list and inside the limits.
+-- A list of controls that a plan's spans can be drawn from: the parameter is one that is offered, and each span's four records are in the list and inside the limits.
 pub record Drawable (p : Plan) (controls : List ℤ) : Type 0 where
   pub few : p .spans ≤ mostRecords
+  pub offered : parameterOf (p .basis) ≤ mostParameter
   pub held : (s : ℕ) → s < p .spans → 2 * firstRecord (p .basis) s + 8 ≤ length controls
   pub inside : (s axis : ℕ) → s < p .spans → axis < 2 → Inside limit (records (p .basis) s (coordinate controls axis))
 

@@ -5,10 +5,10 @@ ghost use lib.IntN.{pos};
 ghost use lib.ListN.{length};
 ghost use Rattle.whole.specs.Outcome.{outcome};
 ghost use Rattle.curve.specs.Limits.{Inside};
-ghost use Rattle.curve.specs.Inner.{widest};
+ghost use Rattle.curve.specs.Inner.{widest, divisorOf, mostBits};
 ghost use Rattle.curve.specs.Tab.{tab};
-ghost use Rattle.curve.specs.Span.{coordinate, divisorOf, records, wholeControls, weighted};
-ghost use Rattle.curve.specs.Ways.{deepest, mostBits};
+ghost use Rattle.curve.specs.Span.{coordinate, records, wholeControls, weighted};
+ghost use Rattle.curve.specs.Ways.{deepest};
 ghost use Rattle.spans.specs.Numbers.{perSpan};
 ghost use Rattle.spans.specs.Filled.{fillsRun};
 ghost use Rattle.spans.specs.Inner.{ending, paired, rounds, Drawable, Fillable, Ready, TableFor};
@@ -20,6 +20,7 @@ use curve::Four;
 use curve::records::first_record;
 use curve::records::four_records;
 use curve::records::whole_controls;
+use curve::rounding::divisor_bits;
 use curve::weights::weight_table;
 use shape::Plan;
 
@@ -30,7 +31,7 @@ pub enum Way {
     Differences,
 }
 
-// The sixfold controls of a span on an axis: 0 is x, 1 is y.
+// The whole controls of a span on an axis: 0 is x, 1 is y.
 pub fn span_controls(controls: &[i32], plan: Plan, span: usize, axis: usize) -> Four
     requires { ⌜ (span < plan .spans) × (axis < 2) ⌝ }
     requires { ⌜ Drawable plan (now controls) ⌝ }
@@ -115,9 +116,9 @@ fn fill_run(
     requires { ⌜ TableFor way (now table) ⌝ }
     ensures { λ r. ⌜ outcome r (now (points .exit)) ≡ fillsRun plan from to (now (controls .entry)) (now (points .entry)) ⌝ }
 {
+    let basis = plan.basis;
     let depth = plan.depth;
-    // The divisor is 6 · 2^bits.
-    let bits = (3 * depth) as u32;
+    let bits = divisor_bits(basis, depth);
     let stride: usize = 2 << depth;
     let mut span = from;
     let mut at = from * stride;

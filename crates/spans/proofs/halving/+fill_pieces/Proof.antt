@@ -15,8 +15,7 @@ use Rattle.whole.specs.Outcome.{outcome}
 use Rattle.whole.proofs.Fit.{kept, kept-is}
 use Rattle.curve.specs.declared.Four.{Four}
 use Rattle.curve.proofs.Tab.{length-tab}
-use Rattle.curve.specs.Limits.{reach}
-use Rattle.curve.specs.Span.{divisorOf}
+use Rattle.curve.specs.Inner.{farReach, divisorOf}
 use Rattle.curve.specs.Ways.{deepest, leftHalf, rightHalf}
 use Rattle.curve.proofs.Four.left_half.Reads as left-half-reads
 use Rattle.curve.proofs.Four.right_half.Reads as right-half-reads
@@ -46,8 +45,8 @@ abbrev callees : ℕ → lts.Claims
 callees t = (put-point-reads.Asked, put-point-reads.Learnt, left-half-reads.Asked, left-half-reads.Learnt, below t, reads.Post, right-half-reads.Asked, right-half-reads.Learnt)
 
 -- a first control as the machine keeps it
-near : (left d : ℕ) (q : Four) → left ≡ 0 → Cuttable left d q → natAbs (kept w64 (q .a)) ≤ d * reach
-near left d q e cut = subst (λ z. natAbs z ≤ d * reach) (sym (kept-is w64 (q .a) (leaf-fits left d q cut))) (leaf-near left d q e cut)
+near : (left d : ℕ) (q : Four) → left ≡ 0 → Cuttable left d q → natAbs (kept w64 (q .a)) ≤ d * farReach
+near left d q e cut = subst (λ z. natAbs z ≤ d * farReach) (sym (kept-is w64 (q .a) (leaf-fits left d q cut))) (leaf-near left d q e cut)
 
 put-point-requires : (t : ℕ) → lts.Need-put-point-requires (callees t) (here t) reads.Post
 put-point-requires t c κs =

@@ -2,7 +2,7 @@
 use native.Mathlib.Omega.{arith}
 use borrow.Author.Needs.{needs}
 use Rattle.whole.specs.Outcome.{outcome}
-use Rattle.curve.specs.Span.{divisorOf}
+use Rattle.curve.specs.Inner.{divisorOf}
 use Rattle.curve.proofs.Tab.{length-tab}
 use Rattle.spans.specs.Numbers.{perSpan}
 use Rattle.spans.specs.Inner.{paired}

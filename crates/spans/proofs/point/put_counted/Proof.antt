@@ -6,7 +6,7 @@ use mir.Syntax.{w64}
 use Rattle.whole.specs.Nearest.{rounding}
 use Rattle.whole.specs.Outcome.{outcome}
 use Rattle.whole.proofs.Fit.{kept-is}
-use Rattle.curve.specs.Span.{divisorOf}
+use Rattle.curve.specs.Inner.{divisorOf}
 use Rattle.spans.proofs.Rounds.{exact-one, exact-none}
 use Rattle.spans.proofs.Stored.{whole-fits, stored, tested, untested}
 use Rattle.spans.proofs.point.put_counted.Statement.{statement}

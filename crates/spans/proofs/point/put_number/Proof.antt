@@ -14,7 +14,7 @@ use Rattle.whole.specs.Inner.{multipleOf}
 use Rattle.whole.specs.Outcome.{outcome}
 use Rattle.whole.proofs.Remainder.{nought-multiple}
 use Rattle.whole.proofs.Fit.{kept-is}
-use Rattle.curve.specs.Span.{sixfold, divisorOf}
+use Rattle.curve.specs.Inner.{divisorOf}
 use Rattle.spans.specs.Inner.{rounds}
 use Rattle.spans.proofs.Rounds.{exact-none}
 use Rattle.spans.proofs.Stored.{sum-small, whole-fits, stored}
@@ -67,7 +67,7 @@ returns-2 c =
     let e = 2 ^ a .bits in
     let number = stored (a .bits) (s .pre .0) (a .sum) (s .pre .1 .0) (r .rounded .result) (answer r) in
     let none : multipleOf e (a .sum) ≡ false = sym (m .is-multiple .ensures ∙ ap (multipleOf e) (kept-is w64 (a .sum) (s .fits .sum))) ∙ r .before .if1 .left in
-    let count = exact-none (divisorOf (a .bits)) (a .sum) (a .exact) (λ h. eqb-false (natAbs (a .sum) % e) 0 none (nought-multiple (a .sum) sixfold e h)) in
+    let count = exact-none (divisorOf (a .bits)) (a .sum) (a .exact) (λ h. eqb-false (natAbs (a .sum) % e) 0 none (nought-multiple (a .sum) 6 e h)) in
     λ i. outcome (count i) (set (a .points .now) (a .at) (number i))
 
 pub put-number-spec : {M : Type 1} → statement M

@@ -9,8 +9,7 @@ use mir.Syntax.{w64}
 use mir.Val.{SFits}
 use Rattle.whole.specs.Outcome.{outcome}
 use Rattle.whole.proofs.Fit.{kept, kept-is}
-use Rattle.curve.specs.Limits.{reach}
-use Rattle.curve.specs.Span.{divisorOf}
+use Rattle.curve.specs.Inner.{farReach, divisorOf}
 use Rattle.spans.specs.Inner.{rounds}
 use Rattle.spans.proofs.Rounds.{onward, rounds-append, rounds-most}
 use Rattle.spans.proofs.point.put_point.Statement.{statement}
@@ -22,7 +21,7 @@ near n z f h = subst (λ x. natAbs x ≤ n) (sym (kept-is w64 z f)) h
 put-number-requires : tie.Need-put-number-requires
 put-number-requires c κs =
     let s = c .before in
-    let n = divisorOf (s .args .bits) * reach in
+    let n = divisorOf (s .args .bits) * farReach in
     (s .pre .0, (near n (s .args .x) (s .fits .x) (s .pre .1 .0 .0), (omega (arith, s .pre .1 .1), s .pre .1 .1 .1)))
 
 add-put-number : tie.Need-add-put-number
@@ -41,7 +40,7 @@ put-number-requires-2 c κs =
     let t = c .before .before in
     let s = t .before .before in
     let a = s .args in
-    let n = divisorOf (a .bits) * reach in
+    let n = divisorOf (a .bits) * farReach in
     let most = rounds-most (divisorOf (a .bits)) (a .x ∷ []) (a .at) (a .exact) (a .points .now) (outcome (t .put-number .result) (t .put-number .last .0)) (on-x t) in
     (s .pre .0, (near n (a .y) (s .fits .y) (s .pre .1 .0 .1), (omega (arith, s .pre .1 .1, t .put-number .kept .0), omega (arith, most, s .pre .1 .1))))
 

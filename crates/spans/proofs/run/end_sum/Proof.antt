@@ -13,8 +13,8 @@ use mir.ValLaws.{toZ-pos}
 use Rattle.whole.proofs.Fit.{kept, kept-is, natAbs-mul, sfits}
 use Rattle.curve.specs.declared.Four.{Four}
 use Rattle.curve.specs.Limits.{Inside}
-use Rattle.curve.specs.Inner.{widest}
-use Rattle.curve.specs.Ways.{deepest, mostBits}
+use Rattle.curve.specs.Inner.{widest, mostBits}
+use Rattle.curve.specs.Ways.{deepest}
 use Rattle.curve.proofs.Powers.{cube, thrice, shift-one}
 use Rattle.curve.proofs.Span.{weighted-end}
 use Rattle.spans.proofs.run.end_sum.Statement.{statement}

@@ -13,7 +13,9 @@ use Rattle.whole.specs.Outcome.{Outcome, outcome}
 use Rattle.curve.specs.declared.Four.{Four}
 use Rattle.curve.specs.Tab.{tab}
 use Rattle.curve.specs.Span.{divisor}
-use Rattle.curve.specs.Ways.{deepest, mostBits}
+use Rattle.curve.specs.Ways.{deepest}
+use Rattle.curve.specs.Inner.{divisorOf, mostBits}
+use Rattle.curve.proofs.Bits.{divisor-bits, bits-most}
 use Rattle.curve.proofs.Tab.{length-tab}
 use Rattle.shape.specs.declared.Plan.{Plan}
 use Rattle.shape.specs.Shape.{mostRecords}
@@ -38,15 +40,15 @@ Inv-loop way table points₀ controls plan from to depth bits stride span₀ at�
 abbrev μ-loop : tie.MeasureT-loop
 μ-loop way table points₀ controls plan from to depth bits stride span₀ at₀ exact₀ points span at exact = to - span
 
--- the divisor's bits
-bits-small : (k : ℕ) → k ≤ deepest → 3 * k ≤ mostBits
-bits-small k h = omega arith
+divisor-bits-requires : tie.Need-divisor-bits-requires Inv-loop μ-loop
+divisor-bits-requires c κs = c .pre .0 .deep
 
-mul-bits : tie.Need-mul-bits Inv-loop μ-loop
-mul-bits c = omega arith
+-- the divisor by its bits is that of the basis at the depth
+over : (c : tie.After-divisor-bits Inv-loop μ-loop) → divisorOf (c .divisor-bits .result) ≡ divisor (c .before .args .plan .basis) (c .before .args .plan .depth)
+over c = ap divisorOf (c .divisor-bits .ensures) ∙ sym (divisor-bits (c .before .args .plan .basis) (c .before .args .plan .depth))
 
-cast-bits : tie.Need-cast-bits Inv-loop μ-loop
-cast-bits c = omega arith
+bits-small : (c : tie.After-divisor-bits Inv-loop μ-loop) → c .divisor-bits .result ≤ mostBits
+bits-small c = subst (λ (n : ℕ). n ≤ mostBits) (sym (c .divisor-bits .ensures)) (bits-most (c .before .args .plan .basis) (c .before .args .plan .depth) (c .before .pre .0 .deep))
 
 -- a place in a run of spans
 place-small : (k s : ℕ) → k ≤ deepest → s ≤ mostRecords → s * perSpan k ≤ mostRecords * perSpan deepest
@@ -57,15 +59,15 @@ shl-stride c = omega arith
 
 mul-at : tie.Need-mul-at Inv-loop μ-loop
 mul-at c =
-    let a = c .args in
+    let a = c .before .args in
     let k = a .plan .depth in
-    omega (arith, ap (λ (n : ℕ). a .from * n) (stride-is k (c .pre .0 .deep)), place-small k (a .from) (c .pre .0 .deep) (omega arith))
+    omega (arith, ap (λ (n : ℕ). a .from * n) (stride-is k (c .before .pre .0 .deep)), place-small k (a .from) (c .before .pre .0 .deep) (omega arith))
 
 loop-holds : tie.Need-loop-holds Inv-loop μ-loop
 loop-holds c =
-    let a = c .args in
+    let a = c .before .args in
     let w = perSpan (a .plan .depth) in
-    let e = stride-is (a .plan .depth) (c .pre .0 .deep) in
+    let e = stride-is (a .plan .depth) (c .before .pre .0 .deep) in
     let at = ap (λ (n : ℕ). a .from * n) e in (
       e,
       omega arith,
@@ -77,7 +79,7 @@ loop-holds c =
     )
 
 span-controls-requires : tie.Need-span-controls-requires Inv-loop μ-loop
-span-controls-requires c κs = let p = c .before .pre .0 in ((omega (arith, c .loop .inv .1, p .there), lit< tt), p .drawable)
+span-controls-requires c κs = let p = c .before .before .pre .0 in ((omega (arith, c .loop .inv .1, p .there), lit< tt), p .drawable)
 
 span-controls-requires-2 : tie.Need-span-controls-requires-2 Inv-loop μ-loop
 span-controls-requires-2 c κs = let r = span-controls-requires (c .before) κs in ((r .0 .0, lit< tt), r .1)
@@ -92,87 +94,89 @@ ready p controls from to n s axis f below h q e = subst (Ready (p .depth) (divis
 
 -- both axes' controls of a turn
 both-ready : (c : tie.After-span-controls2 Inv-loop μ-loop)
-    → Ready (c .before .before .before .args .plan .depth) (divisor (c .before .before .before .args .plan .basis) (c .before .before .before .args .plan .depth)) (c .before .span-controls .result)
-    × Ready (c .before .before .before .args .plan .depth) (divisor (c .before .before .before .args .plan .basis) (c .before .before .before .args .plan .depth)) (c .span-controls2 .result)
+    → Ready (c .before .before .before .before .args .plan .depth) (divisorOf (c .before .before .before .divisor-bits .result)) (c .before .span-controls .result)
+    × Ready (c .before .before .before .before .args .plan .depth) (divisorOf (c .before .before .before .divisor-bits .result)) (c .span-controls2 .result)
 both-ready c =
-    let s = c .before .before .before in
+    let d = c .before .before .before in
+    let s = d .before in
     let a = s .args in
     let l = c .before .before .loop in
     let on = ready (a .plan) (a .controls .now) (a .from) (a .to) (length (a .points .now)) (l .span) in
+    subst (λ (n : ℕ). Ready (a .plan .depth) n (c .before .span-controls .result) × Ready (a .plan .depth) n (c .span-controls2 .result)) (sym (over d))
     (on 0 (s .pre .0) (l .inv .1) (lit< tt) (c .before .span-controls .result) (c .before .span-controls .ensures), on 1 (s .pre .0) (l .inv .1) (lit< tt) (c .span-controls2 .result) (c .span-controls2 .ensures))
 
 fill-span-requires : tie.Need-fill-span-requires Inv-loop μ-loop
 fill-span-requires c κs =
     let t = c .before .before .before in
-    let s = t .before in
+    let s = t .before .before in
     let a = s .args in
     let l = t .loop in
     let k = a .plan .depth in (
-      (s .pre .0 .deep, bits-small k (s .pre .0 .deep)),
+      (s .pre .0 .deep, bits-small (t .before)),
       (both-ready (c .before), ((omega (arith, l .inv .2, l .inv .3, room k (l .span) (a .to) (length (a .points .now)) (l .inv .1) (s .pre .0 .room)), l .inv .4), s .pre .1)),
     )
 
 add-span : tie.Need-add-span Inv-loop μ-loop
-add-span c = let t = c .before .before .before .before .before in omega (arith, t .loop .inv .1, t .before .pre .0 .there, t .before .pre .0 .drawable .few)
+add-span c = let t = c .before .before .before .before .before in omega (arith, t .loop .inv .1, t .before .before .pre .0 .there, t .before .before .pre .0 .drawable .few)
 
 -- the start of the turn that fills a span
 abbrev turn : tie.After-fill-span Inv-loop μ-loop → tie.At-loop Inv-loop μ-loop
 turn c = c .before .before .before .before
 
 -- the next span's place
-next-at : (c : tie.After-fill-span Inv-loop μ-loop) → turn c .loop .at + 2 * 2 ^ turn c .before .args .plan .depth % 2 ^ 64
-    ≡ (turn c .loop .span + 1) * perSpan (turn c .before .args .plan .depth)
+next-at : (c : tie.After-fill-span Inv-loop μ-loop) → turn c .loop .at + 2 * 2 ^ turn c .before .before .args .plan .depth % 2 ^ 64
+    ≡ (turn c .loop .span + 1) * perSpan (turn c .before .before .args .plan .depth)
 next-at c =
     let t = turn c in
-    let k = t .before .args .plan .depth in
+    let k = t .before .before .args .plan .depth in
     let n = t .loop .span in
-    omega (arith, t .loop .inv .2, stride-is k (t .before .pre .0 .deep), ap (λ (m : ℕ). m * perSpan k) (add-one n), suc-mul n (perSpan k))
+    omega (arith, t .loop .inv .2, stride-is k (t .before .before .pre .0 .deep), ap (λ (m : ℕ). m * perSpan k) (add-one n), suc-mul n (perSpan k))
 
 add-at : tie.Need-add-at Inv-loop μ-loop
 add-at c =
     let t = c .before .before .before .before .before in
-    let p = t .before .pre .0 in
-    let k = t .before .args .plan .depth in
+    let p = t .before .before .pre .0 in
+    let k = t .before .before .args .plan .depth in
     omega (arith, next-at (c .before), place-small k (t .loop .span + 1) (p .deep) (omega (arith, t .loop .inv .1, p .there, p .drawable .few)))
 
 -- a turn rounds the next span's sums
 rounded : (c : tie.After-fill-span Inv-loop μ-loop) → outcome (c .fill-span .result) (c .fill-span .last .1 .1 .0)
-    ≡ rounds (divisor (turn c .before .args .plan .basis) (turn c .before .args .plan .depth))
-    (tab (sumOf (turn c .before .args .plan) (turn c .before .args .controls .now)) (turn c .loop .span * perSpan (turn c .before .args .plan .depth)) (perSpan (turn c .before .args .plan .depth)))
+    ≡ rounds (divisor (turn c .before .before .args .plan .basis) (turn c .before .before .args .plan .depth))
+    (tab (sumOf (turn c .before .before .args .plan) (turn c .before .before .args .controls .now)) (turn c .loop .span * perSpan (turn c .before .before .args .plan .depth)) (perSpan (turn c .before .before .args .plan .depth)))
     (turn c .loop .at) (turn c .loop .exact) (turn c .loop .points)
 rounded c =
     let t = turn c in
-    let a = t .before .args in
+    let a = t .before .before .args in
     let l = t .loop in
     let k = a .plan .depth in
     let d = divisor (a .plan .basis) k in
     let x = c .before .before .before .span-controls .ensures in
     let y = c .before .before .span-controls2 .ensures in
     c .fill-span .ensures
-    ∙ (λ i. rounds d (tab (paired k (x i) (y i)) 0 (perSpan k)) (l .at) (l .exact) (l .points))
-    ∙ ap (λ sums. rounds d sums (l .at) (l .exact) (l .points)) (sym (span-sums (a .plan) (a .controls .now) (l .span) (omega (arith, l .inv .1, t .before .pre .0 .there))))
+    ∙ (λ i. rounds (over (t .before) i) (tab (paired k (x i) (y i)) 0 (perSpan k)) (l .at) (l .exact) (l .points))
+    ∙ ap (λ sums. rounds d sums (l .at) (l .exact) (l .points)) (sym (span-sums (a .plan) (a .controls .now) (l .span) (omega (arith, l .inv .1, t .before .before .pre .0 .there))))
 
 -- no more are exact after it than the numbers before the next span
-few : (c : tie.After-fill-span Inv-loop μ-loop) → c .fill-span .result ≤ turn c .loop .at + 2 * 2 ^ turn c .before .args .plan .depth % 2 ^ 64
+few : (c : tie.After-fill-span Inv-loop μ-loop) → c .fill-span .result ≤ turn c .loop .at + 2 * 2 ^ turn c .before .before .args .plan .depth % 2 ^ 64
 few c =
     let t = turn c in
-    let a = t .before .args in
+    let a = t .before .before .args in
     let l = t .loop in
     let k = a .plan .depth in
     let f = sumOf (a .plan) (a .controls .now) in
     let sums = tab f (l .span * perSpan k) (perSpan k) in
     omega
-    (arith, l .inv .4, stride-is k (t .before .pre .0 .deep), length-tab f (l .span * perSpan k) (perSpan k), rounds-most (divisor (a .plan .basis) k) sums (l .at) (l .exact) (l .points) (outcome (c .fill-span .result) (c .fill-span .last .1 .1 .0)) (rounded c))
+    (arith, l .inv .4, stride-is k (t .before .before .pre .0 .deep), length-tab f (l .span * perSpan k) (perSpan k), rounds-most (divisor (a .plan .basis) k) sums (l .at) (l .exact) (l .points) (outcome (c .fill-span .result) (c .fill-span .last .1 .1 .0)) (rounded c))
 
 -- what is still to be drawn after a turn, rounded to what it leaves, makes the whole
 still : (c : tie.After-fill-span Inv-loop μ-loop)
-    → rounds (divisor (turn c .before .args .plan .basis) (turn c .before .args .plan .depth))
-    (tab (sumOf (turn c .before .args .plan) (turn c .before .args .controls .now)) ((turn c .loop .span + 1) * perSpan (turn c .before .args .plan .depth)) ((turn c .before .args .to - (turn c .loop .span + 1)) * perSpan (turn c .before .args .plan .depth) + 2))
-    (turn c .loop .at + 2 * 2 ^ turn c .before .args .plan .depth % 2 ^ 64) (c .fill-span .result) (c .fill-span .last .1 .1 .0)
-    ≡ fillsRun (turn c .before .args .plan) (turn c .before .args .from) (turn c .before .args .to) (turn c .before .args .controls .now) (turn c .before .args .points .now)
+    → rounds (divisor (turn c .before .before .args .plan .basis) (turn c .before .before .args .plan .depth))
+    (tab (sumOf (turn c .before .before .args .plan) (turn c .before .before .args .controls .now)) ((turn c .loop .span + 1) * perSpan (turn c .before .before .args .plan .depth)) ((turn c .before .before .args .to - (turn c .loop .span + 1)) * perSpan (turn c .before .before .args .plan .depth) + 2))
+    (turn c .loop .at + 2 * 2 ^ turn c .before .before .args .plan .depth % 2 ^ 64) (c .fill-span .result) (c .fill-span .last .1 .1 .0)
+    ≡ fillsRun (turn c .before .before .args .plan) (turn c .before .before .args .from) (turn c .before .before .args .to) (turn c .before .before .args .controls .now) (turn c .before .before .args .points .now)
 still c =
     let t = turn c in
-    let a = t .before .args in
+    let a = t .before .before .args in
     let l = t .loop in
     let k = a .plan .depth in
     let d = divisor (a .plan .basis) k in
@@ -181,7 +185,7 @@ still c =
     let here = tab f (l .span * w) w in
     let rest = tab f ((l .span + 1) * w) ((a .to - (l .span + 1)) * w + 2) in
     ap (onward d rest (l .at + 2 * 2 ^ k % 2 ^ 64)) (rounded c)
-    ∙ ap (λ (n : ℕ). onward d rest (l .at + n) (rounds d here (l .at) (l .exact) (l .points))) (stride-is k (t .before .pre .0 .deep) ∙ sym (length-tab f (l .span * w) w))
+    ∙ ap (λ (n : ℕ). onward d rest (l .at + n) (rounds d here (l .at) (l .exact) (l .points))) (stride-is k (t .before .before .pre .0 .deep) ∙ sym (length-tab f (l .span * w) w))
     ∙ rounds-append d here rest (l .at) (l .exact) (l .points)
     ∙ ap (λ sums. rounds d sums (l .at) (l .exact) (l .points)) (sym (next-span f k (a .to) (l .span) (l .inv .1)))
     ∙ l .inv .5
@@ -190,10 +194,10 @@ put-end-requires : tie.Need-put-end-requires Inv-loop μ-loop
 put-end-requires c κs =
     let f = c .before .before .before in
     let t = turn f in
-    let s = t .before in
+    let s = t .before .before in
     let k = s .args .plan .depth in
     let within : (t .loop .span + 1) * perSpan k ≤ s .args .to * perSpan k = mul-le-mul-right {m = t .loop .span + 1} {n = s .args .to} (perSpan k) (omega (arith, t .loop .inv .1)) in
-    ((s .pre .0 .deep, bits-small k (s .pre .0 .deep)), (both-ready (f .before .before), (omega (arith, next-at f, within, s .pre .0 .room, f .fill-span .kept .1 .1 .0, t .loop .inv .3), few f)))
+    ((s .pre .0 .deep, bits-small (t .before)), (both-ready (f .before .before), (omega (arith, next-at f, within, s .pre .0 .room, f .fill-span .kept .1 .1 .0, t .loop .inv .3), few f)))
 
 same-length : tie.Need-same-length Inv-loop μ-loop
 same-length c = c .before .put-end .kept .0 ∙ c .before .before .before .before .before .fill-span .kept .1 .1 .0 ∙ c .before .before .before .before .before .before .before .before .before .loop .inv .3
@@ -202,15 +206,15 @@ returns : tie.Need-returns Inv-loop μ-loop
 returns c =
     let f = c .before .before .before .before .before in
     let t = turn f in
-    let a = t .before .args in
+    let a = t .before .before .args in
     let l = t .loop in
     let k = a .plan .depth in
-    let end : List ℤ → Outcome ℕ (List ℤ) = λ sums. rounds (divisor (a .plan .basis) k) sums (l .at + 2 * 2 ^ k % 2 ^ 64) (f .fill-span .result) (f .fill-span .last .1 .1 .0) in
+    let end : ℕ → List ℤ → Outcome ℕ (List ℤ) = λ d sums. rounds d sums (l .at + 2 * 2 ^ k % 2 ^ 64) (f .fill-span .result) (f .fill-span .last .1 .1 .0) in
     let x = f .before .before .before .span-controls .ensures in
     let y = f .before .before .span-controls2 .ensures in
     c .before .put-end .ensures
-    ∙ (λ i. end (ending k (x i) (y i)))
-    ∙ ap end (sym (last-two (a .plan) (a .controls .now) (a .to) (l .span) (omega (arith, l .inv .1, t .before .pre .0 .there)) (omega (arith, c .before .before .before))))
+    ∙ (λ i. end (over (t .before) i) (ending k (x i) (y i)))
+    ∙ ap (end (divisor (a .plan .basis) k)) (sym (last-two (a .plan) (a .controls .now) (a .to) (l .span) (omega (arith, l .inv .1, t .before .before .pre .0 .there)) (omega (arith, c .before .before .before))))
     ∙ still f
 
 loop-less : tie.Need-loop-less Inv-loop μ-loop
@@ -223,4 +227,4 @@ loop-again c =
     (l .inv .0, omega arith, next-at f, f .fill-span .kept .1 .1 .0 ∙ l .inv .3, few f, still f)
 
 pub fill-run-spec : {M : Type 1} → statement M
-fill-run-spec = tie.close (tie.spec Inv-loop μ-loop mul-bits cast-bits shl-stride mul-at loop-holds span-controls-requires span-controls-requires-2 fill-span-requires add-span add-at put-end-requires same-length returns loop-less loop-again)
+fill-run-spec = tie.close (tie.spec Inv-loop μ-loop divisor-bits-requires shl-stride mul-at loop-holds span-controls-requires span-controls-requires-2 fill-span-requires add-span add-at put-end-requires same-length returns loop-less loop-again)

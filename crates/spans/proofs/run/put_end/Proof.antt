@@ -7,8 +7,8 @@ use borrow.Author.Needs.{needs}
 use lib.IntN.{pos, natAbs}
 use mir.Syntax.{w64}
 use Rattle.whole.proofs.Fit.{kept, kept-is}
-use Rattle.curve.specs.Limits.{reach}
-use Rattle.curve.specs.Span.{weighted, divisorOf}
+use Rattle.curve.specs.Inner.{farReach, divisorOf}
+use Rattle.curve.specs.Span.{weighted}
 use Rattle.spans.specs.Inner.{rounds}
 use Rattle.spans.proofs.run.put_end.Statement.{statement}
 use Rattle.spans.proofs.run.put_end.Tie as tie
@@ -29,7 +29,7 @@ sum-y c = kept-is w64 (c .end-sum2 .result) (record { sfits = c .end-sum2 .ok })
 put-point-requires : tie.Need-put-point-requires
 put-point-requires c κs =
     let s = c .before .before .before in
-    let n = divisorOf (s .args .bits) * reach in
+    let n = divisorOf (s .args .bits) * farReach in
     let p = s .pre in
     let last = le-refl (2 ^ s .args .depth) in
     (p .0 .1, ((subst (λ z. natAbs z ≤ n) (sym (sum-x (c .before))) (p .1 .0 .0 .near _ last), subst (λ z. natAbs z ≤ n) (sym (sum-y c)) (p .1 .0 .1 .near _ last)), p .1 .1))

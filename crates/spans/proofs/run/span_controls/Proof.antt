@@ -22,7 +22,7 @@ read c =
 whole-controls-requires : tie.Need-whole-controls-requires
 whole-controls-requires c κs =
     let s = c .before .before in
-    subst (Inside limit) (sym (read c)) (s .pre .1 .inside (s .args .span) (s .args .axis) (s .pre .0 .0) (s .pre .0 .1))
+    (s .pre .1 .offered, subst (Inside limit) (sym (read c)) (s .pre .1 .inside (s .args .span) (s .args .axis) (s .pre .0 .0) (s .pre .0 .1)))
 
 returns : tie.Need-returns
 returns c = c .whole-controls .ensures ∙ ap (wholeControls (c .before .before .before .args .plan .basis)) (read (c .before))

@@ -11,7 +11,7 @@ use mir.Syntax.{w64}
 use mir.Val.{toZ}
 use mir.ValLaws.{toZ-pos}
 use Rattle.curve.specs.Tab.{tab}
-use Rattle.curve.specs.Span.{divisorOf}
+use Rattle.curve.specs.Inner.{divisorOf}
 use Rattle.curve.specs.Ways.{deepest, differences}
 use Rattle.curve.proofs.Tab.{tab-same}
 use Rattle.spans.specs.Numbers.{perSpan}

@@ -10,9 +10,7 @@ use Rattle.whole.specs.Outcome.{outcome}
 use Rattle.whole.proofs.Fit.{kept, kept-is}
 use Rattle.curve.specs.declared.Differences.{Differences}
 use Rattle.curve.specs.Tab.{tab}
-use Rattle.curve.specs.Limits.{reach}
-use Rattle.curve.specs.Inner.{Small}
-use Rattle.curve.specs.Span.{divisorOf}
+use Rattle.curve.specs.Inner.{Small, farReach, divisorOf}
 use Rattle.curve.specs.Ways.{advance}
 use Rattle.spans.specs.Numbers.{perSpan}
 use Rattle.spans.specs.Inner.{after, rounds, stepped, Steady}
@@ -64,19 +62,19 @@ loop-holds c =
     )
 
 -- a state of the loop is one of the steady run
-steady : (k d i : ℕ) (s t : Differences) → i < 2 ^ k → t ≡ after i s → Steady k d s → Small t × (natAbs (kept w64 (t .value)) ≤ d * reach)
+steady : (k d i : ℕ) (s t : Differences) → i < 2 ^ k → t ≡ after i s → Steady k d s → Small t × (natAbs (kept w64 (t .value)) ≤ d * farReach)
 steady k d i s t h e run =
     let small = subst Small (sym e) (run .small i h) in
-    (small, subst (λ z. natAbs z ≤ d * reach) (ap (λ (u : Differences). u .value) (sym e) ∙ sym (kept-is w64 (t .value) (value-fits t small))) (run .near i h))
+    (small, subst (λ z. natAbs z ≤ d * farReach) (ap (λ (u : Differences). u .value) (sym e) ∙ sym (kept-is w64 (t .value) (value-fits t small))) (run .near i h))
 
 -- the loop's test and invariant, at a turn's start
-turn-x : (c : tie.In-loop Inv-loop μ-loop) → Small (c .before .loop .on-x) × (natAbs (kept w64 (c .before .loop .on-x .value)) ≤ divisorOf (c .before .before .args .bits) * reach)
+turn-x : (c : tie.In-loop Inv-loop μ-loop) → Small (c .before .loop .on-x) × (natAbs (kept w64 (c .before .loop .on-x .value)) ≤ divisorOf (c .before .before .args .bits) * farReach)
 turn-x c =
     let s = c .before .before in
     let l = c .before .loop in
     steady (s .args .depth) (divisorOf (s .args .bits)) (taken (s .args .at) (l .j)) (s .args .x) (l .on-x) (omega arith) (l .inv .4) (s .pre .1 .0 .0)
 
-turn-y : (c : tie.In-loop Inv-loop μ-loop) → Small (c .before .loop .on-y) × (natAbs (kept w64 (c .before .loop .on-y .value)) ≤ divisorOf (c .before .before .args .bits) * reach)
+turn-y : (c : tie.In-loop Inv-loop μ-loop) → Small (c .before .loop .on-y) × (natAbs (kept w64 (c .before .loop .on-y .value)) ≤ divisorOf (c .before .before .args .bits) * farReach)
 turn-y c =
     let s = c .before .before in
     let l = c .before .loop in

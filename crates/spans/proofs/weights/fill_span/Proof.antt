@@ -10,9 +10,9 @@ use lib.Pow.{pow-pos}
 use mir.Syntax.{w64}
 use Rattle.whole.specs.Outcome.{outcome}
 use Rattle.whole.proofs.Fit.{kept, kept-is}
-use Rattle.curve.specs.Limits.{reach}
+use Rattle.curve.specs.Inner.{farReach, divisorOf}
 use Rattle.curve.specs.Tab.{tab}
-use Rattle.curve.specs.Span.{weighted, divisorOf}
+use Rattle.curve.specs.Span.{weighted}
 use Rattle.curve.specs.Ways.{deepest, apart}
 use Rattle.spans.specs.Numbers.{perSpan}
 use Rattle.spans.specs.Inner.{paired, rounds}
@@ -75,7 +75,7 @@ put-point-requires : tie.Need-put-point-requires Inv-loop μ-loop
 put-point-requires c κs =
     let s = c .before .before .before .before .before in
     let l = c .before .before .before .before .loop in
-    let n = divisorOf (s .args .bits) * reach in
+    let n = divisorOf (s .args .bits) * farReach in
     let p = s .pre in
     let i = l .row / apart (s .args .depth) in
     let below : i < 2 ^ s .args .depth = step-below (s .args .depth) (l .row) (p .0 .0) (omega arith) in
