@@ -1,7 +1,7 @@
 -- The divisor of a basis at a depth is six times a power of two, and how large it and a reach become.
 use mathlib.Core.Path.{_≡_, refl, sym, ap, _∙_}
 use Prim.Native.Nat.{ℕ, _+_, _*_, _^_, _≤_}
-use native.Mathlib.Nat.{mul-assoc, mul-le-mul, le-refl}
+use native.Mathlib.Nat.{mul-assoc, mul-left-comm, mul-le-mul, le-refl}
 use native.Mathlib.Omega.{arith}
 use lib.Dec.{lit≤}
 use lib.Pow.{pow-add, pow-mono}
@@ -22,6 +22,12 @@ pub divisor-bits : (b : Basis) (k : ℕ) → divisor b k ≡ divisorOf (bitsOf b
 unfolding bitsOf
 divisor-bits b k =
     ap (λ (n : ℕ). n * 2 ^ (3 * k)) (fold-bits b) ∙ mul-assoc 6 (2 ^ foldBits b) (2 ^ (3 * k)) ∙ ap (λ (n : ℕ). 6 * n) (sym (pow-add 2 (foldBits b) (3 * k)))
+
+-- l depths more make it 2^(3l) times as large
+pub divisor-again : (b : Basis) (k l : ℕ) → divisor b (k + l) ≡ 2 ^ (3 * l) * divisor b k
+divisor-again b k l =
+    let three : 3 * (k + l) ≡ 3 * l + 3 * k = omega arith in
+    ap (λ (n : ℕ). fold b * 2 ^ n) three ∙ ap (λ (n : ℕ). fold b * n) (pow-add 2 (3 * l) (3 * k)) ∙ mul-left-comm (fold b) (2 ^ (3 * l)) (2 ^ (3 * k))
 
 few-bits : (b : Basis) → foldBits b ≤ 5
 few-bits Bezier = lit≤ tt

@@ -5,22 +5,23 @@ use mathlib.Core.Bool.{true, false, _&&_}
 use mathlib.Core.List.{List, [], _∷_}
 use mathlib.Core.Logic.{⊎-elim}
 use Prim.Native.Nat.{ℕ, zero, suc, _+_, _*_, _^_, max, _≤_}
-use native.Mathlib.Nat.{pow-suc, mul-one, mul-assoc, mul-le-mul, le-refl, le-trans, le-mul-of-pos-right, one-le-pow}
+use native.Mathlib.Nat.{pow-suc, mul-one, mul-comm, mul-le-mul, le-refl, le-trans, le-mul-of-pos-right, one-le-pow}
 use native.Mathlib.Omega.{arith}
 use borrow.Author.Tests.{leb-true, le-leb}
 use lib.Dec.{lit<}
 use lib.IntN.{ℤ, pos, natAbs, _+ℤ_, _*ℤ_}
-use lib.Pow.{pow-add}
 use Rattle.whole.proofs.Ring.{var, _⊗_, _⊕_, solve}
 use Rattle.whole.proofs.Order.{pos-injective}
 use Rattle.whole.proofs.Fit.{natAbs-add, natAbs-mul}
 use Rattle.curve.specs.declared.Four.{Four}
+use Rattle.curve.specs.declared.Basis.{Basis}
+use Rattle.curve.specs.Span.{divisor}
 use Rattle.curve.specs.Bend.{bend, firstBend, lastBend}
 use Rattle.curve.specs.Ways.{leftHalf, rightHalf}
+use Rattle.curve.proofs.Bits.{divisor-again}
 use Rattle.curve.proofs.Reflect.{p, num, firstBendᵉ, lastBendᵉ, leftᵉ, rightᵉ}
 use Rattle.shape.proofs.Tests.{passes, and-true}
 use Rattle.pieces.specs.Tree.{Piece, leftPiece, rightPiece, flatOn, isFlat, tree, Sound}
-use Rattle.pieces.specs.Inner.{divisorAt}
 use Rattle.pieces.proofs.Trees.{tree-flat, tree-rough, tree-cut}
 
 -- ---- the second differences of the halves
@@ -68,72 +69,71 @@ module _ (q : Four) where
 
 -- ---- how large they may be, with some levels left
 
--- four times the tolerance, over the divisor of a level, and four times as much with each level left
-abbrev pub bound : ℕ → ℕ → ℕ → ℕ
-bound tolerance level left = 4 * (tolerance * (divisorAt level * 4 ^ left))
-
-next-bound : (tolerance level left : ℕ) → bound tolerance (level + 1) left ≡ 2 * bound tolerance level (suc left)
-next-bound tolerance level left =
-    let finer : divisorAt (level + 1) ≡ divisorAt level * 8 =
-    let three : 3 * (level + 1) ≡ 3 * level + 3 = omega arith in
-    ap (λ (n : ℕ). 6 * 2 ^ n) three ∙ ap (λ (n : ℕ). 6 * n) (pow-add 2 (3 * level) 3) ∙ sym (mul-assoc 6 (2 ^ (3 * level)) 8) in
-    let t = pos tolerance in
-    let d = pos (divisorAt level) in
-    let e = pos (4 ^ left) in
-    ap (λ (n : ℕ). 4 * (tolerance * (n * 4 ^ left))) finer
-    ∙ pos-injective (solve (t ∷ d ∷ e ∷ []) (num 4 ⊗ (var 0 ⊗ (var 1 ⊗ num 8 ⊗ var 2))) (num 2 ⊗ (num 4 ⊗ (var 0 ⊗ (var 1 ⊗ (var 2 ⊗ num 4))))) tt)
-    ∙ ap (λ (n : ℕ). 2 * (4 * (tolerance * (divisorAt level * n)))) (sym (pow-suc 4 left))
-
--- where none is left, that is the test of a flat piece
-none-left : (tolerance level : ℕ) → bound tolerance level 0 ≡ 4 * (tolerance * divisorAt level)
-none-left tolerance level = ap (λ (n : ℕ). 4 * (tolerance * n)) (mul-one (divisorAt level))
-
-more-left : (tolerance level left : ℕ) → 4 * (tolerance * divisorAt level) ≤ bound tolerance level left
-more-left tolerance level left = mul-le-mul (le-refl 4) (mul-le-mul (le-refl tolerance) (le-mul-of-pos-right (divisorAt level) (one-le-pow left 4 (lit< tt))))
-
--- both axes within it
+-- both axes within a bound
 pub record Within (n : ℕ) (p : Piece) : Type 0 where
   pub on-x : 3 * bend (p .x) ≤ n
   pub on-y : 3 * bend (p .y) ≤ n
 
-pub flat-within : (tolerance : ℕ) (p : Piece) → isFlat divisorAt tolerance p ≡ true → Within (4 * (tolerance * divisorAt (p .level))) p
-unfolding isFlat
-flat-within tolerance p e =
-    let (x, y) = and-true (flatOn (divisorAt (p .level)) tolerance (p .x)) (flatOn (divisorAt (p .level)) tolerance (p .y)) e in
-    record { on-x = leb-true _ _ x; on-y = leb-true _ _ y }
+module _ (b : Basis) where
+  -- four times the tolerance, over the divisor of a level, and four times as much with each level left
+  abbrev pub bound : ℕ → ℕ → ℕ → ℕ
+  bound tolerance level left = 4 * (tolerance * (divisor b level * 4 ^ left))
 
-pub within-flat : (tolerance : ℕ) (p : Piece) → Within (4 * (tolerance * divisorAt (p .level))) p → isFlat divisorAt tolerance p ≡ true
-unfolding isFlat
-within-flat tolerance p w = λ i. le-leb _ _ (w .on-x) i && le-leb _ _ (w .on-y) i
+  next-bound : (tolerance level left : ℕ) → bound tolerance (level + 1) left ≡ 2 * bound tolerance level (suc left)
+  next-bound tolerance level left =
+      let finer : divisor b (level + 1) ≡ divisor b level * 8 = divisor-again b level 1 ∙ mul-comm 8 (divisor b level) in
+      let t = pos tolerance in
+      let d = pos (divisor b level) in
+      let e = pos (4 ^ left) in
+      ap (λ (n : ℕ). 4 * (tolerance * (n * 4 ^ left))) finer
+      ∙ pos-injective (solve (t ∷ d ∷ e ∷ []) (num 4 ⊗ (var 0 ⊗ (var 1 ⊗ num 8 ⊗ var 2))) (num 2 ⊗ (num 4 ⊗ (var 0 ⊗ (var 1 ⊗ (var 2 ⊗ num 4))))) tt)
+      ∙ ap (λ (n : ℕ). 2 * (4 * (tolerance * (divisor b level * n)))) (sym (pow-suc 4 left))
 
--- ---- a tree is sound exactly where its piece is within the bound
+  -- where none is left, that is the test of a flat piece
+  none-left : (tolerance level : ℕ) → bound tolerance level 0 ≡ 4 * (tolerance * divisor b level)
+  none-left tolerance level = ap (λ (n : ℕ). 4 * (tolerance * n)) (mul-one (divisor b level))
 
-pub within-sound : (tolerance left : ℕ) (p : Piece) → Within (bound tolerance (p .level) left) p → Sound (tree divisorAt tolerance left p)
-unfolding Sound
-within-sound tolerance zero p w =
-    let e = none-left tolerance (p .level) in
-    subst Sound (sym (tree-flat divisorAt tolerance p 0 (within-flat tolerance p (subst (λ (n : ℕ). Within n p) e w)))) tt
-within-sound tolerance (suc left) p w =
-    let e = next-bound tolerance (p .level) left in
-    let l = within-sound tolerance left (leftPiece p) (record { on-x = omega (arith, e, w .on-x, left-bend (p .x)); on-y = omega (arith, e, w .on-y, left-bend (p .y)) }) in
-    let r = within-sound tolerance left (rightPiece p) (record { on-x = omega (arith, e, w .on-x, right-bend (p .x)); on-y = omega (arith, e, w .on-y, right-bend (p .y)) }) in
-    ⊎-elim (λ (flat : isFlat divisorAt tolerance p ≡ true). subst Sound (sym (tree-flat divisorAt tolerance p (suc left) flat)) tt)
-    (λ (not : isFlat divisorAt tolerance p ≡ false). subst Sound (sym (tree-cut divisorAt tolerance p left not)) (l, r))
-    (passes (isFlat divisorAt tolerance p))
+  more-left : (tolerance level left : ℕ) → 4 * (tolerance * divisor b level) ≤ bound tolerance level left
+  more-left tolerance level left = mul-le-mul (le-refl 4) (mul-le-mul (le-refl tolerance) (le-mul-of-pos-right (divisor b level) (one-le-pow left 4 (lit< tt))))
 
-pub sound-within : (tolerance left : ℕ) (p : Piece) → Sound (tree divisorAt tolerance left p) → Within (bound tolerance (p .level) left) p
-unfolding Sound
-sound-within tolerance zero p s =
-    ⊎-elim (λ (flat : isFlat divisorAt tolerance p ≡ true). subst (λ (n : ℕ). Within n p) (sym (none-left tolerance (p .level))) (flat-within tolerance p flat))
-    (λ (not : isFlat divisorAt tolerance p ≡ false). absurd (subst Sound (tree-rough divisorAt tolerance p not) s))
-    (passes (isFlat divisorAt tolerance p))
-sound-within tolerance (suc left) p s =
-    let e = next-bound tolerance (p .level) left in
-    let more = more-left tolerance (p .level) (suc left) in
-    ⊎-elim (λ (flat : isFlat divisorAt tolerance p ≡ true). let w = flat-within tolerance p flat in record { on-x = le-trans (w .on-x) more; on-y = le-trans (w .on-y) more })
-    (λ (not : isFlat divisorAt tolerance p ≡ false).
-    let (l, r) = subst Sound (tree-cut divisorAt tolerance p left not) s in
-    let u = sound-within tolerance left (leftPiece p) l in
-    let v = sound-within tolerance left (rightPiece p) r in
-    record { on-x = omega (arith, e, u .on-x, v .on-x, halves-bend (p .x)); on-y = omega (arith, e, u .on-y, v .on-y, halves-bend (p .y)) })
-    (passes (isFlat divisorAt tolerance p))
+  pub flat-within : (tolerance : ℕ) (p : Piece) → isFlat (divisor b) tolerance p ≡ true → Within (4 * (tolerance * divisor b (p .level))) p
+  unfolding isFlat
+  flat-within tolerance p e =
+      let (x, y) = and-true (flatOn (divisor b (p .level)) tolerance (p .x)) (flatOn (divisor b (p .level)) tolerance (p .y)) e in
+      record { on-x = leb-true _ _ x; on-y = leb-true _ _ y }
+
+  pub within-flat : (tolerance : ℕ) (p : Piece) → Within (4 * (tolerance * divisor b (p .level))) p → isFlat (divisor b) tolerance p ≡ true
+  unfolding isFlat
+  within-flat tolerance p w = λ i. le-leb _ _ (w .on-x) i && le-leb _ _ (w .on-y) i
+
+  -- ---- a tree is sound exactly where its piece is within the bound
+
+  pub within-sound : (tolerance left : ℕ) (p : Piece) → Within (bound tolerance (p .level) left) p → Sound (tree (divisor b) tolerance left p)
+  unfolding Sound
+  within-sound tolerance zero p w =
+      let e = none-left tolerance (p .level) in
+      subst Sound (sym (tree-flat (divisor b) tolerance p 0 (within-flat tolerance p (subst (λ (n : ℕ). Within n p) e w)))) tt
+  within-sound tolerance (suc left) p w =
+      let e = next-bound tolerance (p .level) left in
+      let l = within-sound tolerance left (leftPiece p) (record { on-x = omega (arith, e, w .on-x, left-bend (p .x)); on-y = omega (arith, e, w .on-y, left-bend (p .y)) }) in
+      let r = within-sound tolerance left (rightPiece p) (record { on-x = omega (arith, e, w .on-x, right-bend (p .x)); on-y = omega (arith, e, w .on-y, right-bend (p .y)) }) in
+      ⊎-elim (λ (flat : isFlat (divisor b) tolerance p ≡ true). subst Sound (sym (tree-flat (divisor b) tolerance p (suc left) flat)) tt)
+      (λ (not : isFlat (divisor b) tolerance p ≡ false). subst Sound (sym (tree-cut (divisor b) tolerance p left not)) (l, r))
+      (passes (isFlat (divisor b) tolerance p))
+
+  pub sound-within : (tolerance left : ℕ) (p : Piece) → Sound (tree (divisor b) tolerance left p) → Within (bound tolerance (p .level) left) p
+  unfolding Sound
+  sound-within tolerance zero p s =
+      ⊎-elim (λ (flat : isFlat (divisor b) tolerance p ≡ true). subst (λ (n : ℕ). Within n p) (sym (none-left tolerance (p .level))) (flat-within tolerance p flat))
+      (λ (not : isFlat (divisor b) tolerance p ≡ false). absurd (subst Sound (tree-rough (divisor b) tolerance p not) s))
+      (passes (isFlat (divisor b) tolerance p))
+  sound-within tolerance (suc left) p s =
+      let e = next-bound tolerance (p .level) left in
+      let more = more-left tolerance (p .level) (suc left) in
+      ⊎-elim (λ (flat : isFlat (divisor b) tolerance p ≡ true). let w = flat-within tolerance p flat in record { on-x = le-trans (w .on-x) more; on-y = le-trans (w .on-y) more })
+      (λ (not : isFlat (divisor b) tolerance p ≡ false).
+      let (l, r) = subst Sound (tree-cut (divisor b) tolerance p left not) s in
+      let u = sound-within tolerance left (leftPiece p) l in
+      let v = sound-within tolerance left (rightPiece p) r in
+      record { on-x = omega (arith, e, u .on-x, v .on-x, halves-bend (p .x)); on-y = omega (arith, e, u .on-y, v .on-y, halves-bend (p .y)) })
+      (passes (isFlat (divisor b) tolerance p))

@@ -5,17 +5,18 @@ use mathlib.Core.Bool.{true, false}
 use mathlib.Core.List.{List, [], _∷_, _++_, map-append}
 use mathlib.Core.Logic.{⊎-elim}
 use Prim.Native.Nat.{ℕ, zero, suc, _+_, _*_, _-_, _^_, _≤_, _<_}
-use native.Mathlib.Nat.{add-zero, add-assoc, mul-pos, suc-mul}
+use native.Mathlib.Nat.{add-zero, add-assoc, suc-mul}
 use native.Mathlib.Omega.{arith}
-use lib.Dec.{lit<}
 use lib.IntN.{ℤ, pos, negsuc, negℤ, _*ℤ_}
 use lib.Pow.{pow-pos}
 use Rattle.whole.specs.Nearest.{nearest, remainder}
 use Rattle.whole.proofs.Nearest.{nearest-scale}
 use Rattle.whole.proofs.Remainder.{remainder-scale}
 use Rattle.curve.specs.declared.Four.{Four}
-use Rattle.curve.specs.Span.{weighted}
+use Rattle.curve.specs.declared.Basis.{Basis}
+use Rattle.curve.specs.Span.{weighted, divisor}
 use Rattle.curve.specs.Ways.{leftHalf, rightHalf}
+use Rattle.curve.proofs.Span.{divisor-pos}
 use Rattle.curve.proofs.Powers.{doubled}
 use Rattle.curve.proofs.Ways.{left-half, right-half}
 use Rattle.shape.proofs.Tests.{passes}
@@ -25,7 +26,6 @@ use Rattle.spans.proofs.Rounds.{noughts-append}
 use Rattle.pieces.specs.Tree.{finest, Piece, leftPiece, rightPiece, isFlat, Tree, tree}
 use Rattle.pieces.specs.Values.{Value, both, start, starts, numbers, exactOf}
 use Rattle.pieces.specs.Steps.{stepsIn}
-use Rattle.pieces.specs.Inner.{divisorAt}
 use Rattle.pieces.proofs.Trees.{tree-flat, tree-rough, tree-cut}
 use Rattle.pieces.proofs.Scaled.{finer, start-sum}
 use Rattle.pieces.proofs.Writes.{numbers-append, exact-append}
@@ -70,16 +70,16 @@ module _ (m d : ℕ) (z w : ℤ) (hm : 0 < m) (hd : 0 < d) (e : w ≡ pos m *ℤ
   scaled-nought = sym (ap (λ u. nought (remainder u (m * d))) e ∙ ap nought (remainder-scale m z d hm hd) ∙ nought-times m (remainder z d) hm)
 
 -- the two values of a point at a level, whose sums there are so many times as large
-pub same-both : (level : ℕ) → level ≤ finest → (x y u v : ℤ) → u ≡ pos (2 ^ (3 * (finest - level))) *ℤ x → v ≡ pos (2 ^ (3 * (finest - level))) *ℤ y → Same (divisorAt finest) (both (divisorAt level) x y) (u ∷ v ∷ [])
+pub same-both : (b : Basis) (level : ℕ) → level ≤ finest → (x y u v : ℤ) → u ≡ pos (2 ^ (3 * (finest - level))) *ℤ x → v ≡ pos (2 ^ (3 * (finest - level))) *ℤ y → Same (divisor b finest) (both (divisor b level) x y) (u ∷ v ∷ [])
 unfolding noughts
-same-both level h x y u v e f =
+same-both b level h x y u v e f =
     let m = 2 ^ (3 * (finest - level)) in
     let hm = pow-pos (3 * (finest - level)) in
-    let hd : 0 < divisorAt level = mul-pos (lit< tt) (pow-pos (3 * level)) in
-    let fine = sym (finer level h) in
+    let hd = divisor-pos b level in
+    let fine = sym (finer b level h) in
     record {
-      rounds-alike = λ i. (scaled-whole m (divisorAt level) x u hm hd e ∙ ap (nearest u) fine) i ∷ (scaled-whole m (divisorAt level) y v hm hd f ∙ ap (nearest v) fine) i ∷ [];
-      as-exact = λ i. (scaled-nought m (divisorAt level) x u hm hd e ∙ ap (λ (n : ℕ). nought (remainder u n)) fine) i + ((scaled-nought m (divisorAt level) y v hm hd f ∙ ap (λ (n : ℕ). nought (remainder v n)) fine) i + 0);
+      rounds-alike = λ i. (scaled-whole m (divisor b level) x u hm hd e ∙ ap (nearest u) fine) i ∷ (scaled-whole m (divisor b level) y v hm hd f ∙ ap (nearest v) fine) i ∷ [];
+      as-exact = λ i. (scaled-nought m (divisor b level) x u hm hd e ∙ ap (λ (n : ℕ). nought (remainder u n)) fine) i + ((scaled-nought m (divisor b level) y v hm hd f ∙ ap (λ (n : ℕ). nought (remainder v n)) fine) i + 0);
     }
 
 -- ---- down the tree
@@ -98,32 +98,32 @@ covers-right left from q at c i h =
     ∙ c (2 ^ left + i) (omega (arith, doubled left))
     ∙ ap at (sym (add-assoc from (2 ^ left) i))
 
-module _ (tolerance : ℕ) (x y : ℕ → ℤ) where
+module _ (b : Basis) (tolerance : ℕ) (x y : ℕ → ℤ) where
   -- a piece that is not cut on
-  leaf : (left from : ℕ) (p : Piece) → p .level + left ≡ finest → Covers left from (p .x) x → Covers left from (p .y) y → Same (divisorAt finest) (start divisorAt p) (x from ∷ y from ∷ [])
+  leaf : (left from : ℕ) (p : Piece) → p .level + left ≡ finest → Covers left from (p .x) x → Covers left from (p .y) y → Same (divisor b finest) (start (divisor b) p) (x from ∷ y from ∷ [])
   leaf left from p deep cx cy =
       let levels : left ≡ finest - p .level = omega arith in
       let sum : (q : Four) (at : ℕ → ℤ) → Covers left from q at → at from ≡ pos (2 ^ (3 * (finest - p .level))) *ℤ q .a =
       λ q at c. ap at (sym (add-zero from)) ∙ sym (c 0 (omega arith)) ∙ start-sum left q ∙ ap (λ (n : ℕ). pos (2 ^ (3 * n)) *ℤ q .a) levels in
-      same-both (p .level) (omega arith) (p .x .a) (p .y .a) (x from) (y from) (sum (p .x) x cx) (sum (p .y) y cy)
+      same-both b (p .level) (omega arith) (p .x .a) (p .y .a) (x from) (y from) (sum (p .x) x cx) (sum (p .y) y cy)
 
   pub starts-even : (left from : ℕ) (p : Piece) → p .level + left ≡ finest → Covers left from (p .x) x → Covers left from (p .y) y
-      → Same (divisorAt finest) (starts divisorAt (tree divisorAt tolerance left p)) (sumsAt x y (stepsIn left from (tree divisorAt tolerance left p)))
+      → Same (divisor b finest) (starts (divisor b) (tree (divisor b) tolerance left p)) (sumsAt x y (stepsIn left from (tree (divisor b) tolerance left p)))
   unfolding starts stepsIn sumsAt
   starts-even zero from p deep cx cy =
-      let P : Tree → Type 0 = λ t. Same (divisorAt finest) (starts divisorAt t) (sumsAt x y (stepsIn 0 from t)) in
-      ⊎-elim (λ (flat : isFlat divisorAt tolerance p ≡ true). subst P (sym (tree-flat divisorAt tolerance p 0 flat)) (leaf 0 from p deep cx cy))
-      (λ (rough : isFlat divisorAt tolerance p ≡ false). subst P (sym (tree-rough divisorAt tolerance p rough)) (leaf 0 from p deep cx cy))
-      (passes (isFlat divisorAt tolerance p))
+      let P : Tree → Type 0 = λ t. Same (divisor b finest) (starts (divisor b) t) (sumsAt x y (stepsIn 0 from t)) in
+      ⊎-elim (λ (flat : isFlat (divisor b) tolerance p ≡ true). subst P (sym (tree-flat (divisor b) tolerance p 0 flat)) (leaf 0 from p deep cx cy))
+      (λ (rough : isFlat (divisor b) tolerance p ≡ false). subst P (sym (tree-rough (divisor b) tolerance p rough)) (leaf 0 from p deep cx cy))
+      (passes (isFlat (divisor b) tolerance p))
   starts-even (suc left) from p deep cx cy =
-      let P : Tree → Type 0 = λ t. Same (divisorAt finest) (starts divisorAt t) (sumsAt x y (stepsIn (suc left) from t)) in
-      let l = tree divisorAt tolerance left (leftPiece p) in
-      let r = tree divisorAt tolerance left (rightPiece p) in
+      let P : Tree → Type 0 = λ t. Same (divisor b finest) (starts (divisor b) t) (sumsAt x y (stepsIn (suc left) from t)) in
+      let l = tree (divisor b) tolerance left (leftPiece p) in
+      let r = tree (divisor b) tolerance left (rightPiece p) in
       let on-left = starts-even left from (leftPiece p) (omega arith) (covers-left left from (p .x) x cx) (covers-left left from (p .y) y cy) in
       let on-right = starts-even left (from + 2 ^ left) (rightPiece p) (omega arith) (covers-right left from (p .x) x cx) (covers-right left from (p .y) y cy) in
-      ⊎-elim (λ (flat : isFlat divisorAt tolerance p ≡ true). subst P (sym (tree-flat divisorAt tolerance p (suc left) flat)) (leaf (suc left) from p deep cx cy))
-      (λ (rough : isFlat divisorAt tolerance p ≡ false).
-      subst P (sym (tree-cut divisorAt tolerance p left rough))
-      (subst (Same (divisorAt finest) (starts divisorAt l ++ starts divisorAt r)) (sym (sums-append x y (stepsIn left from l) (stepsIn left (from + 2 ^ left) r)))
-      (same-append (divisorAt finest) (starts divisorAt l) (starts divisorAt r) (sumsAt x y (stepsIn left from l)) (sumsAt x y (stepsIn left (from + 2 ^ left) r)) on-left on-right)))
-      (passes (isFlat divisorAt tolerance p))
+      ⊎-elim (λ (flat : isFlat (divisor b) tolerance p ≡ true). subst P (sym (tree-flat (divisor b) tolerance p (suc left) flat)) (leaf (suc left) from p deep cx cy))
+      (λ (rough : isFlat (divisor b) tolerance p ≡ false).
+      subst P (sym (tree-cut (divisor b) tolerance p left rough))
+      (subst (Same (divisor b finest) (starts (divisor b) l ++ starts (divisor b) r)) (sym (sums-append x y (stepsIn left from l) (stepsIn left (from + 2 ^ left) r)))
+      (same-append (divisor b finest) (starts (divisor b) l) (starts (divisor b) r) (sumsAt x y (stepsIn left from l)) (sumsAt x y (stepsIn left (from + 2 ^ left) r)) on-left on-right)))
+      (passes (isFlat (divisor b) tolerance p))

@@ -8,19 +8,21 @@ use native.Mathlib.Omega.{arith}
 use lib.ListN.{length, length-append}
 use lib.Pow.{pow-pos}
 use Rattle.curve.specs.declared.Four.{Four}
+use Rattle.curve.specs.declared.Basis.{Basis}
+use Rattle.curve.specs.Span.{divisor}
 use Rattle.curve.proofs.Powers.{doubled}
 use Rattle.shape.proofs.Tests.{either, passes}
 use Rattle.pieces.specs.Tree.{finest, Piece, piece, leftPiece, rightPiece, isFlat, Tree, Flat, Rough, Cut, tree, cuts, Sound}
 use Rattle.pieces.specs.Values.{start, starts}
-use Rattle.pieces.specs.Inner.{divisorAt, treeAt}
+use Rattle.pieces.specs.Inner.{treeAt}
 use Rattle.pieces.proofs.Trees.{tree-flat, tree-rough, tree-cut, at-finest}
 
 -- ---- sound trees
 
 -- a piece of one that is not flat is above the finest level
-pub sound-shallow : (tolerance level : ℕ) (x y : Four) → level ≤ finest → isFlat divisorAt tolerance (piece level x y) ≡ false → Sound (treeAt tolerance level x y) → level < finest
+pub sound-shallow : (b : Basis) (tolerance level : ℕ) (x y : Four) → level ≤ finest → isFlat (divisor b) tolerance (piece level x y) ≡ false → Sound (treeAt b tolerance level x y) → level < finest
 unfolding Sound
-sound-shallow tolerance level x y h e sound = ⊎-elim (λ (above : level < finest). above) (λ (past : finest ≤ level). absurd (subst Sound (at-finest tolerance level x y e (omega arith)) sound)) (either level finest)
+sound-shallow b tolerance level x y h e sound = ⊎-elim (λ (above : level < finest). above) (λ (past : finest ≤ level). absurd (subst Sound (at-finest b tolerance level x y e (omega arith)) sound)) (either level finest)
 
 -- and both its halves are sound
 pub sound-halves : (l r t : Tree) → t ≡ Cut l r → Sound t → Sound l × Sound r

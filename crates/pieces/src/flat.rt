@@ -4,10 +4,12 @@ ghost use Prim.Native.Nat.{_^_, _≤_};
 ghost use lib.IntN.{pos, natAbs, _+ℤ_, _-ℤ_, _*ℤ_};
 ghost use Rattle.curve.specs.Bend.{bend};
 ghost use Rattle.curve.specs.Limits.{Inside};
+ghost use Rattle.curve.specs.Span.{divisor};
 ghost use Rattle.pieces.specs.Tree.{finest, flatOn, isFlat, mostTolerance, piece};
-ghost use Rattle.pieces.specs.Inner.{divisorAt};
+use curve::Basis;
 use curve::Four;
-use curve::SIXFOLD;
+use curve::SIX;
+use curve::rounding::divisor_bits;
 use whole::magnitude;
 
 // The second difference of three controls in a row, in size.
@@ -29,23 +31,23 @@ fn bend_of(q: Four) -> u64
 }
 
 // Whether three times that is at most four times the tolerance, over the divisor of a level.
-fn is_flat_on(q: Four, level: usize, tolerance: usize) -> bool
+fn is_flat_on(basis: Basis, q: Four, level: usize, tolerance: usize) -> bool
     requires { ⌜ Inside (2 ^ 59) q ⌝ }
     requires { ⌜ (level ≤ finest) × (tolerance ≤ mostTolerance) ⌝ }
-    ensures { λ r. ⌜ r ≡ flatOn (divisorAt level) tolerance q ⌝ }
+    ensures { λ r. ⌜ r ≡ flatOn (divisor basis level) tolerance q ⌝ }
 {
-    let divisor = (SIXFOLD as u64) << (3 * level);
+    let divisor = (SIX as u64) << divisor_bits(basis, level);
     3 * bend_of(q) <= 4 * (tolerance as u64 * divisor)
 }
 
 // Whether a piece is flat: on both axes.
-pub(crate) fn is_flat(x: Four, y: Four, level: usize, tolerance: usize) -> bool
+pub(crate) fn is_flat(basis: Basis, x: Four, y: Four, level: usize, tolerance: usize) -> bool
     requires { ⌜ Inside (2 ^ 59) x × Inside (2 ^ 59) y ⌝ }
     requires { ⌜ (level ≤ finest) × (tolerance ≤ mostTolerance) ⌝ }
-    ensures { λ r. ⌜ r ≡ isFlat divisorAt tolerance (piece level x y) ⌝ }
+    ensures { λ r. ⌜ r ≡ isFlat (divisor basis) tolerance (piece level x y) ⌝ }
 {
-    if is_flat_on(x, level, tolerance) {
-        return is_flat_on(y, level, tolerance);
+    if is_flat_on(basis, x, level, tolerance) {
+        return is_flat_on(basis, y, level, tolerance);
     }
     false
 }

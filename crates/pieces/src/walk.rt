@@ -7,10 +7,12 @@ ghost use Rattle.pieces.specs.Inner.{treeAt, Walkable};
 use crate::FINEST;
 use crate::Walked;
 use crate::flat::is_flat;
+use curve::Basis;
 use curve::Four;
 
 // The walk of a piece and all below it, where `made` cuts were made before.
 pub fn count_cuts(
+    basis: Basis,
     level: usize,
     x: Four,
     y: Four,
@@ -18,11 +20,11 @@ pub fn count_cuts(
     most: usize,
     made: usize,
 ) -> Walked
-    requires { ⌜ Walkable level x y ⌝ }
+    requires { ⌜ Walkable basis level x y ⌝ }
     requires { ⌜ tolerance ≤ mostTolerance ⌝ }
-    ensures { λ r. ⌜ r ≡ walk most made (treeAt tolerance level x y) ⌝ }
+    ensures { λ r. ⌜ r ≡ walk most made (treeAt basis tolerance level x y) ⌝ }
 {
-    if is_flat(x, y, level, tolerance) {
+    if is_flat(basis, x, y, level, tolerance) {
         return Walked::Cuts(made);
     }
     if level == FINEST {
@@ -32,6 +34,7 @@ pub fn count_cuts(
         return Walked::TooMany;
     }
     let on_left = count_cuts(
+        basis,
         level + 1,
         x.left_half(),
         y.left_half(),
@@ -43,6 +46,7 @@ pub fn count_cuts(
         return on_left;
     };
     count_cuts(
+        basis,
         level + 1,
         x.right_half(),
         y.right_half(),

@@ -8,8 +8,7 @@ use lib.IntN.{ℤ, pos, natAbs}
 use lib.ListN.{length, length-append}
 use Rattle.whole.proofs.Ring.{var, lit, _⊗_, solve}
 use Rattle.curve.specs.declared.Four.{Four}
-use Rattle.curve.specs.Limits.{reach}
-use Rattle.curve.specs.Inner.{widest}
+use Rattle.curve.specs.Inner.{widest, farReach}
 use Rattle.curve.specs.Span.{divisor, weighted}
 use Rattle.curve.specs.Tab.{tab}
 use Rattle.curve.proofs.Span.{weighted-end}
@@ -45,12 +44,12 @@ module _ (p : Plan) (tolerance : ℕ) (controls : List ℤ) (w : Walkable p tole
         on-y = ready-cuttable finest (divisorAt finest) (controlsOf p controls s 1) (ready finest 1 (omega arith));
       }
 
-  -- its end is within the reach of its divisor, and far inside 64 bits
-  pub end-near : (axis : ℕ) → axis < 2 → natAbs (controlsOf p controls s axis .d) ≤ divisorAt 0 * reach
+  -- its end is within the farReach of its divisor, and far inside 64 bits
+  pub end-near : (axis : ℕ) → axis < 2 → natAbs (controlsOf p controls s axis .d) ≤ divisorAt 0 * farReach
   end-near axis a =
       let q = controlsOf p controls s axis in
       let last : weighted q (pos 1) (pos 1) ≡ q .d = weighted-end q (pos 1) ∙ solve (q .d ∷ []) (lit (pos 1) ⊗ lit (pos 1) ⊗ lit (pos 1) ⊗ var 0) (var 0) tt in
-      subst (λ z. natAbs z ≤ divisorAt 0 * reach) last (ready 0 axis a .near 1 (omega arith))
+      subst (λ z. natAbs z ≤ divisorAt 0 * farReach) last (ready 0 axis a .near 1 (omega arith))
 
   pub end-inside : (axis : ℕ) → axis < 2 → natAbs (controlsOf p controls s axis .d) ≤ widest
   end-inside axis a = ready 0 axis a .inside .d

@@ -13,8 +13,7 @@ use mir.Syntax.{w64}
 use Rattle.whole.specs.Outcome.{Outcome, outcome}
 use Rattle.whole.proofs.Fit.{kept, kept-is, sfits}
 use Rattle.curve.specs.declared.Four.{Four}
-use Rattle.curve.specs.Limits.{reach}
-use Rattle.curve.specs.Inner.{widest}
+use Rattle.curve.specs.Inner.{widest, farReach}
 use Rattle.curve.specs.Span.{divisor}
 use Rattle.curve.specs.Tab.{tab}
 use Rattle.shape.specs.declared.Plan.{Plan}
@@ -150,7 +149,7 @@ module _ (c : tie.After-fill-starts Inv-loop μ-loop) where
   small : (axis : ℕ) → axis < 2 → natAbs (at axis) ≤ widest
   small axis h = let t = turn c in end-inside (t .before .args .plan) (t .before .args .tolerance) (t .before .args .controls .now) (t .before .pre .0 .walkable) (t .loop .span) (t .loop .inv .0) axis h
 
-  near : (axis : ℕ) → axis < 2 → natAbs (at axis) ≤ divisorAt 0 * reach
+  near : (axis : ℕ) → axis < 2 → natAbs (at axis) ≤ divisorAt 0 * farReach
   near axis h = let t = turn c in end-near (t .before .args .plan) (t .before .args .tolerance) (t .before .args .controls .now) (t .before .pre .0 .walkable) (t .loop .span) (t .loop .inv .0) axis h
 
   end-x : kept w64 (c .before .before .before .span-controls .result .d) ≡ at 0
@@ -162,7 +161,7 @@ module _ (c : tie.After-fill-starts Inv-loop μ-loop) where
 put-point-requires : tie.Need-put-point-requires Inv-loop μ-loop
 put-point-requires c κs =
     let f = c .before .before .before .before .before .before in
-    let n = divisorAt 0 * reach in
+    let n = divisorAt 0 * farReach in
     let x = subst (λ z. natAbs z ≤ n) (sym (end-x f)) (near f 0 (lit< tt)) in
     let y = subst (λ z. natAbs z ≤ n) (sym (end-y f)) (near f 1 (lit< tt)) in
     (omega arith, ((search needs, search needs), (omega (arith, room f, ap length (last-end (c .before .before .before))), few f)))
