@@ -12,7 +12,7 @@ use lib.ListN.{length}
 use Rattle.curve.specs.Limits.{limit}
 use Rattle.curve.specs.Span.{coordinate}
 use Rattle.curve.specs.Ways.{deepest}
-use Rattle.shape.specs.Shape.{mostRecords, allowed, basisOf, spansOf, recordsOf}
+use Rattle.shape.specs.Shape.{mostRecords, allowed, sixtyFourths, basisOf, spansOf, recordsOf}
 use Rattle.shape.specs.Refusals.{NoRow, outside, firstOutside, shapeRows, controlRows}
 use Rattle.shape.proofs.Refusals.{none-both}
 use Rattle.shape.proofs.Seek.{seek-none}
@@ -24,7 +24,7 @@ use Rattle.drawing.proofs.Sequences.{sound}
 
 -- the counts that are reached, from 4 on, are those allowed for basis 1
 spans-there : (n : ℕ) → 4 ≤ n → n ≤ mostRecords → n % 3 ≡ 1 → allowed (basisOf 1) n ≡ true
-unfolding basisOf spansOf recordsOf
+unfolding sixtyFourths basisOf spansOf recordsOf
 spans-there n h m e = let whole : 3 * ((n - 1) / 3) + 1 ≡ n = omega arith in allowed-between (basisOf 1) n h m ∙ eq-eqb (3 * ((n - 1) / 3) + 1) n whole
 
 not-outside : (l : List ℤ) (r : ℕ) → Inside (recordAt l r) → outside l r ≡ false

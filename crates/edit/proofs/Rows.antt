@@ -90,6 +90,7 @@ module _ (e : Edit) (s : Shape) (p : Plan) (j : ℕ) (ok : Editable e s p j) whe
         basis-least = good .basis-least;
         basis-most = good .basis-most;
         depth = good .depth;
+        offered = good .offered;
         depth-most = good .depth-most;
         spans-least = left;
         spans-most = subst (λ n. spansAfter e m + 3 ≤ n) records (spans-below b (spansAfter e m) left);

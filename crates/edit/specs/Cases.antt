@@ -30,7 +30,7 @@ free = neg 1 ∷ neg 1 ∷ []
 
 -- The shape, the controls and the points that each starts from.
 abbrev pub cardinal : ℕ → Shape
-cardinal n = record { basis = 3; depth = 0; count = n }
+cardinal n = record { basis = 3; depth = 0; count = n; parameter = 0 }
 
 abbrev pub controlsBefore : List ℤ
 controlsBefore = flat (0 ∷ 10 ∷ 20 ∷ 30 ∷ 40 ∷ 50 ∷ []) ++ free

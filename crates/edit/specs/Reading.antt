@@ -23,7 +23,7 @@ use Rattle.asked.specs.Edits.{countAfter, spansAfter, offered, inRange, atTheEn
 
 -- The shape after an edit.
 abbrev pub shapeAfter : Edit → Shape → Shape
-shapeAfter e s = record { basis = s .basis; depth = s .depth; count = countAfter e (s .count) }
+shapeAfter e s = record { basis = s .basis; depth = s .depth; count = countAfter e (s .count); parameter = s .parameter }
 
 -- And the plan.
 abbrev pub planAfter : Edit → Plan → Plan
@@ -76,5 +76,5 @@ edits e s j controls lent =
 
 -- What the answer tells: the new shape, the first span worked afresh, how many, and how many coordinates of theirs are exact; or the refusal.
 abbrev pub told : Edited → Told
-told (Done c) = Accepts (pos (c .shape .basis) ∷ pos (c .shape .depth) ∷ pos (c .shape .count) ∷ pos (c .first) ∷ pos (c .fresh) ∷ pos (c .exact) ∷ [])
+told (Done c) = Accepts (pos (c .shape .basis) ∷ pos (c .shape .depth) ∷ pos (c .shape .count) ∷ pos (c .first) ∷ pos (c .fresh) ∷ pos (c .exact) ∷ pos (c .shape .parameter) ∷ [])
 told (Refused r) = Refuses r

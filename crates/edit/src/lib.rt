@@ -120,6 +120,7 @@ fn change_of(edit: Edit, shape: Shape, plan: Plan, place: usize, exact: usize) -
             basis: shape.basis,
             depth: shape.depth,
             count: count_after(edit, shape.count),
+            parameter: shape.parameter,
         },
         first: named_first(first, past),
         fresh: less(past, first),

@@ -8,7 +8,7 @@ use Rattle.curve.specs.Four.{dot}
 use Rattle.curve.specs.Published.{weights}
 use Rattle.curve.specs.Span.{coordinate, firstRecord, recordsFrom, wholeControls, weighted}
 use Rattle.shape.specs.declared.Shape.{Shape}
-use Rattle.shape.specs.Shape.{basisOf, spansOf, recordsOf, allowed, pointsOf}
+use Rattle.shape.specs.Shape.{sixtyFourths, basisOf, spansOf, recordsOf, allowed, pointsOf}
 use Rattle.shape.specs.Refusals.{judge, judgeShape, outside, seek, planOf}
 use Rattle.spans.specs.Numbers.{sumOf, number}
 use Rattle.outline.specs.Outline.{draws}
@@ -30,5 +30,5 @@ pub two-spans :
     × (partText (Read shape) held 1 ≡ 48 ∷ 32 ∷ 54 ∷ 32 ∷ 48 ∷ 10 ∷ [])
     × (partText (Read shape) held 2 ≡ 49 ∷ 32 ∷ 49 ∷ 50 ∷ 32 ∷ 48 ∷ 10 ∷ 50 ∷ 32 ∷ 49 ∷ 56 ∷ 32 ∷ 48 ∷ 10 ∷ [])
     × (partText (Read shape) held 3 ≡ [])
-unfolding judgeShape judge recordsText draws basisOf spansOf recordsOf allowed outside seek planOf pointsOf coordinate firstRecord recordsFrom wholeControls weighted weights dot nearest halfUp sumOf number tab natural naturalIn
+unfolding judgeShape judge recordsText draws sixtyFourths basisOf spansOf recordsOf allowed outside seek planOf pointsOf coordinate firstRecord recordsFrom wholeControls weighted weights dot nearest halfUp sumOf number tab natural naturalIn
 two-spans = (refl, refl, refl, refl, refl)

@@ -7,7 +7,7 @@ use Rattle.curve.specs.Tab.{tab}
 use Rattle.curve.specs.Four.{dot}
 use Rattle.curve.specs.Published.{weights}
 use Rattle.curve.specs.Span.{coordinate, firstRecord, recordsFrom, wholeControls, weighted, point}
-use Rattle.shape.specs.Shape.{basisOf, spansOf, recordsOf, allowed, pointsOf}
+use Rattle.shape.specs.Shape.{sixtyFourths, basisOf, spansOf, recordsOf, allowed, pointsOf}
 use Rattle.shape.specs.Refusals.{judge, outside, seek, planOf}
 use Rattle.spans.specs.Numbers.{sumOf, number}
 use Rattle.outline.specs.Outline.{draws}
@@ -46,7 +46,7 @@ abbrev pub listing : List ℕ
 listing = 49 ∷ 32 ∷ 49 ∷ 32 ∷ 49 ∷ 32 ∷ 51 ∷ 10 ∷ lines
 
 pub paper-listed : fileText file ≡ listing
-unfolding textBy reading judge recordRows format.number sumOf number word signed tab coordinate basisOf spansOf recordsOf allowed outside seek planOf pointsOf evenText draws firstRecord recordsFrom wholeControls weighted weights dot nearest halfUp point outlineText natural naturalIn
+unfolding textBy reading judge recordRows format.number sumOf number word signed tab coordinate sixtyFourths basisOf spansOf recordsOf allowed outside seek planOf pointsOf evenText draws firstRecord recordsFrom wholeControls weighted weights dot nearest halfUp point outlineText natural naturalIn
 paper-listed = refl
 
 -- The same file by tolerance. Its second differences are 8 on both axes, and 2 once it is cut. At tolerance 6 it is flat: "1 6 1 2 0", "0 0 0", "1 8 0". At 5 it is cut once, at its
@@ -55,5 +55,5 @@ pub paper-cut :
     (cutFileText 6 0 file ≡ 49 ∷ 32 ∷ 54 ∷ 32 ∷ 49 ∷ 32 ∷ 50 ∷ 32 ∷ 48 ∷ 10 ∷ 48 ∷ 32 ∷ 48 ∷ 32 ∷ 48 ∷ 10 ∷ 49 ∷ 32 ∷ 56 ∷ 32 ∷ 48 ∷ 10 ∷ [])
     × (cutFileText 5 1 file ≡ 49 ∷ 32 ∷ 53 ∷ 32 ∷ 49 ∷ 32 ∷ 51 ∷ 32 ∷ 49 ∷ 10 ∷ lines)
     × (cutFileText 5 0 file ≡ 114 ∷ 101 ∷ 102 ∷ 117 ∷ 115 ∷ 101 ∷ 100 ∷ 32 ∷ 50 ∷ 50 ∷ 32 ∷ 48 ∷ 10 ∷ [])
-unfolding textBy reading judge recordRows format.number word signed tab coordinate basisOf spansOf recordsOf allowed outside seek planOf byTolerance chooses treeOf tree isFlat bend leftHalf rightHalf cuts allCuts starts allStarts walk walkAll firstRecord recordsFrom wholeControls nearest halfUp chosenText natural naturalIn
+unfolding textBy reading judge recordRows format.number word signed tab coordinate sixtyFourths basisOf spansOf recordsOf allowed outside seek planOf byTolerance chooses treeOf tree isFlat bend leftHalf rightHalf cuts allCuts starts allStarts walk walkAll firstRecord recordsFrom wholeControls nearest halfUp chosenText natural naturalIn
 paper-cut = (refl, refl, refl)

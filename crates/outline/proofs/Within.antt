@@ -42,7 +42,7 @@ step-within g m d some-steps some h =
 
 module _ (s : Shape) (p : Plan) (good : Good s p) (controls : List ℤ) (k len : ℕ) (lent : Lent (s .count) controls k len) where
   -- each number of the outline
-  pub number-within : (q : ℕ) → q < 2 * points p → natAbs (number p controls q) ≤ reach
+  pub number-within : (q : ℕ) → q < 2 * points p → natAbs (number p controls q) ≤ reach (p .basis)
   unfolding sumOf number point pointsOf
   number-within q h =
       let d = 2 ^ p .depth in
@@ -51,10 +51,11 @@ module _ (s : Shape) (p : Plan) (good : Good s p) (controls : List ℤ) (k len :
       let exists : t < p .spans = omega (arith, min-le-right (g / d) (p .spans - 1), good .spans-least) in
       point-size (p .basis) (p .depth) (g - t * d) (records (p .basis) t (coordinate controls (q % 2)))
       (step-within g (p .spans) d (pow-pos (p .depth)) (good .spans-least) (omega arith))
+      (good .offered)
       (lent-inside (s .count) controls k len lent (q % 2) (firstRecord (p .basis) t) (omega arith) (good-records s p good t exists))
 
 -- After a drawing call that is done, each number of its points, as it stands in the lent list.
-pub drawn-within : (s : Shape) (controls lent : List ℤ) (fs : Figures) (held : List ℤ) → draws s controls lent ≡ outcome (Done fs) held → (q : ℕ) → q < 2 * fs .points → natAbs (getD held q (pos 0)) ≤ reach
+pub drawn-within : (s : Shape) (controls lent : List ℤ) (fs : Figures) (held : List ℤ) → draws s controls lent ≡ outcome (Done fs) held → (q : ℕ) → q < 2 * fs .points → natAbs (getD held q (pos 0)) ≤ reach (planOf s .basis)
 drawn-within s controls lent fs held answered q h =
     let p = planOf s in
     let none = done-none s controls lent fs held answered in
@@ -62,4 +63,4 @@ drawn-within s controls lent fs held answered q h =
     let within : q < 2 * points p = omega (arith, few) in
     let good = good-plan s (none-earlier (shapeRows s) (planRows (s .count) p controls lent) none) in
     let had = none-facts (s .count) controls (points p) (length lent) (none-later (shapeRows s) (planRows (s .count) p controls lent) none) in
-    subst (λ z. natAbs z ≤ reach) (sym (held-number s controls lent fs held answered q within)) (number-within s p good controls (points p) (length lent) had q within)
+    subst (λ z. natAbs z ≤ reach (p .basis)) (sym (held-number s controls lent fs held answered q within)) (number-within s p good controls (points p) (length lent) had q within)

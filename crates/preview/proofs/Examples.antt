@@ -10,7 +10,7 @@ use Rattle.curve.specs.Tab.{tab}
 use Rattle.curve.specs.Four.{dot}
 use Rattle.curve.specs.Published.{weights}
 use Rattle.curve.specs.Span.{coordinate, firstRecord, recordsFrom, weighted}
-use Rattle.shape.specs.Shape.{basisOf, spansOf, recordsOf, allowed, pointsOf}
+use Rattle.shape.specs.Shape.{sixtyFourths, basisOf, spansOf, recordsOf, allowed, pointsOf}
 use Rattle.shape.specs.Refusals.{judge, outside, seek, planOf}
 use Rattle.doubles.specs.Exact.{dyadic}
 use Rattle.preview.specs.declared.Previewed.the-variants.{Drawn, Refused}
@@ -26,9 +26,9 @@ zero = fin false 0 (pos 0)
 pub halves-drawn :
     previewing (record { basis = 1; depth = 1; count = 4 }) controls (replicate 7 nan)
     ≡ outcome (Drawn 3) (zero ∷ zero ∷ fin false 1 (negsuc 0) ∷ fin true 1 (negsuc 1) ∷ fin false 1 (pos 2) ∷ fin true 1 (pos 1) ∷ nan ∷ [])
-unfolding previewing judge value sum weighted weights dot tab coordinate firstRecord recordsFrom basisOf spansOf recordsOf allowed pointsOf planOf outside seek dyadic round
+unfolding previewing judge value sum weighted weights dot tab coordinate firstRecord recordsFrom sixtyFourths basisOf spansOf recordsOf allowed pointsOf planOf outside seek dyadic round
 halves-drawn = refl
 
 pub other-basis : previewing (record { basis = 2; depth = 1; count = 4 }) controls (replicate 6 nan) ≡ refuses Refused (replicate 6 nan) (record { number = 4; place = 0 })
-unfolding previewing judge basisOf spansOf recordsOf allowed planOf
+unfolding previewing judge sixtyFourths basisOf spansOf recordsOf allowed planOf
 other-basis = refl

@@ -6,7 +6,7 @@ use Rattle.curve.specs.Tab.{tab}
 use Rattle.curve.specs.Four.{dot}
 use Rattle.curve.specs.Published.{weights}
 use Rattle.curve.specs.Span.{firstRecord, coordinate, recordsFrom, wholeControls, weighted, point}
-use Rattle.shape.specs.Shape.{basisOf, recordsOf, spansOf, lastUsing, allowed, pointsOf}
+use Rattle.shape.specs.Shape.{sixtyFourths, basisOf, recordsOf, spansOf, lastUsing, allowed, pointsOf}
 use Rattle.shape.specs.Refusals.{judge, seek, planOf, outside}
 use Rattle.spans.specs.Numbers.{sumOf, number, remainderOf, noughts}
 use Rattle.outline.specs.Outline.{draws}
@@ -20,5 +20,5 @@ use Rattle.promises.specs.Cases.{Case, cases}
 
 -- for every case the definitions give what the paper gives
 pub cases-hold : map (λ (c : Case). c .given) cases ≡ map (λ (c : Case). c .paper) cases
-unfolding tab point wholeControls weighted weights dot nearest halfUp firstRecord coordinate recordsFrom basisOf recordsOf spansOf lastUsing allowed pointsOf judge seek planOf outside sumOf number remainder remainderOf noughts draws onX dyadic within measure asked runOf isFresh exactFresh pointAt edits flat
+unfolding tab point wholeControls weighted weights dot nearest halfUp firstRecord coordinate recordsFrom sixtyFourths basisOf recordsOf spansOf lastUsing allowed pointsOf judge seek planOf outside sumOf number remainder remainderOf noughts draws onX dyadic within measure asked runOf isFresh exactFresh pointAt edits flat
 cases-hold = refl

@@ -7,7 +7,7 @@ use lib.ListN.{replicate}
 use Rattle.whole.specs.Outcome.{outcome, refuses}
 use Rattle.curve.specs.Tab.{tab}
 use Rattle.curve.specs.Span.{coordinate}
-use Rattle.shape.specs.Shape.{basisOf, spansOf, recordsOf, allowed}
+use Rattle.shape.specs.Shape.{sixtyFourths, basisOf, spansOf, recordsOf, allowed}
 use Rattle.shape.specs.Refusals.{judge, outside, seek}
 use Rattle.record_file.specs.declared.Reading.the-variants.{Read, Refused}
 use Rattle.record_file.specs.Format.{word, signed, number}
@@ -28,13 +28,13 @@ lent = replicate 10 (negsuc 4)
 pub paper-read :
     reading paper lent
     ≡ outcome (Read (record { basis = 1; depth = 1; count = 4 })) (pos 0 ∷ pos 0 ∷ pos 0 ∷ pos 8 ∷ pos 8 ∷ pos 8 ∷ pos 8 ∷ pos 0 ∷ negsuc 4 ∷ negsuc 4 ∷ [])
-unfolding reading judge recordRows number word signed tab coordinate basisOf spansOf recordsOf allowed outside seek
+unfolding reading judge recordRows number word signed tab coordinate sixtyFourths basisOf spansOf recordsOf allowed outside seek
 paper-read = refl
 
 -- a record with both faults is refused for its zero bytes, and the place is the record
 pub zeros-first :
     reading (1 ∷ 1 ∷ 0 ∷ 0 ∷ 0 ∷ 0 ∷ 0 ∷ 0 ∷ 0 ∷ 0 ∷ 0 ∷ 0 ∷ 2 ∷ 1 ∷ 0 ∷ 7 ∷ 0 ∷ 0 ∷ 0 ∷ 0 ∷ 0 ∷ 0 ∷ 0 ∷ 0 ∷ []) lent ≡ refuses Refused lent (record { number = 14; place = 1 })
-unfolding reading judge recordRows number word signed tab coordinate basisOf spansOf recordsOf allowed outside seek
+unfolding reading judge recordRows number word signed tab coordinate sixtyFourths basisOf spansOf recordsOf allowed outside seek
 zeros-first = refl
 
 -- 255 255 255 255 is -1, and 0 0 0 128 the least number

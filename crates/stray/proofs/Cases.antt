@@ -18,7 +18,7 @@ use Rattle.curve.specs.Span.{firstRecord, coordinate, recordsFrom, wholeControl
 use Rattle.curve.specs.Tab.{tab}
 use Rattle.curve.specs.Ways.{leftHalf, rightHalf}
 use Rattle.shape.specs.Refusals.{judge, seek, planOf, outside}
-use Rattle.shape.specs.Shape.{basisOf, recordsOf, spansOf, allowed, pointsOf}
+use Rattle.shape.specs.Shape.{sixtyFourths, basisOf, recordsOf, spansOf, allowed, pointsOf}
 use Rattle.spans.specs.Numbers.{sumOf, number, remainderOf, noughts}
 use Rattle.outline.specs.declared.Drawn.the-variants as drawn
 use Rattle.outline.specs.Outline.{draws}
@@ -89,7 +89,7 @@ abbrev quarters : Four
 quarters = four (pos 0) (pos 1) (pos 5) (pos 9)
 
 pub drawn-quarters : draws (record { basis = 4; depth = 2; count = 4 }) (onX (pos 0 ∷ pos 1 ∷ pos 5 ∷ pos 9 ∷ [])) (replicate 10 (neg 1)) ≡ outcome (drawn.Done (record { points = 5; exact = 8 })) (onX (pos 0 ∷ pos 1 ∷ pos 2 ∷ pos 3 ∷ pos 5 ∷ []))
-unfolding draws judge planOf basisOf spansOf recordsOf pointsOf allowed outside seek coordinate onX tab number sumOf remainderOf weighted weights dot firstRecord recordsFrom wholeControls nearest halfUp remainder noughts
+unfolding draws judge planOf sixtyFourths basisOf spansOf recordsOf pointsOf allowed outside seek coordinate onX tab number sumOf remainderOf weighted weights dot firstRecord recordsFrom wholeControls nearest halfUp remainder noughts
 drawn-quarters = refl
 
 -- In the middle between them the curve is at 15/16 and the chord from 1 to 2 at 24/16: 9/16 apart, which is the bound, 1/16, and the half.
@@ -99,7 +99,7 @@ half-met = refl
 
 -- By tolerance: a Bezier span 0, 1, 18, 51 on x at 3 micrometres is cut once, at 13 1/2, which is rounded to 14.
 pub cut-once : chooses (record { basis = 1; depth = 0; count = 4 }) 3 1 (onX (pos 0 ∷ pos 1 ∷ pos 18 ∷ pos 51 ∷ [])) (replicate 6 (neg 1)) ≡ outcome (Done (record { points = 3; cuts = 1; exact = 5 })) (onX (pos 0 ∷ pos 14 ∷ pos 51 ∷ []))
-unfolding chooses judge planOf basisOf spansOf recordsOf allowed outside seek coordinate onX treeOf tab tree isFlat bend leftHalf rightHalf cuts allCuts starts allStarts walk walkAll firstRecord recordsFrom wholeControls nearest halfUp remainder noughts
+unfolding chooses judge planOf sixtyFourths basisOf spansOf recordsOf allowed outside seek coordinate onX treeOf tab tree isFlat bend leftHalf rightHalf cuts allCuts starts allStarts walk walkAll firstRecord recordsFrom wholeControls nearest halfUp remainder noughts
 cut-once = refl
 
 -- At a quarter of the span, in the middle of its first chord, the curve is at 3 3/4 and the chord from 0 to 14 at 7: more than 3 micrometres apart, and within 3 1/2.

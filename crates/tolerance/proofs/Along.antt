@@ -21,7 +21,6 @@ use Rattle.spans.proofs.Numbers.{per-span, span-sum}
 use Rattle.pieces.specs.Tree.{finest, piece, Tree, allCuts}
 use Rattle.pieces.specs.Values.{allStarts, end, numbers}
 use Rattle.pieces.specs.Steps.{stepsIn, Rises}
-use Rattle.pieces.specs.Inner.{divisorAt}
 use Rattle.pieces.proofs.Even.{sumsAt, sums-append, Same, same-append, same-both, Covers, starts-even}
 use Rattle.pieces.proofs.Stepped.{rises-append, steps-rise, steps-begin, steps-count}
 use Rattle.tolerance.specs.declared.Chosen.the-variants.{Done}
@@ -62,13 +61,13 @@ module _ (p : Plan) (controls : List ℤ) (t : ℕ) (there : t < p .spans) where
   covers-y i h = sym (at-step finest i 1 h (lit< tt))
 
   -- its end
-  pub end-even : (m : ℕ) → m ≡ t + 1 → Same (divisorAt finest) (end divisorAt (controlsOf p controls t 0) (controlsOf p controls t 1)) (sumsAt (onX p controls) (onY p controls) (m * 2 ^ finest ∷ []))
+  pub end-even : (m : ℕ) → m ≡ t + 1 → Same (divisor (p .basis) finest) (end (divisor (p .basis)) (controlsOf p controls t 0) (controlsOf p controls t 1)) (sumsAt (onX p controls) (onY p controls) (m * 2 ^ finest ∷ []))
   unfolding sumsAt
   end-even m e =
       let last : m * 2 ^ finest ≡ t * 2 ^ finest + 2 ^ finest = omega arith in
       let x = controlsOf p controls t 0 in
       let y = controlsOf p controls t 1 in
-      same-both 0 (omega arith) (x .d) (y .d) (onX p controls (m * 2 ^ finest)) (onY p controls (m * 2 ^ finest))
+      same-both (p .basis) 0 (omega arith) (x .d) (y .d) (onX p controls (m * 2 ^ finest)) (onY p controls (m * 2 ^ finest))
       (ap (onX p controls) last ∙ x-step (2 ^ finest) (omega arith) ∙ weighted-end x (pos (2 ^ finest)))
       (ap (onY p controls) last ∙ at-step finest (2 ^ finest) 1 (omega arith) (lit< tt) ∙ weighted-end y (pos (2 ^ finest)))
 
@@ -84,20 +83,20 @@ module _ (p : Plan) (tolerance : ℕ) (controls : List ℤ) where
   abbrev y : ℕ → ℤ
   y = onY p controls
 
-  starts-along : (s n : ℕ) → s + n ≤ p .spans → Same (divisorAt finest) (allStarts (divisor (p .basis)) (tab f s n)) (sumsAt x y (stepsFrom s (tab f s n)))
+  starts-along : (s n : ℕ) → s + n ≤ p .spans → Same (divisor (p .basis) finest) (allStarts (divisor (p .basis)) (tab f s n)) (sumsAt x y (stepsFrom s (tab f s n)))
   unfolding allStarts stepsFrom tab sumsAt noughts treeOf
   starts-along s zero h = record { rounds-alike = refl; as-exact = refl }
   starts-along s (suc n) h =
-      let here = starts-even tolerance x y finest (s * 2 ^ finest) (piece 0 (controlsOf p controls s 0) (controlsOf p controls s 1)) refl (covers-x p controls s (omega arith)) (covers-y p controls s (omega arith)) in
-      subst (Same (divisorAt finest) (allStarts (divisor (p .basis)) (tab f s (suc n)))) (sym (sums-append x y (stepsIn finest (s * 2 ^ finest) (f s)) (stepsFrom (suc s) (tab f (suc s) n))))
-      (same-append (divisorAt finest) _ _ _ _ here (starts-along (suc s) n (omega arith)))
+      let here = starts-even (p .basis) tolerance x y finest (s * 2 ^ finest) (piece 0 (controlsOf p controls s 0) (controlsOf p controls s 1)) refl (covers-x p controls s (omega arith)) (covers-y p controls s (omega arith)) in
+      subst (Same (divisor (p .basis) finest) (allStarts (divisor (p .basis)) (tab f s (suc n)))) (sym (sums-append x y (stepsIn finest (s * 2 ^ finest) (f s)) (stepsFrom (suc s) (tab f (suc s) n))))
+      (same-append (divisor (p .basis) finest) _ _ _ _ here (starts-along (suc s) n (omega arith)))
 
-  pub values-along : 0 < p .spans → Same (divisorAt finest) (valuesOf p tolerance controls) (sumsAt x y (stepsAlong p tolerance controls))
+  pub values-along : 0 < p .spans → Same (divisor (p .basis) finest) (valuesOf p tolerance controls) (sumsAt x y (stepsAlong p tolerance controls))
   values-along some =
       let last = p .spans - 1 in
       let one : p .spans ≡ last + 1 = omega arith in
-      subst (Same (divisorAt finest) (valuesOf p tolerance controls)) (sym (sums-append x y (stepsFrom 0 (treesOf p tolerance controls)) (p .spans * 2 ^ finest ∷ [])))
-      (same-append (divisorAt finest) _ _ _ _ (starts-along 0 (p .spans) (omega arith)) (end-even p controls last (omega arith) (p .spans) one))
+      subst (Same (divisor (p .basis) finest) (valuesOf p tolerance controls)) (sym (sums-append x y (stepsFrom 0 (treesOf p tolerance controls)) (p .spans * 2 ^ finest ∷ [])))
+      (same-append (divisor (p .basis) finest) _ _ _ _ (starts-along 0 (p .spans) (omega arith)) (end-even p controls last (omega arith) (p .spans) one))
 
   -- ---- the steps: so many, from 0 on, rising to the last
 
@@ -151,7 +150,7 @@ module _ (s : Shape) (tolerance most : ℕ) (controls lent : List ℤ) (fs : Ste
   abbrev sums : List ℤ
   sums = sumsAt (onX pl controls) (onY pl controls) (stepsAlong pl tolerance controls)
 
-  pub held-along : take (2 * fs .points) held ≡ wholes (divisorAt finest) sums
+  pub held-along : take (2 * fs .points) held ≡ wholes (divisor (pl .basis) finest) sums
   held-along =
       let vs = numbers (valuesOf pl tolerance controls) in
       let many = answered-length s tolerance most controls lent fs held done in
@@ -159,7 +158,7 @@ module _ (s : Shape) (tolerance most : ℕ) (controls lent : List ℤ) (fs : Ste
       ∙ written-front lent vs (omega (arith, many, answered-room s tolerance most controls lent fs held done))
       ∙ values-along pl tolerance controls some-spans .rounds-alike
 
-  pub exact-along : fs .exact ≡ noughts (remainders (divisorAt finest) sums)
+  pub exact-along : fs .exact ≡ noughts (remainders (divisor (pl .basis) finest) sums)
   exact-along = sym (ap (λ (g : Steps). g .exact) (done-steps s tolerance most controls lent fs held done)) ∙ values-along pl tolerance controls some-spans .as-exact
 
   pub beginning-along : (rest : List ℕ) × (stepsAlong pl tolerance controls ≡ 0 ∷ rest)

@@ -10,7 +10,7 @@ use Rattle.whole.proofs.Fit.{natAbs-mul}
 use Rattle.curve.specs.declared.Basis.the-variants.{Bezier}
 use Rattle.curve.specs.Bend.{bend, firstBend, lastBend}
 use Rattle.curve.specs.Four.{four}
-use Rattle.curve.specs.Span.{coordinate, divisor, records, wholeControls}
+use Rattle.curve.specs.Span.{coordinate, fold, divisor, records, wholeControls}
 use Rattle.curve.proofs.Reflect.{num}
 use Rattle.shape.specs.declared.Plan.{Plan}
 use Rattle.pieces.specs.Tree.{finest, piece, Sound}
@@ -22,7 +22,7 @@ pub sound-exactly : (p : Plan) (tolerance : ℕ) (controls : List ℤ) (t : ℕ)
 unfolding treeOf
 sound-exactly p tolerance controls t =
     let span = piece 0 (controlsOf p controls t 0) (controlsOf p controls t 1) in
-    ((λ s. let w = sound-within tolerance finest span s in (w .on-x, w .on-y)), (λ w. within-sound tolerance finest span (record { on-x = w .0; on-y = w .1 })))
+    ((λ s. let w = sound-within (p .basis) tolerance finest span s in (w .on-x, w .on-y)), (λ w. within-sound (p .basis) tolerance finest span (record { on-x = w .0; on-y = w .1 })))
 
 -- ---- a straight edge
 
@@ -46,5 +46,7 @@ pub line-exactly : (p : Plan) (tolerance : ℕ) (controls : List ℤ) (t : ℕ) 
 line-exactly p tolerance controls t ax bx ay by b ex ey =
     let x : bend (controlsOf p controls t 0) ≡ 6 * natAbs (bx -ℤ ax) = (λ i. bend (wholeControls (b i) (ex i))) ∙ line-bend ax bx in
     let y : bend (controlsOf p controls t 1) ≡ 6 * natAbs (by -ℤ ay) = (λ i. bend (wholeControls (b i) (ey i))) ∙ line-bend ay by in
+    let six : fold (p .basis) ≡ 6 = ap fold b in
+    let over : tolerance * (divisor (p .basis) 0 * 4 ^ finest) ≡ tolerance * (6 * 4 ^ finest) = ap (λ (n : ℕ). tolerance * (n * 1 * 4 ^ finest)) six in
     let span = sound-exactly p tolerance controls t in
-    ((λ s. let w = span .0 s in (omega (arith, x, w .0), omega (arith, y, w .1))), (λ w. span .1 (omega (arith, x, w .0), omega (arith, y, w .1))))
+    ((λ s. let w = span .0 s in (omega (arith, x, over, w .0), omega (arith, y, over, w .1))), (λ w. span .1 (omega (arith, x, over, w .0), omega (arith, y, over, w .1))))

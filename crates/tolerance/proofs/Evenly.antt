@@ -27,7 +27,6 @@ use Rattle.outline.specs.Outline.{draws}
 use Rattle.outline.proofs.Exactly.{none-drawn}
 use Rattle.pieces.specs.Tree.{finest, piece, Tree, cuts, mostCuts, allCuts}
 use Rattle.pieces.specs.Values.{numbers, exactOf}
-use Rattle.pieces.specs.Inner.{divisorAt}
 use Rattle.pieces.proofs.Even.{sumsAt}
 use Rattle.pieces.proofs.Starts.{cuts-most}
 use Rattle.pieces.proofs.Stepped.{itself, steps-all}
@@ -110,7 +109,7 @@ module _ (s : Shape) (tolerance most : ℕ) (controls lent : List ℤ) (fs : Ste
   same-outcome : outcome (exactOf (valuesOf p tolerance controls)) (sets lent 0 (numbers (valuesOf p tolerance controls))) ≡ fills q controls 0 all lent
   same-outcome =
       let same = values-along p tolerance controls some in
-      (λ i. outcome ((same .as-exact ∙ ap (λ sums. noughts (remainders (divisorAt finest) sums)) all-sums ∙ sym (zero-add _)) i) (sets lent 0 ((same .rounds-alike ∙ ap (wholes (divisorAt finest)) all-sums) i)))
+      (λ i. outcome ((same .as-exact ∙ ap (λ sums. noughts (remainders (divisor (p .basis) finest) sums)) all-sums ∙ sym (zero-add _)) i) (sets lent 0 ((same .rounds-alike ∙ ap (wholes (divisor (p .basis) finest)) all-sums) i)))
       ∙ rounds-outline q controls 0 all lent
 
   -- the plan of the shape at the finest depth

@@ -12,7 +12,7 @@ use Rattle.curve.specs.Span.{firstRecord, coordinate, recordsFrom, wholeControl
 use Rattle.curve.specs.Tab.{tab}
 use Rattle.curve.specs.Ways.{leftHalf, rightHalf}
 use Rattle.shape.specs.Refusals.{judge, seek, planOf, outside}
-use Rattle.shape.specs.Shape.{basisOf, recordsOf, spansOf, allowed}
+use Rattle.shape.specs.Shape.{sixtyFourths, basisOf, recordsOf, spansOf, allowed}
 use Rattle.spans.specs.Numbers.{noughts}
 use Rattle.outline.specs.Cases.{onX}
 use Rattle.pieces.specs.Tree.{isFlat, tree, cuts, allCuts}
@@ -24,7 +24,7 @@ use Rattle.tolerance.specs.Reading.{treeOf, chooses}
 
 -- One span of depth 0 at a tolerance, with a most, and room for three points.
 abbrev spanAt : ℕ → ℕ → List ℤ → Outcome Chosen (List ℤ)
-spanAt tolerance most xs = chooses (record { basis = 1; depth = 0; count = 4 }) tolerance most (onX xs) (replicate 6 (neg 1))
+spanAt tolerance most xs = chooses (record { basis = 1; depth = 0; count = 4; parameter = 0 }) tolerance most (onX xs) (replicate 6 (neg 1))
 
 abbrev done : ℕ → ℕ → ℕ → List ℤ → Outcome Chosen (List ℤ)
 done points cuts exact xs = outcome (Done (record { points = points; cuts = cuts; exact = exact })) (onX xs ++ replicate (6 - 2 * points) (neg 1))
@@ -46,5 +46,5 @@ pub edges :
     -- tolerances 10,000 and 10,001
     × (spanAt 10000 0 (pos 0 ∷ pos 0 ∷ pos 0 ∷ pos 4 ∷ []) ≡ done 2 0 4 (pos 0 ∷ pos 4 ∷ []))
     × (spanAt 10001 0 (pos 0 ∷ pos 0 ∷ pos 0 ∷ pos 4 ∷ []) ≡ refused 20)
-unfolding chooses judge planOf basisOf spansOf recordsOf allowed outside seek coordinate onX treeOf tab tree isFlat bend leftHalf rightHalf cuts allCuts starts allStarts walk walkAll firstRecord recordsFrom wholeControls nearest halfUp remainder noughts
+unfolding chooses judge planOf sixtyFourths basisOf spansOf recordsOf allowed outside seek coordinate onX treeOf tab tree isFlat bend leftHalf rightHalf cuts allCuts starts allStarts walk walkAll firstRecord recordsFrom wholeControls nearest halfUp remainder noughts
 edges = (refl, refl, refl, refl, refl, refl, refl, refl, refl)

@@ -22,7 +22,7 @@ use Rattle.pieces.specs.declared.Walked.the-variants.{Cuts}
 use Rattle.pieces.specs.Tree.{finest, piece, Tree, cuts, mostCuts, allCuts}
 use Rattle.pieces.specs.Walk.{andThen, walk, walkAll}
 use Rattle.pieces.specs.Values.{Value, starts, allStarts, end}
-use Rattle.pieces.specs.Inner.{divisorAt, treeAt}
+use Rattle.pieces.specs.Inner.{treeAt}
 use Rattle.pieces.specs.Inner as pieces
 use Rattle.pieces.proofs.Starts.{length-starts, cuts-most}
 use Rattle.tolerance.specs.Reading.{controlsOf, treeOf, treesOf, valuesOf, cutsOf, pointsFor}
@@ -31,33 +31,33 @@ use Rattle.tolerance.specs.Inner.{Walkable}
 -- ---- one span
 
 module _ (p : Plan) (tolerance : ℕ) (controls : List ℤ) (w : Walkable p tolerance controls) (s : ℕ) (h : s < p .spans) where
-  ready : (k axis : ℕ) → axis < 2 → Ready k (divisorAt k) (controlsOf p controls s axis)
+  ready : (k axis : ℕ) → axis < 2 → Ready k (divisor (p .basis) k) (controlsOf p controls s axis)
   ready k axis a =
       let d = w .drawable in
-      span-ready (planAt k p) controls (record { few = d .few; held = d .held; inside = d .inside }) s axis h a
+      span-ready (planAt k p) controls (record { few = d .few; offered = d .offered; held = d .held; inside = d .inside }) s axis h a
 
-  pub span-walkable : pieces.Walkable 0 (controlsOf p controls s 0) (controlsOf p controls s 1)
+  pub span-walkable : pieces.Walkable (p .basis) 0 (controlsOf p controls s 0) (controlsOf p controls s 1)
   span-walkable =
       record {
         shallow = omega arith;
-        on-x = ready-cuttable finest (divisorAt finest) (controlsOf p controls s 0) (ready finest 0 (omega arith));
-        on-y = ready-cuttable finest (divisorAt finest) (controlsOf p controls s 1) (ready finest 1 (omega arith));
+        on-x = ready-cuttable finest (divisor (p .basis) finest) (controlsOf p controls s 0) (ready finest 0 (omega arith));
+        on-y = ready-cuttable finest (divisor (p .basis) finest) (controlsOf p controls s 1) (ready finest 1 (omega arith));
       }
 
-  -- its end is within the farReach of its divisor, and far inside 64 bits
-  pub end-near : (axis : ℕ) → axis < 2 → natAbs (controlsOf p controls s axis .d) ≤ divisorAt 0 * farReach
+  -- its end is within the reach of its divisor, and far inside 64 bits
+  pub end-near : (axis : ℕ) → axis < 2 → natAbs (controlsOf p controls s axis .d) ≤ divisor (p .basis) 0 * farReach
   end-near axis a =
       let q = controlsOf p controls s axis in
       let last : weighted q (pos 1) (pos 1) ≡ q .d = weighted-end q (pos 1) ∙ solve (q .d ∷ []) (lit (pos 1) ⊗ lit (pos 1) ⊗ lit (pos 1) ⊗ var 0) (var 0) tt in
-      subst (λ z. natAbs z ≤ divisorAt 0 * farReach) last (ready 0 axis a .near 1 (omega arith))
+      subst (λ z. natAbs z ≤ divisor (p .basis) 0 * farReach) last (ready 0 axis a .near 1 (omega arith))
 
   pub end-inside : (axis : ℕ) → axis < 2 → natAbs (controlsOf p controls s axis .d) ≤ widest
   end-inside axis a = ready 0 axis a .inside .d
 
 -- the tree that the code walks is the span's
-pub same-span : (p : Plan) (tolerance : ℕ) (controls : List ℤ) (s : ℕ) {x y : Four} → x ≡ controlsOf p controls s 0 → y ≡ controlsOf p controls s 1 → treeAt tolerance 0 x y ≡ treeOf p tolerance controls s
+pub same-span : (p : Plan) (tolerance : ℕ) (controls : List ℤ) (s : ℕ) {x y : Four} → x ≡ controlsOf p controls s 0 → y ≡ controlsOf p controls s 1 → treeAt (p .basis) tolerance 0 x y ≡ treeOf p tolerance controls s
 unfolding treeOf
-same-span p tolerance controls s e f = λ i. treeAt tolerance 0 (e i) (f i)
+same-span p tolerance controls s e f = λ i. treeAt (p .basis) tolerance 0 (e i) (f i)
 
 -- ---- what is left
 

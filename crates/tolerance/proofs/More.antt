@@ -28,7 +28,7 @@ module _ (p : Plan) (tolerance more : ℕ) (controls : List ℤ) (h : tolerance 
   unfolding allCuts tab treeOf
   fewer-from s zero = omega arith
   fewer-from s (suc n) =
-      let here : cuts (treeOf p more controls s) ≤ cuts (treeOf p tolerance controls s) = fewer-cuts tolerance more h finest (piece 0 (controlsOf p controls s 0) (controlsOf p controls s 1)) in
+      let here : cuts (treeOf p more controls s) ≤ cuts (treeOf p tolerance controls s) = fewer-cuts (p .basis) tolerance more h finest (piece 0 (controlsOf p controls s 0) (controlsOf p controls s 1)) in
       omega (arith, here, fewer-from (suc s) n)
 
   pub fewer-of : cutsOf p more controls ≤ cutsOf p tolerance controls
@@ -36,7 +36,7 @@ module _ (p : Plan) (tolerance more : ℕ) (controls : List ℤ) (h : tolerance 
 
   sound-of : (t : ℕ) → Sound (treeOf p tolerance controls t) → Sound (treeOf p more controls t)
   unfolding treeOf
-  sound-of t s = stays-sound tolerance more h finest (piece 0 (controlsOf p controls t 0) (controlsOf p controls t 1)) s
+  sound-of t s = stays-sound (p .basis) tolerance more h finest (piece 0 (controlsOf p controls t 0) (controlsOf p controls t 1)) s
 
 -- a walk that counted is not refused
 counts : (w : Walked) (n : ℕ) → w ≡ Cuts n → NoRow (walkRows w)

@@ -7,6 +7,7 @@ ghost use Rattle.whole.specs.Outcome.{outcome};
 ghost use Rattle.pieces.specs.Values.{exactOf, numbers};
 ghost use Rattle.tolerance.specs.Reading.{valuesOf, walkOf};
 ghost use Rattle.tolerance.specs.Inner.{Choosable, Walkable};
+use curve::rounding::divisor_bits;
 use pieces::Filled;
 use pieces::Walked;
 use pieces::fill::fill_starts;
@@ -20,12 +21,13 @@ pub(crate) fn count_all(controls: &[i32], plan: Plan, tolerance: usize, most: us
     requires { ⌜ Walkable plan tolerance (now controls) ⌝ }
     ensures { λ r. ⌜ r ≡ walkOf plan tolerance most (now (controls .entry)) ⌝ }
 {
+    let basis = plan.basis;
     let mut made = 0;
     let mut span = 0;
     while span < plan.spans {
         let x = span_controls(controls, plan, span, 0);
         let y = span_controls(controls, plan, span, 1);
-        let walked = count_cuts(0, x, y, tolerance, most, made);
+        let walked = count_cuts(basis, 0, x, y, tolerance, most, made);
         let Walked::Cuts(now) = walked else {
             return walked;
         };
@@ -41,16 +43,18 @@ pub(crate) fn fill_all(points: &mut [i32], controls: &[i32], plan: Plan, toleran
     requires { ⌜ length (valuesOf plan tolerance (now controls)) ≤ length (now points) ⌝ }
     ensures { λ r. ⌜ outcome r (now (points .exit)) ≡ outcome (exactOf (valuesOf plan tolerance (now (controls .entry)))) (sets (now (points .entry)) 0 (numbers (valuesOf plan tolerance (now (controls .entry))))) ⌝ }
 {
+    let basis = plan.basis;
     let mut filled = Filled { next: 0, exact: 0 };
     let mut span = 0;
     loop {
         let x = span_controls(controls, plan, span, 0);
         let y = span_controls(controls, plan, span, 1);
-        filled = fill_starts(points, filled, 0, x, y, tolerance);
+        filled = fill_starts(points, filled, basis, 0, x, y, tolerance);
         span += 1;
         // There is a span at least, and the last one's controls give its end.
         if plan.spans <= span {
-            return put_point(points, filled.next, 0, x.d, y.d, filled.exact);
+            let bits = divisor_bits(basis, 0);
+            return put_point(points, filled.next, bits, x.d, y.d, filled.exact);
         }
     }
 }

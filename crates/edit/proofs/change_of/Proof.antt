@@ -31,7 +31,7 @@ returns c =
     let a = p .before .args in
     let first = p .first-fresh .ensures in
     let past = c .before .before .before .past-fresh .ensures in
-    let n : ℕ → ℕ → ℕ → Change = λ count f k. record { shape = record { basis = a .shape .basis; depth = a .shape .depth; count = count }; first = f; fresh = k; exact = a .exact } in
+    let n : ℕ → ℕ → ℕ → Change = λ count f k. record { shape = record { basis = a .shape .basis; depth = a .shape .depth; count = count; parameter = a .shape .parameter }; first = f; fresh = k; exact = a .exact } in
     λ i. n (c .before .before .count-after .ensures i)
     ((c .before .named-first .ensures ∙ ap (λ (z : ℕ). cond (ltb z (c .before .before .before .past-fresh .result)) z 0) first ∙ ap (λ (z : ℕ). cond (ltb (firstFresh (a .edit) (a .plan) (a .place)) z) (firstFresh (a .edit) (a .plan) (a .place)) 0) past) i)
     ((c .less .ensures ∙ ap (λ (z : ℕ). z - p .first-fresh .result) past ∙ ap (λ (z : ℕ). pastFresh (a .edit) (a .plan) (a .place) - z) first) i)

@@ -15,11 +15,11 @@ use Rattle.tolerance.proofs.spanwise.count_all.Statement.{statement}
 use Rattle.tolerance.proofs.spanwise.count_all.Tie as tie
 
 abbrev Inv-loop : tie.InvT-loop
-Inv-loop controls plan tolerance most made₀ span₀ made span =
+Inv-loop controls plan tolerance most basis made₀ span₀ made span =
     (span ≤ plan .spans) × (walkAll most made (tab (treeOf plan tolerance controls) span (plan .spans - span)) ≡ walkOf plan tolerance most controls)
 
 abbrev μ-loop : tie.MeasureT-loop
-μ-loop controls plan tolerance most made₀ span₀ made span = plan .spans - span
+μ-loop controls plan tolerance most basis made₀ span₀ made span = plan .spans - span
 
 loop-holds : tie.Need-loop-holds Inv-loop μ-loop
 loop-holds c =
@@ -38,7 +38,7 @@ count-cuts-requires c κs =
     let l = c .before .before .before .before in
     let s = l .before in
     let a = s .args in
-    (walkable-same 0 (c .before .span-controls .ensures) (c .span-controls2 .ensures) (span-walkable (a .plan) (a .tolerance) (a .controls .now) (s .pre) (l .loop .span) (c .before .before .if1 .taken)), s .pre .near)
+    (walkable-same (a .plan .basis) 0 (c .before .span-controls .ensures) (c .span-controls2 .ensures) (span-walkable (a .plan) (a .tolerance) (a .controls .now) (s .pre) (l .loop .span) (c .before .before .if1 .taken)), s .pre .near)
 
 -- the turn whose span was walked
 abbrev turn : tie.After-count-cuts Inv-loop μ-loop → tie.At-loop Inv-loop μ-loop

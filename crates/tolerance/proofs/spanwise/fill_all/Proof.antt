@@ -13,7 +13,8 @@ use mir.Syntax.{w64}
 use Rattle.whole.specs.Outcome.{Outcome, outcome}
 use Rattle.whole.proofs.Fit.{kept, kept-is, sfits}
 use Rattle.curve.specs.declared.Four.{Four}
-use Rattle.curve.specs.Inner.{widest, farReach}
+use Rattle.curve.specs.Inner.{widest, farReach, divisorOf, mostBits}
+use Rattle.curve.proofs.Bits.{divisor-bits, bits-most}
 use Rattle.curve.specs.Span.{divisor}
 use Rattle.curve.specs.Tab.{tab}
 use Rattle.shape.specs.declared.Plan.{Plan}
@@ -21,7 +22,7 @@ use Rattle.spans.specs.Inner.{rounds}
 use Rattle.pieces.specs.declared.Filled.{Filled}
 use Rattle.pieces.specs.Tree.{Sound}
 use Rattle.pieces.specs.Values.{Value, starts, allStarts, end, numbers, exactOf}
-use Rattle.pieces.specs.Inner.{divisorAt, writes}
+use Rattle.pieces.specs.Inner.{writes}
 use Rattle.pieces.proofs.Trees.{walkable-same}
 use Rattle.pieces.proofs.Writes.{onward, writes-append, writes-both, writes-next, writes-most}
 use Rattle.tolerance.specs.Reading.{controlsOf, treeOf, valuesOf}
@@ -39,7 +40,7 @@ abbrev unfilled : Filled
 unfilled = record { next = 0; exact = 0 }
 
 abbrev Inv-loop : tie.InvT-loop
-Inv-loop points₀ controls plan tolerance filled₀ span₀ points filled span =
+Inv-loop points₀ controls plan tolerance basis filled₀ span₀ points filled span =
     (span < plan .spans)
     × (filled .exact ≤ filled .next)
     × (filled .next + length (rest plan tolerance controls span) ≤ length points)
@@ -47,7 +48,7 @@ Inv-loop points₀ controls plan tolerance filled₀ span₀ points filled span 
     × (writes (rest plan tolerance controls span) filled points ≡ writes (valuesOf plan tolerance controls) unfilled points₀)
 
 abbrev μ-loop : tie.MeasureT-loop
-μ-loop points₀ controls plan tolerance filled₀ span₀ points filled span = plan .spans - span
+μ-loop points₀ controls plan tolerance basis filled₀ span₀ points filled span = plan .spans - span
 
 loop-holds : tie.Need-loop-holds Inv-loop μ-loop
 loop-holds c =
@@ -65,7 +66,7 @@ span-controls-requires-2 c κs = ((c .before .loop .inv .0, lit< tt), c .before 
 
 -- so many numbers are left: this span's and those after it
 left : (c : tie.At-loop Inv-loop μ-loop) → length (rest (c .before .args .plan) (c .before .args .tolerance) (c .before .args .controls .now) (c .loop .span))
-    ≡ length (starts divisorAt (treeOf (c .before .args .plan) (c .before .args .tolerance) (c .before .args .controls .now) (c .loop .span)))
+    ≡ length (starts (divisor (c .before .args .plan .basis)) (treeOf (c .before .args .plan) (c .before .args .tolerance) (c .before .args .controls .now) (c .loop .span)))
     + length (rest (c .before .args .plan) (c .before .args .tolerance) (c .before .args .controls .now) (c .loop .span + 1))
 left c =
     let a = c .before .args in
@@ -83,8 +84,8 @@ fill-starts-requires c κs =
     let y = c .before .span-controls2 .ensures in
     let w = s .pre .0 .walkable in
     let same = same-span (a .plan) (a .tolerance) (a .controls .now) (t .loop .span) x y in (
-      (walkable-same 0 x y (span-walkable (a .plan) (a .tolerance) (a .controls .now) w (t .loop .span) (t .loop .inv .0)), subst Sound (sym same) (s .pre .0 .sound (t .loop .span) (t .loop .inv .0))),
-      (w .near, (t .loop .inv .1, omega (arith, ap (λ r. length (starts divisorAt r)) same, left t, t .loop .inv .2))),
+      (walkable-same (a .plan .basis) 0 x y (span-walkable (a .plan) (a .tolerance) (a .controls .now) w (t .loop .span) (t .loop .inv .0)), subst Sound (sym same) (s .pre .0 .sound (t .loop .span) (t .loop .inv .0))),
+      (w .near, (t .loop .inv .1, omega (arith, ap (λ r. length (starts (divisor (a .plan .basis)) r)) same, left t, t .loop .inv .2))),
     )
 
 -- the turn whose starts were written
@@ -92,12 +93,12 @@ abbrev turn : tie.After-fill-starts Inv-loop μ-loop → tie.At-loop Inv-loop μ
 turn c = c .before .before .before .before
 
 written : (c : tie.After-fill-starts Inv-loop μ-loop) → outcome (c .fill-starts .result) (c .fill-starts .last .0)
-    ≡ writes (starts divisorAt (treeOf (turn c .before .args .plan) (turn c .before .args .tolerance) (turn c .before .args .controls .now) (turn c .loop .span))) (turn c .loop .filled) (turn c .loop .points)
+    ≡ writes (starts (divisor (turn c .before .args .plan .basis)) (treeOf (turn c .before .args .plan) (turn c .before .args .tolerance) (turn c .before .args .controls .now) (turn c .loop .span))) (turn c .loop .filled) (turn c .loop .points)
 written c =
     let t = turn c in
     let a = t .before .args in
     c .fill-starts .ensures
-    ∙ ap (λ r. writes (starts divisorAt r) (t .loop .filled) (t .loop .points)) (same-span (a .plan) (a .tolerance) (a .controls .now) (t .loop .span) (c .before .before .before .span-controls .ensures) (c .before .before .span-controls2 .ensures))
+    ∙ ap (λ r. writes (starts (divisor (a .plan .basis)) r) (t .loop .filled) (t .loop .points)) (same-span (a .plan) (a .tolerance) (a .controls .now) (t .loop .span) (c .before .before .before .span-controls .ensures) (c .before .before .span-controls2 .ensures))
 
 -- what is still to be written after it
 still : (c : tie.After-fill-starts Inv-loop μ-loop)
@@ -127,7 +128,7 @@ add-span c = let t = turn (c .before) in omega (arith, t .loop .inv .0, t .befor
 
 -- the end of the last span is the last span's
 last-end : (c : tie.Then1 Inv-loop μ-loop) → rest (turn (c .before .before .before) .before .args .plan) (turn (c .before .before .before) .before .args .tolerance) (turn (c .before .before .before) .before .args .controls .now) (turn (c .before .before .before) .loop .span + 1)
-    ≡ end divisorAt (controlsOf (turn (c .before .before .before) .before .args .plan) (turn (c .before .before .before) .before .args .controls .now) (turn (c .before .before .before) .loop .span) 0)
+    ≡ end (divisor (turn (c .before .before .before) .before .args .plan .basis)) (controlsOf (turn (c .before .before .before) .before .args .plan) (turn (c .before .before .before) .before .args .controls .now) (turn (c .before .before .before) .loop .span) 0)
     (controlsOf (turn (c .before .before .before) .before .args .plan) (turn (c .before .before .before) .before .args .controls .now) (turn (c .before .before .before) .loop .span) 1)
 last-end c =
     let t = turn (c .before .before .before) in
@@ -149,7 +150,7 @@ module _ (c : tie.After-fill-starts Inv-loop μ-loop) where
   small : (axis : ℕ) → axis < 2 → natAbs (at axis) ≤ widest
   small axis h = let t = turn c in end-inside (t .before .args .plan) (t .before .args .tolerance) (t .before .args .controls .now) (t .before .pre .0 .walkable) (t .loop .span) (t .loop .inv .0) axis h
 
-  near : (axis : ℕ) → axis < 2 → natAbs (at axis) ≤ divisorAt 0 * farReach
+  near : (axis : ℕ) → axis < 2 → natAbs (at axis) ≤ divisor (turn c .before .args .plan .basis) 0 * farReach
   near axis h = let t = turn c in end-near (t .before .args .plan) (t .before .args .tolerance) (t .before .args .controls .now) (t .before .pre .0 .walkable) (t .loop .span) (t .loop .inv .0) axis h
 
   end-x : kept w64 (c .before .before .before .span-controls .result .d) ≡ at 0
@@ -158,30 +159,42 @@ module _ (c : tie.After-fill-starts Inv-loop μ-loop) where
   end-y : kept w64 (c .before .before .span-controls2 .result .d) ≡ at 1
   end-y = ap (λ (q : Four). kept w64 (q .d)) (c .before .before .span-controls2 .ensures) ∙ kept-end (at 1) (small 1 (lit< tt))
 
+divisor-bits-requires : tie.Need-divisor-bits-requires Inv-loop μ-loop
+divisor-bits-requires c κs = omega arith
+
+-- the divisor by its bits
+over : (c : tie.After-divisor-bits Inv-loop μ-loop) → divisorOf (c .divisor-bits .result) ≡ divisor (turn (c .before .before .before .before) .before .args .plan .basis) 0
+over c = ap divisorOf (c .divisor-bits .ensures) ∙ sym (divisor-bits (turn (c .before .before .before .before) .before .args .plan .basis) 0)
+
 put-point-requires : tie.Need-put-point-requires Inv-loop μ-loop
 put-point-requires c κs =
-    let f = c .before .before .before .before .before .before in
-    let n = divisorAt 0 * farReach in
-    let x = subst (λ z. natAbs z ≤ n) (sym (end-x f)) (near f 0 (lit< tt)) in
-    let y = subst (λ z. natAbs z ≤ n) (sym (end-y f)) (near f 1 (lit< tt)) in
-    (omega arith, ((search needs, search needs), (omega (arith, room f, ap length (last-end (c .before .before .before))), few f)))
+    let d = c .before .before .before in
+    let f = d .before .before .before .before in
+    let b = turn f .before .args .plan .basis in
+    let near-by : (z : ℤ) (axis : ℕ) → axis < 2 → z ≡ at f axis → natAbs z ≤ divisorOf (d .divisor-bits .result) * farReach =
+    λ z axis h e. subst (λ (n : ℕ). natAbs z ≤ n * farReach) (sym (over d)) (subst (λ w. natAbs w ≤ divisor b 0 * farReach) (sym e) (near f axis h)) in
+    let x = near-by _ 0 (lit< tt) (end-x f) in
+    let y = near-by _ 1 (lit< tt) (end-y f) in
+    let bits = subst (λ (n : ℕ). n ≤ mostBits) (sym (d .divisor-bits .ensures)) (bits-most b 0 (omega arith)) in
+    (bits, ((search needs, search needs), (omega (arith, room f, ap length (last-end (d .before))), few f)))
 
 same-length : tie.Need-same-length Inv-loop μ-loop
 same-length c =
-    let f = c .before .before .before .before .before .before .before .before in
+    let f = c .before .before .before .before .before .before .before .before .before in
     c .before .put-point .kept .0 ∙ f .fill-starts .kept .0 ∙ turn f .loop .inv .3
 
 returns : tie.Need-returns Inv-loop μ-loop
 unfolding writes
 returns c =
-    let f = c .before .before .before .before .before .before .before .before in
+    let d = c .before .before .before .before .before in
+    let f = d .before .before .before .before in
     let a = turn f .before .args in
     let x = end-x f in
     let y = end-y f in
-    let put = c .before .put-point .ensures ∙ (λ i. rounds (divisorAt 0) (x i ∷ y i ∷ []) (f .fill-starts .result .next) (f .fill-starts .result .exact) (f .fill-starts .last .0)) in
+    let put = c .before .put-point .ensures ∙ (λ i. rounds (over d i) (x i ∷ y i ∷ []) (f .fill-starts .result .next) (f .fill-starts .result .exact) (f .fill-starts .last .0)) in
     let whole =
-    writes-both (divisorAt 0) (at f 0) (at f 1) (f .fill-starts .result) (f .fill-starts .last .0) (outcome (c .before .put-point .result) (c .before .put-point .last .0)) put
-    ∙ ap (λ values. writes values (f .fill-starts .result) (f .fill-starts .last .0)) (sym (last-end (c .before .before .before .before .before)))
+    writes-both (divisor (a .plan .basis) 0) (at f 0) (at f 1) (f .fill-starts .result) (f .fill-starts .last .0) (outcome (c .before .put-point .result) (c .before .put-point .last .0)) put
+    ∙ ap (λ values. writes values (f .fill-starts .result) (f .fill-starts .last .0)) (sym (last-end (d .before)))
     ∙ still f in
     ap (λ (o : Outcome Filled (List ℤ)). outcome (o .answer .exact) (o .held)) whole
     ∙ ap (λ (n : ℕ). outcome n (sets (a .points .now) 0 (numbers (valuesOf (a .plan) (a .tolerance) (a .controls .now))))) (zero-add (exactOf (valuesOf (a .plan) (a .tolerance) (a .controls .now))))
@@ -195,4 +208,4 @@ loop-again c =
     (omega (arith, c .if1 .left), few f, room f, f .fill-starts .kept .0 ∙ turn f .loop .inv .3, still f)
 
 pub fill-all-spec : {M : Type 1} → statement M
-fill-all-spec = tie.close (tie.spec Inv-loop μ-loop loop-holds span-controls-requires span-controls-requires-2 fill-starts-requires add-span put-point-requires same-length returns loop-less loop-again)
+fill-all-spec = tie.close (tie.spec Inv-loop μ-loop loop-holds span-controls-requires span-controls-requires-2 fill-starts-requires add-span divisor-bits-requires put-point-requires same-length returns loop-less loop-again)
