@@ -11,7 +11,8 @@ use lib.IntN.{ℤ, pos, natAbs}
 use lib.ListN.{getD, length}
 use lib.Seq.{sets}
 use Rattle.whole.specs.Outcome.{outcome}
-use Rattle.curve.specs.Limits.{limit, reach}
+use Rattle.curve.specs.Published.{mostParameter}
+use Rattle.curve.specs.Limits.{limit, reach, parameterOf}
 use Rattle.curve.specs.Span.{coordinate}
 use Rattle.curve.specs.Ways.{deepest}
 use Rattle.curve.proofs.Tab.{tab-same}
@@ -19,9 +20,9 @@ use Rattle.shape.specs.declared.Shape.{Shape}
 use Rattle.shape.specs.declared.Plan.{Plan}
 use Rattle.shape.specs.declared.Refusal.{Refusal}
 use Rattle.shape.specs.Inner.{Good, Lent}
-use Rattle.shape.specs.Shape.{lastBasis, basisOf, recordsOf, spansOf}
+use Rattle.shape.specs.Shape.{lastBasis, basisIn, recordsOf, spansOf}
 use Rattle.shape.specs.Refusals.{First, NoRow, outside, firstOutside, shapeRows, listRows, planOf}
-use Rattle.shape.proofs.Refusals.{none-both, verdict}
+use Rattle.shape.proofs.Refusals.{none-both, verdict, offered-row}
 use Rattle.shape.proofs.Seek.{seek-none}
 use Rattle.shape.proofs.Spans.{spans-records, facts-allowed}
 use Rattle.spans.proofs.Filled.{length-filled, same-filled}
@@ -44,7 +45,7 @@ use Rattle.sequences.proofs.Played.{done-outlined, drawn-outlined}
 
 good-none : (s : Shape) (p : Plan) → Good s p → NoRow (shapeRows s)
 good-none s p good =
-    let b = basisOf (s .basis) in
+    let b = basisIn s in
     let n = s .count in
     let records : recordsOf b (p .spans) ≡ n = subst (λ x. recordsOf x (p .spans) ≡ n) (good .basis) (good .records) in
     let spans : spansOf b n ≡ p .spans = ap (spansOf b) (sym records) ∙ spans-records b (p .spans) in
@@ -52,7 +53,7 @@ good-none s p good =
       simp (le-leb 1 (s .basis) (good .basis-least), le-leb (s .basis) lastBasis (good .basis-most)),
       (
         le-ltb deepest (s .depth) (omega (arith, good .depth, good .depth-most)),
-        (ap not (facts-allowed b n (good .records-most) some (ap (recordsOf b) spans ∙ records)), tt),
+        (offered-row (s .basis) (s .parameter) (subst (λ x. parameterOf x ≤ mostParameter) (good .basis) (good .offered)), (ap not (facts-allowed b n (good .records-most) some (ap (recordsOf b) spans ∙ records)), tt)),
       ),
     )
 
@@ -136,10 +137,10 @@ drawn-redraws s controls lent fs held answered =
 pub drawn-played-redraws : (s : Shape) (controls lent : List ℤ) (fs : Figures) (held : List ℤ) (calls : List Call) → draws s controls lent ≡ outcome (outline.Done fs) held → Redraws (played (state s controls held) calls)
 drawn-played-redraws s controls lent fs held calls answered = played-redraws (state s controls held) calls (drawn-redraws s controls lent fs held answered)
 
--- and every number of the outline is then within 5,000,000 either way
+-- and every number of the outline is then within the reach of its basis
 pub drawn-played-within : (s : Shape) (controls lent : List ℤ) (fs : Figures) (held : List ℤ) (calls : List Call) → draws s controls lent ≡ outcome (outline.Done fs) held
     → (q : ℕ) → q < 2 * points (planOf (played (state s controls held) calls .shape))
-    → natAbs (getD (played (state s controls held) calls .held) q (pos 0)) ≤ reach
+    → natAbs (getD (played (state s controls held) calls .held) q (pos 0)) ≤ reach (planOf (played (state s controls held) calls .shape) .basis)
 drawn-played-within s controls lent fs held calls answered q h =
     let t = played (state s controls held) calls in
     drawn-within (t .shape) (t .controls) (t .held) (figuresOf (planOf (t .shape)) (t .controls)) (t .held) (drawn-played-redraws s controls lent fs held calls answered) q h

@@ -7,7 +7,7 @@ use mathlib.Core.Logic.{_⊎_, inl, inr, ⊎-elim}
 use Prim.Native.Nat.{ℕ, zero, suc, _+_, _*_, _≤_, _<_}
 use native.Mathlib.Nat.{le-trans}
 use native.Mathlib.Omega.{arith}
-use borrow.Author.Tests.{leb-true, ltb-false, not-false}
+use borrow.Author.Tests.{leb-true, ltb-false, not-false, le-ltb, ne-eqb}
 use lib.Dec.{leb, ltb, eqb, lit≤}
 use lib.IntN.{ℤ, natAbs}
 use lib.ListN.{length}
@@ -168,6 +168,16 @@ offered (suc (suc zero)) c e = lit≤ tt
 offered (suc (suc (suc zero))) zero e = lit≤ tt
 offered (suc (suc (suc zero))) (suc c) e = ltb-false mostParameter (suc c) e
 offered (suc (suc (suc (suc n)))) c e = lit≤ tt
+
+-- and the other way round
+pub offered-row : (n c : ℕ) → parameterOf (basisOf n c) ≤ mostParameter → (eqb n cardinal && ltb mostParameter c) ≡ false
+unfolding basisOf sixtyFourths
+offered-row zero c h = refl
+offered-row (suc zero) c h = refl
+offered-row (suc (suc zero)) c h = refl
+offered-row (suc (suc (suc zero))) zero h = refl
+offered-row (suc (suc (suc zero))) (suc c) h = le-ltb mostParameter (suc c) h
+offered-row (suc (suc (suc (suc n)))) c h = simp (ne-eqb (suc (suc (suc (suc n)))) cardinal (λ e. omega arith))
 
 pub good-plan : (s : Shape) → NoRow (shapeRows s) → Good s (planOf s)
 unfolding planOf
