@@ -27,7 +27,7 @@ lent = replicate 10 (negsuc 4)
 
 pub paper-read :
     reading paper lent
-    ≡ outcome (Read (record { basis = 1; depth = 1; count = 4 })) (pos 0 ∷ pos 0 ∷ pos 0 ∷ pos 8 ∷ pos 8 ∷ pos 8 ∷ pos 8 ∷ pos 0 ∷ negsuc 4 ∷ negsuc 4 ∷ [])
+    ≡ outcome (Read (record { basis = 1; depth = 1; count = 4; parameter = 0 })) (pos 0 ∷ pos 0 ∷ pos 0 ∷ pos 8 ∷ pos 8 ∷ pos 8 ∷ pos 8 ∷ pos 0 ∷ negsuc 4 ∷ negsuc 4 ∷ [])
 unfolding reading judge recordRows number word signed tab coordinate sixtyFourths basisOf spansOf recordsOf allowed outside seek
 paper-read = refl
 

@@ -1,5 +1,5 @@
--- The house record file (document 01, "Record file"): records of 12 bytes, no header: basis, depth, two zero bytes, x and y as 32-bit two's complement, low byte
--- first. A file is the list of its bytes. Definitions only.
+-- The house record file (document 01, "Record file"; document 02, request 7): records of 12 bytes, no header: basis, depth, parameter, a zero byte, x and y as 32-bit two's
+-- complement, low byte first. A file is the list of its bytes. Definitions only.
 use mathlib.Core.Bool.{cond}
 use mathlib.Core.List.{List, [], _∷_, _++_}
 use Prim.Native.Nat.{ℕ, suc, _+_, _*_, _-_, _/_, _%_, _^_}
@@ -45,8 +45,8 @@ fourBytes z =
     let n = unsigned z in
     (n % 256) ∷ (n / 256 % 256) ∷ (n / 65536 % 256) ∷ (n / 16777216 % 256) ∷ []
 
--- The file of a basis, a depth and records given as one list, x then y.
-unfoldable pub encoded : ℕ → ℕ → List ℤ → List ℕ
-encoded basis depth [] = []
-encoded basis depth (x ∷ []) = []
-encoded basis depth (x ∷ y ∷ rest) = (basis ∷ depth ∷ 0 ∷ 0 ∷ []) ++ (fourBytes x ++ (fourBytes y ++ encoded basis depth rest))
+-- The file of a basis, a depth, a parameter and records given as one list, x then y.
+unfoldable pub encoded : ℕ → ℕ → ℕ → List ℤ → List ℕ
+encoded basis depth parameter [] = []
+encoded basis depth parameter (x ∷ []) = []
+encoded basis depth parameter (x ∷ y ∷ rest) = (basis ∷ depth ∷ parameter ∷ 0 ∷ []) ++ (fourBytes x ++ (fourBytes y ++ encoded basis depth parameter rest))

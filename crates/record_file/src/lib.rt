@@ -7,7 +7,7 @@ ghost use Rattle.whole.specs.Outcome.{outcome, refuses};
 ghost use Rattle.shape.specs.Refusals.{judge};
 ghost use Rattle.shape.specs.Shape.{mostRecords};
 ghost use Rattle.record_file.specs.Format.{recordBytes, word, signed, numbers};
-ghost use Rattle.record_file.specs.Rows.{reading, fault, recordRows, laterRows, listRows, accepts};
+ghost use Rattle.record_file.specs.Rows.{reading, zerosRow, alikeRow, fault, recordRows, laterRows, listRows, accepts};
 use shape::Checked;
 use shape::Judged;
 use shape::MOST_RECORDS;
@@ -33,10 +33,13 @@ pub const MOST_CONTROLS: usize = 2 * MOST_RECORDS;
 // A record's x stands from byte 4 on, and its y four bytes further.
 const COORDINATES: usize = 4;
 
-// Document 01's numbers for what is wrong with a record: bytes 2 and 3 not both zero; basis or depth unlike record 0.
+// The numbers for what is wrong with a record: byte 3 not zero, or byte 2 where its own basis has no parameter; basis, depth or parameter unlike record 0.
 const NOT_ZERO: usize = 14;
 
 const UNLIKE: usize = 15;
+
+// The basis that has a parameter, as a byte.
+const CARDINAL: u8 = 3;
 
 // Words of 32 bits: half of them, from 2^31 on, stand for numbers below zero.
 const HALF: u32 = 2147483648;
@@ -78,22 +81,45 @@ fn write_numbers(file: &[u8], count: usize, list: &mut [i32])
     }
 }
 
-// The number of what is wrong with record i, its two zero bytes first, or 0.
+// Whether byte 3 of record i is not zero, or byte 2 where the record's own basis has no parameter.
+fn has_spare_byte(file: &[u8], i: usize) -> bool
+    requires { ⌜ recordBytes * i + recordBytes ≤ length (now file) ⌝ }
+    ensures { λ r. ⌜ r ≡ zerosRow (now (file .entry)) i .holds ⌝ }
+{
+    let at = RECORD * i;
+    if file[at + 3] != 0 {
+        return true;
+    }
+    if file[at + 2] == 0 {
+        return false;
+    }
+    file[at] != CARDINAL
+}
+
+// Whether the basis, the depth or the parameter of record i is unlike record 0.
+fn is_unlike(file: &[u8], i: usize) -> bool
+    requires { ⌜ recordBytes * i + recordBytes ≤ length (now file) ⌝ }
+    ensures { λ r. ⌜ r ≡ alikeRow (now (file .entry)) i .holds ⌝ }
+{
+    let at = RECORD * i;
+    if file[at] != file[0] {
+        return true;
+    }
+    if file[at + 1] != file[1] {
+        return true;
+    }
+    file[at + 2] != file[2]
+}
+
+// The number of what is wrong with record i, or 0.
 fn fault_of(file: &[u8], i: usize) -> usize
     requires { ⌜ recordBytes * i + recordBytes ≤ length (now file) ⌝ }
     ensures { λ r. ⌜ r ≡ fault (now (file .entry)) i ⌝ }
 {
-    let at = RECORD * i;
-    if file[at + 2] != 0 {
+    if has_spare_byte(file, i) {
         return NOT_ZERO;
     }
-    if file[at + 3] != 0 {
-        return NOT_ZERO;
-    }
-    if file[at] != file[0] {
-        return UNLIKE;
-    }
-    if file[at + 1] != file[1] {
+    if is_unlike(file, i) {
         return UNLIKE;
     }
     0
@@ -140,7 +166,7 @@ fn read_numbers(file: &[u8], shape: Shape, controls: &mut [i32]) -> Reading
     Reading::Read(shape)
 }
 
-// Rows 1, 2, 3 for the shape of the first record, and on.
+// Rows 1, 2, 24, 3 for the shape of the first record, and on.
 fn read_records(file: &[u8], count: usize, controls: &mut [i32]) -> Reading
     requires { ⌜ (1 ≤ count) × (count ≤ mostRecords) × (recordBytes * count ≤ length (now file)) ⌝ }
     ensures { λ r. ⌜ outcome r (now (controls .exit)) ≡ judge (laterRows (now (file .entry)) count (now (controls .entry))) (refuses Reading.Refused (now (controls .entry))) (accepts (now (file .entry)) count (now (controls .entry))) ⌝ }
@@ -149,6 +175,7 @@ fn read_records(file: &[u8], count: usize, controls: &mut [i32]) -> Reading
         basis: file[0] as usize,
         depth: file[1] as usize,
         count,
+        parameter: file[2] as usize,
     };
     match check_shape(shape) {
         Judged::Unsound(refusal) => Reading::Refused(refusal),
@@ -156,7 +183,7 @@ fn read_records(file: &[u8], count: usize, controls: &mut [i32]) -> Reading
     }
 }
 
-// Reads a record file: the checks of document 01 in its order, 3 for the length, 13, then record by record 14 and 15, then 1, 2, 3, 7, 8. An accepted file writes two
+// Reads a record file: the checks of document 01 in its order, 3 for the length, 13, then record by record 14 and 15, then 1, 2, 24, 3, 7, 8. An accepted file writes two
 // numbers for each record from the start of the controls on, x then y, keeps all past them, and answers the shape. A refusal answers its number and place and writes nothing.
 pub fn read(file: &[u8], controls: &mut [i32]) -> Reading
     ensures { λ r. ⌜ outcome r (now (controls .exit)) ≡ reading (now (file .entry)) (now (controls .entry)) ⌝ }

@@ -21,6 +21,12 @@ shared-slice-read-t10 c = search needs
 cast-t11 : tie.Need-cast-t11
 cast-t11 c = omega (arith, c .shared-slice-known3 .given 1)
 
+shared-slice-read-t13 : tie.Need-shared-slice-read-t13
+shared-slice-read-t13 c = search needs
+
+cast-t14 : tie.Need-cast-t14
+cast-t14 c = omega (arith, c .shared-slice-known4 .given 2)
+
 check-shape-requires : tie.Need-check-shape-requires
 check-shape-requires c κs = search needs
 
@@ -35,7 +41,7 @@ read-numbers-requires c κs = search needs
 
 returns : tie.Need-returns
 returns c =
-    let a = c .before .before .before .before .before .before .before .args in
+    let a = c .before .before .before .before .before .before .before .before .args in
     let m = c .before .refusal .given in
     sym
     (unsound (shapeOf (a .file .now) (a .count)) (m .0 .0) (sym (c .before .before .before .check-shape .ensures) ∙ m .1)
@@ -46,7 +52,7 @@ same-length c = search needs
 
 returns-2 : tie.Need-returns-2
 returns-2 c =
-    let a = c .before .before .before .before .before .before .before .before .before .args in
+    let a = c .before .before .before .before .before .before .before .before .before .before .args in
     let m = c .before .before .before .enum-told .given in
     c .before .read-numbers .ensures
     ∙ sym
@@ -61,6 +67,8 @@ read-records-spec =
     cast-t8
     shared-slice-read-t10
     cast-t11
+    shared-slice-read-t13
+    cast-t14
     check-shape-requires
     enum-known-refusal
     enum-told
