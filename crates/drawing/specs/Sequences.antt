@@ -53,6 +53,6 @@ pub record Sound (h : Held) : Type 0 where
   pub inside : (r : ℕ) → r < h .state .count → Inside (recordAt (h .controls) r)
   pub ring : h .state .closed ≡ true → (0 < h .state .count) × (h .state .current ≡ h .state .start)
 
--- The shape of a drawing of n records at depth k: basis 1.
-abbrev pub bezier : ℕ → ℕ → Shape
-bezier k n = record { basis = 1; depth = k; count = n }
+-- The shape of a drawing of n records at depth k, with any parameter c: basis 1.
+abbrev pub bezier : ℕ → ℕ → ℕ → Shape
+bezier k n c = record { basis = 1; depth = k; count = n; parameter = c }

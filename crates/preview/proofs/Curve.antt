@@ -25,7 +25,7 @@ use Rattle.curve.specs.Limits.{Inside, limit}
 use Rattle.curve.specs.Tab.{tab}
 use Rattle.curve.specs.Four.{dot}
 use Rattle.curve.specs.Published.{weights}
-use Rattle.curve.specs.Span.{sixfold, divisor, weighted, wholeControls, point}
+use Rattle.curve.specs.Span.{divisor, weighted, wholeControls, point}
 use Rattle.curve.specs.Ways.{deepest}
 use Rattle.curve.proofs.Reflect as R
 use Rattle.curve.proofs.Reflect.{p, i, h, num, weightedᵉ, wholeᵉ}
@@ -129,11 +129,11 @@ drawn-exact s controls points n l e q below =
 
 -- ---- the outline's point is the same value, rounded
 
-sixfold-sum : (q : Four) (x y : ℤ) → weighted (wholeControls Bezier q) x y ≡ pos sixfold *ℤ weighted q x y
+sixfold-sum : (q : Four) (x y : ℤ) → weighted (wholeControls Bezier q) x y ≡ pos 6 *ℤ weighted q x y
 unfolding weighted weights dot wholeControls
 sixfold-sum q x y = solve (R.values q x y) (weightedᵉ (wholeᵉ Bezier p) i h) (num 6 ⊗ weightedᵉ p i h) tt
 
 pub point-rounds : (k : ℕ) (q : Four) (j : ℕ) → point Bezier k q j ≡ nearest (weighted q (pos j) (pos (2 ^ k))) (2 ^ (3 * k))
 unfolding point
 point-rounds k q j =
-    ap (λ z. nearest z (divisor Bezier k)) (sixfold-sum q (pos j) (pos (2 ^ k))) ∙ nearest-scale sixfold (weighted q (pos j) (pos (2 ^ k))) (2 ^ (3 * k)) (lit< tt) (pow-pos (3 * k))
+    ap (λ z. nearest z (divisor Bezier k)) (sixfold-sum q (pos j) (pos (2 ^ k))) ∙ nearest-scale 6 (weighted q (pos j) (pos (2 ^ k))) (2 ^ (3 * k)) (lit< tt) (pow-pos (3 * k))

@@ -24,11 +24,22 @@ abbrev zero : Float
 zero = fin false 0 (pos 0)
 
 pub halves-drawn :
-    previewing (record { basis = 1; depth = 1; count = 4 }) controls (replicate 7 nan)
+    previewing (record { basis = 1; depth = 1; count = 4; parameter = 0 }) controls (replicate 7 nan)
     ≡ outcome (Drawn 3) (zero ∷ zero ∷ fin false 1 (negsuc 0) ∷ fin true 1 (negsuc 1) ∷ fin false 1 (pos 2) ∷ fin true 1 (pos 1) ∷ nan ∷ [])
 unfolding previewing judge value sum weighted weights dot tab coordinate firstRecord recordsFrom sixtyFourths basisOf spansOf recordsOf allowed pointsOf planOf outside seek dyadic round
 halves-drawn = refl
 
-pub other-basis : previewing (record { basis = 2; depth = 1; count = 4 }) controls (replicate 6 nan) ≡ refuses Refused (replicate 6 nan) (record { number = 4; place = 0 })
+pub other-basis : previewing (record { basis = 2; depth = 1; count = 4; parameter = 0 }) controls (replicate 6 nan) ≡ refuses Refused (replicate 6 nan) (record { number = 4; place = 0 })
 unfolding previewing judge sixtyFourths basisOf spansOf recordsOf allowed planOf
 other-basis = refl
+
+-- document 02, request 7: 24 comes before 4, and only for basis 3
+pub parameter-first :
+    previewing (record { basis = 3; depth = 1; count = 4; parameter = 65 }) controls (replicate 6 nan) ≡ refuses Refused (replicate 6 nan) (record { number = 24; place = 0 })
+unfolding previewing judge sixtyFourths basisOf spansOf recordsOf allowed planOf
+parameter-first = refl
+
+pub parameter-fine :
+    previewing (record { basis = 3; depth = 1; count = 4; parameter = 64 }) controls (replicate 6 nan) ≡ refuses Refused (replicate 6 nan) (record { number = 4; place = 0 })
+unfolding previewing judge sixtyFourths basisOf spansOf recordsOf allowed planOf
+parameter-fine = refl
