@@ -21,7 +21,7 @@ abbrev held : List ℤ
 held = pos 0 ∷ pos 0 ∷ pos 6 ∷ pos 0 ∷ pos 12 ∷ pos 0 ∷ pos 18 ∷ pos 0 ∷ pos 24 ∷ pos 0 ∷ []
 
 abbrev shape : Shape
-shape = record { basis = 2; depth = 0; count = 5 }
+shape = record { basis = 2; depth = 0; count = 5; parameter = 0 }
 
 -- "2 0 2 3"; "0 6 0"; "1 12 0" and "2 18 0"; and nothing more
 pub two-spans :

@@ -13,6 +13,7 @@ use lib.IntN.{ℤ}
 use lib.ListN.{length, take, length-take}
 use Rattle.curve.specs.Tab.{tab}
 use Rattle.curve.specs.Ways.{deepest}
+use Rattle.curve.proofs.Bits.{reach-most}
 use Rattle.curve.proofs.Tab.{length-tab}
 use Rattle.shape.specs.declared.Shape.{Shape}
 use Rattle.shape.specs.declared.Plan.{Plan}
@@ -127,7 +128,7 @@ module _ (file : List ℕ) (none : NoRow (fileRows file controls)) where
       let own = own-most q t in
       subst (λ l. length l ≤ mostPart) (sym (part-is sh (shape file none) c (outline.points q) (length (points deepest)) (lent file none) t n there refl))
       (span-length (t * 2 ^ q .depth) (tab f from n) (omega (arith, length-tab f from n)) (omega (arith, length-tab f from n, steps-few q (ok .depth-most)))
-      (small-tab f from n (λ i _ h. omega (arith, number-within sh q ok c (outline.points q) (length (points deepest)) (lent file none) i (omega arith)))))
+      (small-tab f from n (λ i _ h. omega (arith, reach-most (q .basis), number-within sh q ok c (outline.points q) (length (points deepest)) (lent file none) i (omega arith)))))
 
   parts-fit : (i : ℕ) → length (outlinePart sh q c i) ≤ mostPart
   parts-fit zero = heading-fits

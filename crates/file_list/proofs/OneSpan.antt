@@ -18,7 +18,7 @@ use Rattle.curve.proofs.Tab.{length-tab, getD-tab}
 use Rattle.shape.specs.declared.Shape.{Shape}
 use Rattle.shape.specs.declared.Plan.{Plan}
 use Rattle.shape.specs.Inner.{Good, Lent}
-use Rattle.shape.specs.Shape.{leastRecords, basisOf, spansOf, recordsOf, allowed, pointsOf}
+use Rattle.shape.specs.Shape.{leastRecords, basisIn, spansOf, recordsOf, allowed, pointsOf}
 use Rattle.shape.specs.Refusals.{NoRow, shapeRows, listRows, outside, planOf}
 use Rattle.shape.proofs.Refusals.{none-both, good-plan, good-records}
 use Rattle.shape.proofs.Seek.{seek-none}
@@ -37,19 +37,19 @@ one-allowed : (b : Basis) → allowed b leastRecords ≡ true
 unfolding allowed spansOf recordsOf
 one-allowed Bezier = refl
 one-allowed BSpline = refl
-one-allowed Cardinal = refl
+one-allowed (Cardinal c) = refl
 one-allowed Hermite = refl
 
 one-span : (b : Basis) → spansOf b leastRecords ≡ 1
 unfolding spansOf
 one-span Bezier = refl
 one-span BSpline = refl
-one-span Cardinal = refl
+one-span (Cardinal c) = refl
 one-span Hermite = refl
 
 pub plan-alone : (s : Shape) → planOf (oneSpan s) ≡ alone (planOf s)
 unfolding planOf
-plan-alone s = ap (λ (m : ℕ). record { basis = basisOf (s .basis); depth = s .depth; spans = m }) (one-span (basisOf (s .basis)))
+plan-alone s = ap (λ (m : ℕ). record { basis = basisIn s; depth = s .depth; spans = m }) (one-span (basisIn s))
 
 module _ (s : Shape) (sound : NoRow (shapeRows s)) (c : List ℤ) (m len : ℕ) (lent : Lent (s .count) c m len) (t : ℕ) (there : t < planOf s .spans) where
   abbrev p : Plan
@@ -75,7 +75,7 @@ module _ (s : Shape) (sound : NoRow (shapeRows s)) (c : List ℤ) (m len : ℕ) 
       rw (near 0 (coordinate c 0 (first + j)) refl (lent .x (first + j) (omega (arith, last))), near 1 (coordinate c 1 (first + j)) refl (lent .y (first + j) (omega (arith, last))))
 
   shape-rows : NoRow (shapeRows (oneSpan s))
-  shape-rows = (sound .0, (sound .1 .0, (ap not (one-allowed (basisOf (s .basis))), tt)))
+  shape-rows = (sound .0, (sound .1 .0, (sound .1 .1 .0, (ap not (one-allowed (basisIn s)), tt))))
 
   all-points : outline.points (planOf (oneSpan s)) ≡ 2 ^ p .depth + 1
   unfolding pointsOf

@@ -7,7 +7,9 @@ use native.Mathlib.Omega.{arith}
 use lib.IntN.{ℤ, natAbs}
 use lib.ListN.{take}
 use Rattle.whole.specs.Outcome.{outcome}
+use Rattle.curve.specs.Span.{divisor}
 use Rattle.curve.specs.Tab.{tab}
+use Rattle.curve.proofs.Bits.{reach-most}
 use Rattle.shape.specs.declared.Shape.{Shape}
 use Rattle.shape.specs.declared.Plan.{Plan}
 use Rattle.shape.specs.Inner.{Good, Lent}
@@ -20,7 +22,6 @@ use Rattle.outline.specs.Outline as outline
 use Rattle.outline.proofs.Within.{number-within}
 use Rattle.pieces.specs.Tree.{finest}
 use Rattle.pieces.specs.Steps.{Rises}
-use Rattle.pieces.specs.Inner.{divisorAt}
 use Rattle.pieces.proofs.Even.{sumsAt}
 use Rattle.tolerance.specs.declared.Steps.{Steps}
 use Rattle.tolerance.specs.declared.Chosen.the-variants.{Done}
@@ -53,9 +54,9 @@ module _ (s : Shape) (controls : List ℤ) (sound : NoRow (shapeRows s)) (k len 
   good = good-plan (finestShape s) (sound .0, (refl, sound .1 .1))
 
   near : (q : ℕ) → q < 2 * outline.points (finestPlan p) → natAbs (number (finestPlan p) controls q) < 10 ^ 7
-  near q h = omega (arith, number-within (finestShape s) (finestPlan p) good controls k len lent q h)
+  near q h = omega (arith, reach-most (p .basis), number-within (finestShape s) (finestPlan p) good controls k len lent q h)
 
-  small-steps : (from to : ℕ) (steps : List ℕ) → Rises from steps to → to ≤ outline.points (finestPlan p) → Small (wholes (divisorAt finest) (sumsAt (onX p controls) (onY p controls) steps))
+  small-steps : (from to : ℕ) (steps : List ℕ) → Rises from steps to → to ≤ outline.points (finestPlan p) → Small (wholes (divisor (p .basis) finest) (sumsAt (onX p controls) (onY p controls) steps))
   unfolding sumsAt number
   small-steps from to [] rise h = tt
   small-steps from to (g ∷ steps) rise h =

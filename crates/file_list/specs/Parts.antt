@@ -23,9 +23,9 @@ use Rattle.record_file.specs.declared.Reading.the-variants as read
 use Rattle.listing.specs.Listing.{headingText, pointLines}
 use Rattle.file_list.specs.Files.{mostLine, refusedText}
 
--- One span by itself: a shape of the same basis and depth with a span's four records, and room for its points at the deepest.
+-- One span by itself: a shape of the same basis, depth and parameter with a span's four records, and room for its points at the deepest.
 abbrev pub oneSpan : Shape → Shape
-oneSpan s = record { basis = s .basis; depth = s .depth; count = leastRecords }
+oneSpan s = record { basis = s .basis; depth = s .depth; count = leastRecords; parameter = s .parameter }
 
 abbrev pub spanPoints : ℕ
 spanPoints = 2 ^ deepest + 1

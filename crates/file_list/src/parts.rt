@@ -128,6 +128,7 @@ fn put_lines(shape: Shape, plan: Plan, span: usize, records: &[i32], text: &mut 
         basis: shape.basis,
         depth: shape.depth,
         count: LEAST_RECORDS,
+        parameter: shape.parameter,
     };
     let Drawn::Done(_) = by_differences(one, records, &mut points) else {
         return Put::End(0);
