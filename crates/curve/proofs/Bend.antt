@@ -7,18 +7,18 @@ use Rattle.curve.specs.declared.Basis.{Basis}
 use Rattle.curve.specs.declared.Basis.the-variants.{Bezier, BSpline, Cardinal, Hermite}
 use Rattle.curve.specs.Bend.{firstBend, lastBend, firstInRecords, lastInRecords}
 use Rattle.curve.specs.Span.{wholeControls}
-use Rattle.curve.proofs.Reflect.{p, num, taut, valuesOf, wholeᵉ, firstBendᵉ, lastBendᵉ}
+use Rattle.curve.proofs.Reflect.{p, num, taut, valuesWith, wholeᵉ, firstBendᵉ, lastBendᵉ}
 
 pub first-in-records : (b : Basis) (q : Four) → firstBend (wholeControls b q) ≡ firstInRecords b q
 unfolding wholeControls
-first-in-records Bezier q = solve (valuesOf Bezier q (pos 0) (pos 0)) (firstBendᵉ (wholeᵉ Bezier p)) (num 6 ⊗ (p .a ⊖ num 2 ⊗ p .b ⊕ p .c)) tt
-first-in-records BSpline q = solve (valuesOf BSpline q (pos 0) (pos 0)) (firstBendᵉ (wholeᵉ BSpline p)) (p .a ⊖ num 2 ⊗ p .b ⊕ p .c) tt
-first-in-records (Cardinal n) q = solve (valuesOf (Cardinal n) q (pos 0) (pos 0)) (firstBendᵉ (wholeᵉ (Cardinal n) p)) (num 192 ⊗ (p .c ⊖ p .b) ⊖ num 2 ⊗ taut ⊗ (p .c ⊖ p .a) ⊖ taut ⊗ (p .d ⊖ p .b)) tt
-first-in-records Hermite q = solve (valuesOf Hermite q (pos 0) (pos 0)) (firstBendᵉ (wholeᵉ Hermite p)) (num 6 ⊗ (p .c ⊖ p .a) ⊖ num 4 ⊗ p .b ⊖ num 2 ⊗ p .d) tt
+first-in-records Bezier q = solve (valuesWith Bezier q (pos 0) (pos 0)) (firstBendᵉ (wholeᵉ Bezier p)) (num 6 ⊗ (p .a ⊖ num 2 ⊗ p .b ⊕ p .c)) tt
+first-in-records BSpline q = solve (valuesWith BSpline q (pos 0) (pos 0)) (firstBendᵉ (wholeᵉ BSpline p)) (p .a ⊖ num 2 ⊗ p .b ⊕ p .c) tt
+first-in-records (Cardinal n) q = solve (valuesWith (Cardinal n) q (pos 0) (pos 0)) (firstBendᵉ (wholeᵉ (Cardinal n) p)) (num 192 ⊗ (p .c ⊖ p .b) ⊖ num 2 ⊗ taut ⊗ (p .c ⊖ p .a) ⊖ taut ⊗ (p .d ⊖ p .b)) tt
+first-in-records Hermite q = solve (valuesWith Hermite q (pos 0) (pos 0)) (firstBendᵉ (wholeᵉ Hermite p)) (num 6 ⊗ (p .c ⊖ p .a) ⊖ num 4 ⊗ p .b ⊖ num 2 ⊗ p .d) tt
 
 pub last-in-records : (b : Basis) (q : Four) → lastBend (wholeControls b q) ≡ lastInRecords b q
 unfolding wholeControls
-last-in-records Bezier q = solve (valuesOf Bezier q (pos 0) (pos 0)) (lastBendᵉ (wholeᵉ Bezier p)) (num 6 ⊗ (p .b ⊖ num 2 ⊗ p .c ⊕ p .d)) tt
-last-in-records BSpline q = solve (valuesOf BSpline q (pos 0) (pos 0)) (lastBendᵉ (wholeᵉ BSpline p)) (p .b ⊖ num 2 ⊗ p .c ⊕ p .d) tt
-last-in-records (Cardinal n) q = solve (valuesOf (Cardinal n) q (pos 0) (pos 0)) (lastBendᵉ (wholeᵉ (Cardinal n) p)) (num 192 ⊗ (p .b ⊖ p .c) ⊕ taut ⊗ (p .c ⊖ p .a) ⊕ num 2 ⊗ taut ⊗ (p .d ⊖ p .b)) tt
-last-in-records Hermite q = solve (valuesOf Hermite q (pos 0) (pos 0)) (lastBendᵉ (wholeᵉ Hermite p)) (num 6 ⊗ (p .a ⊖ p .c) ⊕ num 2 ⊗ p .b ⊕ num 4 ⊗ p .d) tt
+last-in-records Bezier q = solve (valuesWith Bezier q (pos 0) (pos 0)) (lastBendᵉ (wholeᵉ Bezier p)) (num 6 ⊗ (p .b ⊖ num 2 ⊗ p .c ⊕ p .d)) tt
+last-in-records BSpline q = solve (valuesWith BSpline q (pos 0) (pos 0)) (lastBendᵉ (wholeᵉ BSpline p)) (p .b ⊖ num 2 ⊗ p .c ⊕ p .d) tt
+last-in-records (Cardinal n) q = solve (valuesWith (Cardinal n) q (pos 0) (pos 0)) (lastBendᵉ (wholeᵉ (Cardinal n) p)) (num 192 ⊗ (p .b ⊖ p .c) ⊕ taut ⊗ (p .c ⊖ p .a) ⊕ num 2 ⊗ taut ⊗ (p .d ⊖ p .b)) tt
+last-in-records Hermite q = solve (valuesWith Hermite q (pos 0) (pos 0)) (lastBendᵉ (wholeᵉ Hermite p)) (num 6 ⊗ (p .a ⊖ p .c) ⊕ num 2 ⊗ p .b ⊕ num 4 ⊗ p .d) tt

@@ -24,7 +24,7 @@ use Rattle.curve.specs.Limits.{limit, reach, parameterOf, Inside, AtMost
 use Rattle.curve.specs.Inner.{widest}
 use Rattle.curve.proofs.Powers.{cube, thrice}
 use Rattle.curve.proofs.Span.{divisor-pos}
-use Rattle.curve.proofs.Reflect.{Fourᵉ, fourᵉ, num, p, taut, valuesOf, weightedᵉ, wholeᵉ}
+use Rattle.curve.proofs.Reflect.{Fourᵉ, fourᵉ, num, p, taut, valuesWith, weightedᵉ, wholeᵉ}
 
 -- ---- boxes
 
@@ -136,12 +136,12 @@ wide Hermite q =
     ⊕ (num 6 ⊗ (i ⊗ i ⊗ i) ⊕ num 18 ⊗ (i ⊗ i ⊗ j)) ⊗ q .c
     ⊖ num 6 ⊗ (i ⊗ i ⊗ j) ⊗ q .d
 
-wide-is : (b : Basis) (q : Four) (i j : ℕ) → weighted (wholeControls b q) (pos i) (pos (i + j)) ≡ ev (valuesOf b q (pos i) (pos j)) (wide b p)
+wide-is : (b : Basis) (q : Four) (i j : ℕ) → weighted (wholeControls b q) (pos i) (pos (i + j)) ≡ ev (valuesWith b q (pos i) (pos j)) (wide b p)
 unfolding weighted weights dot wholeControls wide
-wide-is Bezier q i j = solve (valuesOf Bezier q (pos i) (pos j)) (weightedᵉ (wholeᵉ Bezier p) (var 4) (var 4 ⊕ var 5)) (wide Bezier p) tt
-wide-is BSpline q i j = solve (valuesOf BSpline q (pos i) (pos j)) (weightedᵉ (wholeᵉ BSpline p) (var 4) (var 4 ⊕ var 5)) (wide BSpline p) tt
-wide-is (Cardinal c) q i j = solve (valuesOf (Cardinal c) q (pos i) (pos j)) (weightedᵉ (wholeᵉ (Cardinal c) p) (var 4) (var 4 ⊕ var 5)) (wide (Cardinal c) p) tt
-wide-is Hermite q i j = solve (valuesOf Hermite q (pos i) (pos j)) (weightedᵉ (wholeᵉ Hermite p) (var 4) (var 4 ⊕ var 5)) (wide Hermite p) tt
+wide-is Bezier q i j = solve (valuesWith Bezier q (pos i) (pos j)) (weightedᵉ (wholeᵉ Bezier p) (var 4) (var 4 ⊕ var 5)) (wide Bezier p) tt
+wide-is BSpline q i j = solve (valuesWith BSpline q (pos i) (pos j)) (weightedᵉ (wholeᵉ BSpline p) (var 4) (var 4 ⊕ var 5)) (wide BSpline p) tt
+wide-is (Cardinal c) q i j = solve (valuesWith (Cardinal c) q (pos i) (pos j)) (weightedᵉ (wholeᵉ (Cardinal c) p) (var 4) (var 4 ⊕ var 5)) (wide (Cardinal c) p) tt
+wide-is Hermite q i j = solve (valuesWith Hermite q (pos i) (pos j)) (weightedᵉ (wholeᵉ Hermite p) (var 4) (var 4 ⊕ var 5)) (wide Hermite p) tt
 
 -- how many times ijh the sizes of a basis' weights are more than `fold` times h^3, at most: of a cardinal one six times the parameter
 further : Basis → ℕ
@@ -229,11 +229,11 @@ unfolding bounds cube
 sum-size b k i q within offered inside =
     let j = 2 ^ k - i in
     let e : i + j ≡ 2 ^ k = omega arith in
-    let ok : Bounded (valuesOf b q (pos i) (pos j)) (bounds limit i j) = (inside .a, (inside .b, (inside .c, (inside .d, (le-refl i, (le-refl j, (offered, tt))))))) in
+    let ok : Bounded (valuesWith b q (pos i) (pos j)) (bounds limit i j) = (inside .a, (inside .b, (inside .c, (inside .d, (le-refl i, (le-refl j, (offered, tt))))))) in
     let all-steps : (limit * fold b + 1000000 * further b) * ((i + j) * (i + j) * (i + j)) ≡ divisor b k * reach b =
     (λ t. reached b t * (ap cube e ∙ sym (thrice k)) t) ∙ mul-right-comm (fold b) (reach b) (2 ^ (3 * k)) in
     subst (λ z. natAbs z ≤ divisor b k * reach b) (sym (ap (λ (n : ℕ). weighted (wholeControls b q) (pos i) (pos n)) (sym e) ∙ wide-is b q i j))
-    (le-trans (ev-size (valuesOf b q (pos i) (pos j)) (bounds limit i j) ok (wide b p))
+    (le-trans (ev-size (valuesWith b q (pos i) (pos j)) (bounds limit i j) ok (wide b p))
     (le-trans (weights-size b limit i j) (subst (λ (n : ℕ). whole-size (fold b) (further b) limit i j ≤ n) all-steps (fair (fold b) (further b) i j))))
 
 -- No point of any basis is beyond its reach either way.
@@ -252,7 +252,7 @@ small e = T (leb (size limits e) widest)
 
 module _ (b : Basis) (q : Four) (offered : parameterOf b ≤ mostParameter) (inside : Inside limit q) where
   r : List ℤ
-  r = valuesOf b q (pos 0) (pos 0)
+  r = valuesWith b q (pos 0) (pos 0)
 
   sized : (e : Fourᵉ) → small (e .a) → small (e .b) → small (e .c) → small (e .d) → Inside widest (four (ev r (e .a)) (ev r (e .b)) (ev r (e .c)) (ev r (e .d)))
   unfolding r

@@ -39,8 +39,8 @@ taut = var 6
 abbrev pub values : Four → ℤ → ℤ → List ℤ
 values q x y = q .a ∷ q .b ∷ q .c ∷ q .d ∷ x ∷ y ∷ []
 
-abbrev pub valuesOf : Basis → Four → ℤ → ℤ → List ℤ
-valuesOf b q x y = q .a ∷ q .b ∷ q .c ∷ q .d ∷ x ∷ y ∷ pos (parameterOf b) ∷ []
+abbrev pub valuesWith : Basis → Four → ℤ → ℤ → List ℤ
+valuesWith b q x y = q .a ∷ q .b ∷ q .c ∷ q .d ∷ x ∷ y ∷ pos (parameterOf b) ∷ []
 
 abbrev pub num : ℕ → Ex
 num n = lit (pos n)

@@ -19,21 +19,21 @@ use Rattle.curve.specs.Four.{dot}
 use Rattle.curve.specs.Published.{published, denominator, mostParameter, cardinalToBezier, cubic, weights, bezierMatrix, hermiteMatrix, bSplineMatrix}
 use Rattle.curve.specs.Span.{stride, fold, firstRecord, recordsFrom, records, wholeControls, weighted, divisor, sumAt, point}
 use Rattle.curve.proofs.Stride.{next-first}
-use Rattle.curve.proofs.Reflect.{fourᵉ, num, p, i, h, taut, values, valuesOf, dotᵉ, matrixᵉ, cardinalᵉ, cubicᵉ, weightedᵉ, wholeᵉ}
+use Rattle.curve.proofs.Reflect.{fourᵉ, num, p, i, h, taut, values, valuesWith, dotᵉ, matrixᵉ, cardinalᵉ, cubicᵉ, weightedᵉ, wholeᵉ}
 
 -- For every basis, a cardinal one with any parameter, i and h: the weighted sum of the whole controls over `fold`·h^3 is the published value, a numerator over `denominator`·h^3.
 pub controls-published : (b : Basis) (q : Four) (x y : ℤ) → weighted (wholeControls b q) x y *ℤ pos (denominator b) ≡ published b q x y *ℤ pos (fold b)
 unfolding weighted wholeControls published weights cubic dot
-controls-published Bezier q x y = solve (valuesOf Bezier q x y) (weightedᵉ (wholeᵉ Bezier p) i h ⊗ num 1) (cubicᵉ (matrixᵉ bezierMatrix) p i h ⊗ num 6) tt
-controls-published BSpline q x y = solve (valuesOf BSpline q x y) (weightedᵉ (wholeᵉ BSpline p) i h ⊗ num 6) (cubicᵉ (matrixᵉ bSplineMatrix) p i h ⊗ num 6) tt
-controls-published (Cardinal c) q x y = solve (valuesOf (Cardinal c) q x y) (weightedᵉ (wholeᵉ (Cardinal c) p) i h ⊗ num mostParameter) (cubicᵉ (cardinalᵉ taut (num mostParameter)) p i h ⊗ num 192) tt
-controls-published Hermite q x y = solve (valuesOf Hermite q x y) (weightedᵉ (wholeᵉ Hermite p) i h ⊗ num 1) (cubicᵉ (matrixᵉ hermiteMatrix) (fourᵉ (p .a) (p .c) (p .b) (p .d)) i h ⊗ num 6) tt
+controls-published Bezier q x y = solve (valuesWith Bezier q x y) (weightedᵉ (wholeᵉ Bezier p) i h ⊗ num 1) (cubicᵉ (matrixᵉ bezierMatrix) p i h ⊗ num 6) tt
+controls-published BSpline q x y = solve (valuesWith BSpline q x y) (weightedᵉ (wholeᵉ BSpline p) i h ⊗ num 6) (cubicᵉ (matrixᵉ bSplineMatrix) p i h ⊗ num 6) tt
+controls-published (Cardinal c) q x y = solve (valuesWith (Cardinal c) q x y) (weightedᵉ (wholeᵉ (Cardinal c) p) i h ⊗ num mostParameter) (cubicᵉ (cardinalᵉ taut (num mostParameter)) p i h ⊗ num 192) tt
+controls-published Hermite q x y = solve (valuesWith Hermite q x y) (weightedᵉ (wholeᵉ Hermite p) i h ⊗ num 1) (cubicᵉ (matrixᵉ hermiteMatrix) (fourᵉ (p .a) (p .c) (p .b) (p .d)) i h ⊗ num 6) tt
 
 -- For every parameter the cardinal controls are 192 times those of 000 (21) at a = c / 64.
 pub cardinal-converted : (c : ℕ) (q : Four) → wholeControls (Cardinal c) q ≡ cardinalToBezier (pos c) (pos mostParameter) q
 unfolding wholeControls dot
 cardinal-converted c q =
-    let r = valuesOf (Cardinal c) q (pos 0) (pos 0) in
+    let r = valuesWith (Cardinal c) q (pos 0) (pos 0) in
     let e = wholeᵉ (Cardinal c) p in
     let start = solve r (e .a) (dotᵉ (fourᵉ (num 0) (num 3 ⊗ num 64) (num 0) (num 0)) p) tt in
     let left = solve r (e .b) (dotᵉ (fourᵉ (num 0 ⊖ taut) (num 3 ⊗ num 64) taut (num 0)) p) tt in

@@ -20,7 +20,7 @@ use Rattle.curve.specs.Four.{four}
 use Rattle.curve.specs.Span.{coordinate, divisor, recordsFrom, records, wholeControls}
 use Rattle.curve.specs.Tab.{tab}
 use Rattle.curve.specs.Ways.{leftHalf, rightHalf}
-use Rattle.curve.proofs.Reflect.{Fourᵉ, num, p, valuesOf, wholeᵉ, leftᵉ, rightᵉ}
+use Rattle.curve.proofs.Reflect.{Fourᵉ, num, p, valuesWith, wholeᵉ, leftᵉ, rightᵉ}
 use Rattle.shape.specs.declared.Shape.{Shape}
 use Rattle.shape.specs.declared.Plan.{Plan}
 use Rattle.shape.specs.Refusals.{judge, shapeRows, pointRows, planOf}
@@ -78,10 +78,10 @@ module _ (q : Four) where
 
   controls-turned : (b : Basis) → wholeControls b (negated q) ≡ negated (wholeControls b q)
   unfolding wholeControls evFour
-  controls-turned Bezier = turned (wholeControls Bezier) q (alike (valuesOf Bezier q (pos 0) (pos 0)) (wholeᵉ Bezier (fromZeroᵉ p)) (fromZeroᵉ (wholeᵉ Bezier p)) tt tt tt tt)
-  controls-turned BSpline = turned (wholeControls BSpline) q (alike (valuesOf BSpline q (pos 0) (pos 0)) (wholeᵉ BSpline (fromZeroᵉ p)) (fromZeroᵉ (wholeᵉ BSpline p)) tt tt tt tt)
-  controls-turned (Cardinal c) = turned (wholeControls (Cardinal c)) q (alike (valuesOf (Cardinal c) q (pos 0) (pos 0)) (wholeᵉ (Cardinal c) (fromZeroᵉ p)) (fromZeroᵉ (wholeᵉ (Cardinal c) p)) tt tt tt tt)
-  controls-turned Hermite = turned (wholeControls Hermite) q (alike (valuesOf Hermite q (pos 0) (pos 0)) (wholeᵉ Hermite (fromZeroᵉ p)) (fromZeroᵉ (wholeᵉ Hermite p)) tt tt tt tt)
+  controls-turned Bezier = turned (wholeControls Bezier) q (alike (valuesWith Bezier q (pos 0) (pos 0)) (wholeᵉ Bezier (fromZeroᵉ p)) (fromZeroᵉ (wholeᵉ Bezier p)) tt tt tt tt)
+  controls-turned BSpline = turned (wholeControls BSpline) q (alike (valuesWith BSpline q (pos 0) (pos 0)) (wholeᵉ BSpline (fromZeroᵉ p)) (fromZeroᵉ (wholeᵉ BSpline p)) tt tt tt tt)
+  controls-turned (Cardinal c) = turned (wholeControls (Cardinal c)) q (alike (valuesWith (Cardinal c) q (pos 0) (pos 0)) (wholeᵉ (Cardinal c) (fromZeroᵉ p)) (fromZeroᵉ (wholeᵉ (Cardinal c) p)) tt tt tt tt)
+  controls-turned Hermite = turned (wholeControls Hermite) q (alike (valuesWith Hermite q (pos 0) (pos 0)) (wholeᵉ Hermite (fromZeroᵉ p)) (fromZeroᵉ (wholeᵉ Hermite p)) tt tt tt tt)
 
   -- its second differences are negated, and keep their sizes
   size-turned : (f : Four → ℤ) → f (fromZero q) ≡ pos 0 -ℤ f q → natAbs (f (negated q)) ≡ natAbs (f q)

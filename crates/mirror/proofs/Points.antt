@@ -14,7 +14,7 @@ use Rattle.curve.specs.Four.{four, dot}
 use Rattle.curve.specs.Published.{weights}
 use Rattle.curve.specs.Tab.{tab}
 use Rattle.curve.specs.Span.{coordinate, recordsFrom, records, wholeControls, weighted, divisor, sumAt}
-use Rattle.curve.proofs.Reflect.{Fourᵉ, fourᵉ, num, p, i, h, values, valuesOf, weightedᵉ, wholeᵉ}
+use Rattle.curve.proofs.Reflect.{Fourᵉ, fourᵉ, num, p, i, h, values, valuesWith, weightedᵉ, wholeᵉ}
 use Rattle.shape.specs.declared.Plan.{Plan}
 use Rattle.spans.specs.Numbers.{sumOf, number, remainderOf, nought, noughts, exactIn}
 use Rattle.mirror.specs.Mirror.{Axis, across, mirror}
@@ -30,10 +30,10 @@ fromZeroᵉ q = fourᵉ (num 0 ⊖ q .a) (num 0 ⊖ q .b) (num 0 ⊖ q .c) (num 
 
 sum-from-zero : (b : Basis) (q : Four) (x y : ℤ) → weighted (wholeControls b (fromZero q)) x y ≡ pos 0 -ℤ weighted (wholeControls b q) x y
 unfolding weighted wholeControls weights dot
-sum-from-zero Bezier q x y = solve (valuesOf Bezier q x y) (weightedᵉ (wholeᵉ Bezier (fromZeroᵉ p)) i h) (num 0 ⊖ weightedᵉ (wholeᵉ Bezier p) i h) tt
-sum-from-zero BSpline q x y = solve (valuesOf BSpline q x y) (weightedᵉ (wholeᵉ BSpline (fromZeroᵉ p)) i h) (num 0 ⊖ weightedᵉ (wholeᵉ BSpline p) i h) tt
-sum-from-zero (Cardinal c) q x y = solve (valuesOf (Cardinal c) q x y) (weightedᵉ (wholeᵉ (Cardinal c) (fromZeroᵉ p)) i h) (num 0 ⊖ weightedᵉ (wholeᵉ (Cardinal c) p) i h) tt
-sum-from-zero Hermite q x y = solve (valuesOf Hermite q x y) (weightedᵉ (wholeᵉ Hermite (fromZeroᵉ p)) i h) (num 0 ⊖ weightedᵉ (wholeᵉ Hermite p) i h) tt
+sum-from-zero Bezier q x y = solve (valuesWith Bezier q x y) (weightedᵉ (wholeᵉ Bezier (fromZeroᵉ p)) i h) (num 0 ⊖ weightedᵉ (wholeᵉ Bezier p) i h) tt
+sum-from-zero BSpline q x y = solve (valuesWith BSpline q x y) (weightedᵉ (wholeᵉ BSpline (fromZeroᵉ p)) i h) (num 0 ⊖ weightedᵉ (wholeᵉ BSpline p) i h) tt
+sum-from-zero (Cardinal c) q x y = solve (valuesWith (Cardinal c) q x y) (weightedᵉ (wholeᵉ (Cardinal c) (fromZeroᵉ p)) i h) (num 0 ⊖ weightedᵉ (wholeᵉ (Cardinal c) p) i h) tt
+sum-from-zero Hermite q x y = solve (valuesWith Hermite q x y) (weightedᵉ (wholeᵉ Hermite (fromZeroᵉ p)) i h) (num 0 ⊖ weightedᵉ (wholeᵉ Hermite p) i h) tt
 
 plain-from-zero : (q : Four) (x y : ℤ) → weighted (fromZero q) x y ≡ pos 0 -ℤ weighted q x y
 unfolding weighted weights dot

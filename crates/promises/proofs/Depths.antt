@@ -20,6 +20,7 @@ use Rattle.curve.specs.declared.Basis.{Basis}
 use Rattle.curve.specs.Span.{divisor, sumAt, point}
 use Rattle.curve.specs.Tab.{tab}
 use Rattle.curve.specs.Ways.{deepest}
+use Rattle.curve.proofs.Bits.{divisor-again}
 use Rattle.curve.proofs.Span.{divisor-pos}
 use Rattle.curve.proofs.Tab.{length-tab}
 use Rattle.shape.specs.declared.Shape.{Shape}
@@ -56,7 +57,7 @@ use Rattle.file_list.proofs.Texts.{unread-text}
 use Rattle.file_list.proofs.Read as file-read
 use Rattle.file_list.proofs.Joined.{drawn-text}
 use Rattle.stray.specs.Chord.{finer}
-use Rattle.stray.proofs.Again.{sum-again, divisor-again}
+use Rattle.stray.proofs.Again.{sum-again}
 use Rattle.promises.specs.Depths.{sumBy, numberBy, remainderBy, shapeRowsOf, callOf, readingOf, evenTextOf, fileTextOf}
 
 -- ---- the table

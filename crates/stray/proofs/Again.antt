@@ -15,8 +15,9 @@ use Rattle.whole.proofs.Nearest.{nearest-rounded, nearest-scale}
 use Rattle.whole.proofs.Remainder.{remainder-scale}
 use Rattle.curve.specs.declared.Four.{Four}
 use Rattle.curve.specs.declared.Basis.{Basis}
-use Rattle.curve.specs.Span.{sixfold, coordinate, records, wholeControls, weighted, divisor, sumAt}
+use Rattle.curve.specs.Span.{coordinate, records, wholeControls, weighted, divisor, sumAt}
 use Rattle.curve.specs.Ways.{deepest}
+use Rattle.curve.proofs.Bits.{divisor-again}
 use Rattle.curve.proofs.Powers.{cube, thrice}
 use Rattle.curve.proofs.Span.{divisor-pos}
 use Rattle.curve.proofs.Table.{weighted-scale}
@@ -42,11 +43,6 @@ sum-again b k l p i =
     ap (λ (n : ℕ). weighted (wholeControls b p) (pos (i * 2 ^ l)) (pos n)) (pow-add 2 k l)
     ∙ weighted-scale (pos (2 ^ l)) (wholeControls b p) (pos i) (pos (2 ^ k))
     ∙ ap (λ (n : ℕ). pos n *ℤ sumAt b k p i) (sym (thrice l))
-
-pub divisor-again : (b : Basis) (k l : ℕ) → divisor b (k + l) ≡ 2 ^ (3 * l) * divisor b k
-divisor-again b k l =
-    let three : 3 * (k + l) ≡ 3 * l + 3 * k = omega arith in
-    ap (λ (n : ℕ). sixfold * 2 ^ n) three ∙ ap (λ (n : ℕ). sixfold * n) (pow-add 2 (3 * l) (3 * k)) ∙ mul-left-comm sixfold (2 ^ (3 * l)) (2 ^ (3 * k))
 
 -- the number that a sum is rounded to is at most a half away from it over the finer divisor too
 pub close-again : (b : Basis) (k l : ℕ) (z n : ℤ) → n ≡ nearest z (divisor b k) → 2 * natAbs (finer l z -ℤ pos (divisor b (k + l)) *ℤ n) ≤ divisor b (k + l)

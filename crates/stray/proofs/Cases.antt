@@ -69,13 +69,14 @@ meeting =
     ∷ case Bezier (four (pos 0) (pos 0) (pos 1) (pos 3)) 2 1 1 1
     ∷ case Bezier (four (neg 4000000) (pos 4000000) (pos 4000000) (neg 4000000)) 6 63 3 4
     ∷ case BSpline (four (pos 0) (pos 1) (pos 4) (pos 9)) 2 3 1 1
-    ∷ case Cardinal (four (pos 0) (pos 1) (pos 4) (pos 9)) 2 0 1 1
+    ∷ case (Cardinal 32) (four (pos 0) (pos 1) (pos 4) (pos 9)) 2 0 1 1
+    ∷ case (Cardinal 64) (four (pos 1) (pos 0) (pos 1) (pos 2)) 2 1 1 1
     ∷ case Hermite (four (pos 0) (pos 0) (pos 1) (pos 2)) 2 2 1 1
     ∷ []
 
 pub bound-met : AllMeet meeting
 unfolding published cubic dot wholeControls bend
-bound-met = (refl, (refl, (refl, (refl, (refl, (refl, (refl, tt)))))))
+bound-met = (refl, (refl, (refl, (refl, (refl, (refl, (refl, (refl, tt))))))))
 
 -- Where one second difference is nought the other one counts.
 pub larger-counts : let c = case Bezier (four (pos 0) (pos 0) (pos 0) (pos 8)) 0 0 1 1 in Within (bound c) (off c) (under c)
@@ -88,7 +89,7 @@ larger-counts = lit≤ tt
 abbrev quarters : Four
 quarters = four (pos 0) (pos 1) (pos 5) (pos 9)
 
-pub drawn-quarters : draws (record { basis = 4; depth = 2; count = 4 }) (onX (pos 0 ∷ pos 1 ∷ pos 5 ∷ pos 9 ∷ [])) (replicate 10 (neg 1)) ≡ outcome (drawn.Done (record { points = 5; exact = 8 })) (onX (pos 0 ∷ pos 1 ∷ pos 2 ∷ pos 3 ∷ pos 5 ∷ []))
+pub drawn-quarters : draws (record { basis = 4; depth = 2; count = 4; parameter = 0 }) (onX (pos 0 ∷ pos 1 ∷ pos 5 ∷ pos 9 ∷ [])) (replicate 10 (neg 1)) ≡ outcome (drawn.Done (record { points = 5; exact = 8 })) (onX (pos 0 ∷ pos 1 ∷ pos 2 ∷ pos 3 ∷ pos 5 ∷ []))
 unfolding draws judge planOf sixtyFourths basisOf spansOf recordsOf pointsOf allowed outside seek coordinate onX tab number sumOf remainderOf weighted weights dot firstRecord recordsFrom wholeControls nearest halfUp remainder noughts
 drawn-quarters = refl
 
@@ -98,7 +99,7 @@ unfolding published cubic dot wholeControls bend
 half-met = refl
 
 -- By tolerance: a Bezier span 0, 1, 18, 51 on x at 3 micrometres is cut once, at 13 1/2, which is rounded to 14.
-pub cut-once : chooses (record { basis = 1; depth = 0; count = 4 }) 3 1 (onX (pos 0 ∷ pos 1 ∷ pos 18 ∷ pos 51 ∷ [])) (replicate 6 (neg 1)) ≡ outcome (Done (record { points = 3; cuts = 1; exact = 5 })) (onX (pos 0 ∷ pos 14 ∷ pos 51 ∷ []))
+pub cut-once : chooses (record { basis = 1; depth = 0; count = 4; parameter = 0 }) 3 1 (onX (pos 0 ∷ pos 1 ∷ pos 18 ∷ pos 51 ∷ [])) (replicate 6 (neg 1)) ≡ outcome (Done (record { points = 3; cuts = 1; exact = 5 })) (onX (pos 0 ∷ pos 14 ∷ pos 51 ∷ []))
 unfolding chooses judge planOf sixtyFourths basisOf spansOf recordsOf allowed outside seek coordinate onX treeOf tab tree isFlat bend leftHalf rightHalf cuts allCuts starts allStarts walk walkAll firstRecord recordsFrom wholeControls nearest halfUp remainder noughts
 cut-once = refl
 

@@ -23,7 +23,6 @@ use Rattle.spans.specs.Numbers.{sumOf}
 use Rattle.spans.specs.Inner.{wholes}
 use Rattle.pieces.specs.Tree.{finest, piece, Tree, Sound}
 use Rattle.pieces.specs.Steps.{stepsIn}
-use Rattle.pieces.specs.Inner.{divisorAt}
 use Rattle.pieces.proofs.Even.{sumsAt, Covers}
 use Rattle.pieces.proofs.Stepped.{steps-begin}
 use Rattle.tolerance.specs.declared.Steps.{Steps}
@@ -54,7 +53,7 @@ module _ (p : Plan) (tolerance l : ℕ) (controls : List ℤ) where
       sym (at-step p controls t there fine i axis h a) ∙ ap (at axis) place
 
   abbrev R : ℕ → ℕ → Type 0
-  R = Stretch tolerance l (at 0) (at 1)
+  R = Stretch (p .basis) tolerance l (at 0) (at 1)
 
   abbrev f : ℕ → Tree
   f = treeOf p tolerance controls
@@ -74,7 +73,7 @@ module _ (p : Plan) (tolerance l : ℕ) (controls : List ℤ) where
       let there : s < p .spans = omega arith in
       let to : (suc s + n) * 2 ^ finest ≡ (s + suc n) * 2 ^ finest = omega arith in
       let on : s * 2 ^ finest + 2 ^ finest ≡ suc s * 2 ^ finest = omega arith in
-      let here = stretches tolerance l (at 0) (at 1) finest (s * 2 ^ finest) (piece 0 (controlsOf p controls s 0) (controlsOf p controls s 1)) refl (covers s 0 there (lit< tt)) (covers s 1 there (lit< tt)) (sound s there) in
+      let here = stretches (p .basis) tolerance l (at 0) (at 1) finest (s * 2 ^ finest) (piece 0 (controlsOf p controls s 0) (controlsOf p controls s 1)) refl (covers s 0 there (lit< tt)) (covers s 1 there (lit< tt)) (sound s there) in
       subst (Linked R (stepsFrom s (tab f s (suc n)))) to
       (linked-append R (stepsIn finest (s * 2 ^ finest) (f s)) (stepsFrom (suc s) (tab f (suc s) n)) ((suc s + n) * 2 ^ finest)
       (subst (Linked R (stepsIn finest (s * 2 ^ finest) (f s))) (on ∙ sym (first-from (suc s) n)) here)
@@ -124,9 +123,9 @@ module _ (s : Shape) (tolerance most : ℕ) (controls lent : List ℤ) (fs : Ste
   abbrev sum : ℕ → ℕ → ℤ
   sum r axis = sumOf (finestPlan pl) controls (2 * step r + axis)
 
-  held-at : (r axis : ℕ) → r < fs .points → axis < 2 → getD held (2 * r + axis) (pos 0) ≡ nearest (sum r axis) (divisorAt finest)
+  held-at : (r axis : ℕ) → r < fs .points → axis < 2 → getD held (2 * r + axis) (pos 0) ≡ nearest (sum r axis) (divisor (pl .basis) finest)
   held-at r axis h a =
-      let d = divisorAt finest in
+      let d = divisor (pl .basis) finest in
       let x : ℕ → ℤ = λ (g : ℕ). sumOf (finestPlan pl) controls (2 * g) in
       let y : ℕ → ℤ = λ (g : ℕ). sumOf (finestPlan pl) controls (2 * g + 1) in
       let list = wholes d (sumsAt x y (stepsAlong pl tolerance controls)) in
@@ -149,17 +148,17 @@ module _ (s : Shape) (tolerance most : ℕ) (controls lent : List ℤ) (fs : Ste
     here j = sumOf (planAt (finest + l) pl) controls (2 * (step r * 2 ^ l + j) + axis)
 
     -- they are the ends of a flat piece
-    stretch : Stretch tolerance l (λ (n : ℕ). sumOf (planAt (finest + l) pl) controls (2 * n + 0)) (λ (n : ℕ). sumOf (planAt (finest + l) pl) controls (2 * n + 1)) (step r) (step (r + 1))
+    stretch : Stretch (pl .basis) tolerance l (λ (n : ℕ). sumOf (planAt (finest + l) pl) controls (2 * n + 0)) (λ (n : ℕ). sumOf (planAt (finest + l) pl) controls (2 * n + 1)) (step r) (step (r + 1))
     stretch = neighbours pl tolerance l controls (answered-sound s tolerance most controls lent fs held done) r (omega (arith, many-along s tolerance most controls lent fs held done))
 
     -- the one after the other
     pub steps-rise : step r < step (r + 1)
     steps-rise = omega (arith, stretch .ends, pow-pos (stretch .left))
 
-    near : Near tolerance l (λ (n : ℕ). sumOf (planAt (finest + l) pl) controls (2 * n + axis)) (step r) (step (r + 1))
+    near : Near (pl .basis) tolerance l (λ (n : ℕ). sumOf (planAt (finest + l) pl) controls (2 * n + axis)) (step r) (step (r + 1))
     near =
         let rule : ℕ → ℕ → ℤ = λ (axis n : ℕ). sumOf (planAt (finest + l) pl) controls (2 * n + axis) in
-        on-axes (λ (axis : ℕ). Near tolerance l (rule axis) (step r) (step (r + 1))) (near-x tolerance l (rule 0) (rule 1) (step r) (step (r + 1)) stretch) (near-y tolerance l (rule 0) (rule 1) (step r) (step (r + 1)) stretch) axis a
+        on-axes (λ (axis : ℕ). Near (pl .basis) tolerance l (rule axis) (step r) (step (r + 1))) (near-x (pl .basis) tolerance l (rule 0) (rule 1) (step r) (step (r + 1)) stretch) (near-y (pl .basis) tolerance l (rule 0) (rule 1) (step r) (step (r + 1)) stretch) axis a
 
     -- the exact points
     pub chosen-within : (j : ℕ) → j ≤ w → Within (micrometres tolerance) (offChord w j (finer l (sum r axis)) (finer l (sum (r + 1) axis)) (here j)) (w * d)

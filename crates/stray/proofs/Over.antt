@@ -4,14 +4,13 @@ use mathlib.Core.Path.{_≡_, sym, ap, _∙_}
 use mathlib.Core.List.{[], _∷_}
 use Prim.Native.Nat.{ℕ, _*_, _-_, _^_, _<_}
 use native.Mathlib.Nat.{mul-left-comm, mul-le-mul, le-refl, le-of-mul-le-mul-left, eq-of-mul-eq-mul-left}
-use lib.Dec.{lit<}
 use lib.IntN.{ℤ, pos, natAbs, _+ℤ_, _-ℤ_, _*ℤ_}
 use Rattle.whole.proofs.Ring.{var, _⊕_, _⊖_, _⊗_, solve, *ℤ-assoc}
 use Rattle.whole.proofs.Fit.{natAbs-mul}
 use Rattle.curve.specs.declared.Basis.{Basis}
 use Rattle.curve.specs.Published.{denominator}
-use Rattle.curve.specs.Span.{sixfold, divisor}
-use Rattle.curve.proofs.Span.{same-divisors}
+use Rattle.curve.specs.Span.{fold, divisor}
+use Rattle.curve.proofs.Span.{fold-pos, same-divisors}
 use Rattle.stray.specs.Chord.{Bound, Within, Meets, offChord, finer}
 
 module _ (s t : ℕ) where
@@ -54,24 +53,24 @@ publishedUnder b k = denominator b * 2 ^ (3 * k)
 
 -- a sum over the basis' divisor and a published value over its own are one fraction
 pub record OneFraction (b : Basis) (sum value : ℤ) : Type 0 where
-  pub same : pos (denominator b) *ℤ sum ≡ pos sixfold *ℤ value
+  pub same : pos (denominator b) *ℤ sum ≡ pos (fold b) *ℤ value
 
 -- over the divisor of l depths more; and a whole number
 pub finer-one : (l : ℕ) {b : Basis} {sum value : ℤ} → OneFraction b sum value → OneFraction b (finer l sum) (finer l value)
-finer-one l {b} {sum} {value} one = record { same = finer-over (denominator b) sixfold l sum value (one .same) }
+finer-one l {b} {sum} {value} one = record { same = finer-over (denominator b) (fold b) l sum value (one .same) }
 
 pub whole-one : (b : Basis) (k : ℕ) (n : ℤ) → OneFraction b (pos (divisor b k) *ℤ n) (pos (publishedUnder b k) *ℤ n)
-whole-one b k n = record { same = sym (*ℤ-assoc (pos (denominator b)) (pos (divisor b k)) n) ∙ ap (λ (m : ℕ). pos m *ℤ n) (same-divisors b k) ∙ *ℤ-assoc (pos sixfold) (pos (publishedUnder b k)) n }
+whole-one b k n = record { same = sym (*ℤ-assoc (pos (denominator b)) (pos (divisor b k)) n) ∙ ap (λ (m : ℕ). pos m *ℤ n) (same-divisors b k) ∙ *ℤ-assoc (pos (fold b)) (pos (publishedUnder b k)) n }
 
 module _ (k w j : ℕ) (f : Bound) {b : Basis} {a c z a′ c′ z′ : ℤ} (on-a : OneFraction b a a′) (on-c : OneFraction b c c′) (on-z : OneFraction b z z′) where
-  off : pos (denominator b) *ℤ offChord w j a c z ≡ pos sixfold *ℤ offChord w j a′ c′ z′
-  off = off-over (denominator b) sixfold w j a c z a′ c′ z′ (on-a .same) (on-c .same) (on-z .same)
+  off : pos (denominator b) *ℤ offChord w j a c z ≡ pos (fold b) *ℤ offChord w j a′ c′ z′
+  off = off-over (denominator b) (fold b) w j a c z a′ c′ z′ (on-a .same) (on-c .same) (on-z .same)
 
-  under : denominator b * (w * divisor b k) ≡ sixfold * (w * publishedUnder b k)
-  under = mul-left-comm (denominator b) w (divisor b k) ∙ ap (λ (n : ℕ). w * n) (same-divisors b k) ∙ mul-left-comm w sixfold (publishedUnder b k)
+  under : denominator b * (w * divisor b k) ≡ fold b * (w * publishedUnder b k)
+  under = mul-left-comm (denominator b) w (divisor b k) ∙ ap (λ (n : ℕ). w * n) (same-divisors b k) ∙ mul-left-comm w (fold b) (publishedUnder b k)
 
   pub within-published : Within f (offChord w j a c z) (w * divisor b k) → Within f (offChord w j a′ c′ z′) (w * publishedUnder b k)
-  within-published = within-over (denominator b) sixfold f (offChord w j a c z) (offChord w j a′ c′ z′) (w * divisor b k) (w * publishedUnder b k) (lit< tt) off under
+  within-published = within-over (denominator b) (fold b) f (offChord w j a c z) (offChord w j a′ c′ z′) (w * divisor b k) (w * publishedUnder b k) (fold-pos b) off under
 
   pub meets-published : Meets f (offChord w j a c z) (w * divisor b k) → Meets f (offChord w j a′ c′ z′) (w * publishedUnder b k)
-  meets-published = meets-over (denominator b) sixfold f (offChord w j a c z) (offChord w j a′ c′ z′) (w * divisor b k) (w * publishedUnder b k) (lit< tt) off under
+  meets-published = meets-over (denominator b) (fold b) f (offChord w j a c z) (offChord w j a′ c′ z′) (w * divisor b k) (w * publishedUnder b k) (fold-pos b) off under

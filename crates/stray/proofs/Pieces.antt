@@ -5,7 +5,7 @@ use mathlib.Core.Bool.{true}
 use mathlib.Core.List.{[], _∷_}
 use mathlib.Core.Logic.{_↔_}
 use Prim.Native.Nat.{ℕ, _+_, _*_, _-_, _^_, _≤_}
-use native.Mathlib.Nat.{le-refl, mul-le-mul, add-zero, zero-mul, one-mul, mul-assoc, mul-left-comm}
+use native.Mathlib.Nat.{le-refl, mul-le-mul, add-zero, zero-mul, one-mul, mul-left-comm}
 use native.Mathlib.Omega.{arith}
 use borrow.Author.Tests.{leb-true, le-leb}
 use lib.Dec.{lit<}
@@ -14,13 +14,14 @@ use lib.Pow.{pow-add}
 use Rattle.whole.proofs.Ring.{var, _⊗_, solve}
 use Rattle.whole.proofs.Order.{pos-injective}
 use Rattle.curve.specs.declared.Four.{Four}
+use Rattle.curve.specs.declared.Basis.{Basis}
 use Rattle.curve.specs.Bend.{bend}
-use Rattle.curve.specs.Span.{sixfold, weighted}
+use Rattle.curve.specs.Span.{divisor, weighted}
+use Rattle.curve.proofs.Bits.{divisor-again}
 use Rattle.curve.proofs.Powers.{cube, thrice}
 use Rattle.curve.proofs.Reflect.{num}
 use Rattle.curve.proofs.Table.{weighted-scale}
 use Rattle.pieces.specs.Tree.{finest, flatOn}
-use Rattle.pieces.specs.Inner.{divisorAt}
 use Rattle.pieces.proofs.Deep.{flat-within}
 use Rattle.pieces.proofs.Even.{Covers}
 use Rattle.stray.specs.Chord.{Within, bendBound, micrometres, offChord}
@@ -55,15 +56,13 @@ module _ (q : Four) (at : ℕ → ℤ) (n from : ℕ) (c : Covers n from q at) w
       sym (c j h) ∙ (λ x. weighted q (pos (step x)) (pos (steps x))) in
       λ x. offChord w j (start x) (end x) (here x)
 
-  pub piece-within : (tolerance level l : ℕ) → level + n ≡ finest + l → 3 * bend q ≤ 4 * (tolerance * divisorAt level) → (j : ℕ) → j ≤ w
-      → Within (micrometres tolerance) (offChord w j (at from) (at (from + w)) (at (from + j))) (w * divisorAt (finest + l))
+  pub piece-within : (b : Basis) (tolerance level l : ℕ) → level + n ≡ finest + l → 3 * bend q ≤ 4 * (tolerance * divisor b level) → (j : ℕ) → j ≤ w
+      → Within (micrometres tolerance) (offChord w j (at from) (at (from + w)) (at (from + j))) (w * divisor b (finest + l))
   unfolding cube
-  piece-within tolerance level l deep flat j h =
-      let all : divisorAt (finest + l) ≡ divisorAt level * cube w =
-      let three : 3 * (finest + l) ≡ 3 * level + 3 * n = omega arith in
-      ap (λ (m : ℕ). sixfold * 2 ^ m) three ∙ ap (λ (m : ℕ). sixfold * m) (pow-add 2 (3 * level) (3 * n)) ∙ sym (mul-assoc sixfold (2 ^ (3 * level)) (2 ^ (3 * n))) ∙ ap (λ (m : ℕ). divisorAt level * m) (thrice n) in
-      let most : 4 * (tolerance * divisorAt level) * (w * cube w) ≡ 4 * (tolerance * (w * divisorAt (finest + l))) =
-      pos-injective (solve (pos tolerance ∷ pos (divisorAt level) ∷ pos w ∷ []) (num 4 ⊗ (var 0 ⊗ var 1) ⊗ (var 2 ⊗ (var 2 ⊗ var 2 ⊗ var 2))) (num 4 ⊗ (var 0 ⊗ (var 2 ⊗ (var 1 ⊗ (var 2 ⊗ var 2 ⊗ var 2))))) tt)
+  piece-within b tolerance level l deep flat j h =
+      let all : divisor b (finest + l) ≡ cube w * divisor b level = ap (divisor b) (sym deep) ∙ divisor-again b level n ∙ ap (λ (m : ℕ). m * divisor b level) (thrice n) in
+      let most : 4 * (tolerance * divisor b level) * (w * cube w) ≡ 4 * (tolerance * (w * divisor b (finest + l))) =
+      pos-injective (solve (pos tolerance ∷ pos (divisor b level) ∷ pos w ∷ []) (num 4 ⊗ (var 0 ⊗ var 1) ⊗ (var 2 ⊗ (var 2 ⊗ var 2 ⊗ var 2))) (num 4 ⊗ (var 0 ⊗ (var 2 ⊗ (var 2 ⊗ var 2 ⊗ var 2 ⊗ var 1)))) tt)
       ∙ ap (λ (m : ℕ). 4 * (tolerance * (w * m))) (sym all) in
       let one : w * cube (1 * w) ≡ w * cube w = ap (λ (m : ℕ). w * cube m) (one-mul w) in
       omega (arith, ap natAbs (off-is j h), chord-most q 0 1 j w (lit< tt) h, ap (λ (m : ℕ). 3 * bend q * m) one, mul-le-mul flat (le-refl (w * cube w)), most)
@@ -71,27 +70,27 @@ module _ (q : Four) (at : ℕ → ℤ) (n from : ℕ) (c : Covers n from q at) w
 -- ---- from step g to step h of the finest depth
 
 -- at every step of l more depths
-abbrev pub Near : ℕ → ℕ → (ℕ → ℤ) → ℕ → ℕ → Type 0
-Near tolerance l at g h =
+abbrev pub Near : Basis → ℕ → ℕ → (ℕ → ℤ) → ℕ → ℕ → Type 0
+Near b tolerance l at g h =
     let w = (h - g) * 2 ^ l in
-    (j : ℕ) → j ≤ w → Within (micrometres tolerance) (offChord w j (at (g * 2 ^ l)) (at (h * 2 ^ l)) (at (g * 2 ^ l + j))) (w * divisorAt (finest + l))
+    (j : ℕ) → j ≤ w → Within (micrometres tolerance) (offChord w j (at (g * 2 ^ l)) (at (h * 2 ^ l)) (at (g * 2 ^ l + j))) (w * divisor b (finest + l))
 
-module _ (tolerance l : ℕ) (x y : ℕ → ℤ) (g h : ℕ) (s : Stretch tolerance l x y g h) where
+module _ (b : Basis) (tolerance l : ℕ) (x y : ℕ → ℤ) (g h : ℕ) (s : Stretch b tolerance l x y g h) where
   abbrev left : ℕ
   left = s .left
 
-  near : (q : Four) (at : ℕ → ℤ) → Covers (left + l) (g * 2 ^ l) q at → 3 * bend q ≤ 4 * (tolerance * divisorAt (s .piece .level)) → Near tolerance l at g h
+  near : (q : Four) (at : ℕ → ℤ) → Covers (left + l) (g * 2 ^ l) q at → 3 * bend q ≤ 4 * (tolerance * divisor b (s .piece .level)) → Near b tolerance l at g h
   near q at c flat =
       let width : 2 ^ (left + l) ≡ (h - g) * 2 ^ l =
       let steps : 2 ^ left ≡ h - g = omega (arith, s .ends) in
       pow-add 2 left l ∙ ap (λ (m : ℕ). m * 2 ^ l) steps in
       let end : g * 2 ^ l + (h - g) * 2 ^ l ≡ h * 2 ^ l = ap (λ (m : ℕ). g * 2 ^ l + m) (sym width) ∙ on-by l left g ∙ ap (λ (m : ℕ). m * 2 ^ l) (sym (s .ends)) in
-      subst (λ (e : ℕ). (j : ℕ) → j ≤ (h - g) * 2 ^ l → Within (micrometres tolerance) (offChord ((h - g) * 2 ^ l) j (at (g * 2 ^ l)) (at e) (at (g * 2 ^ l + j))) ((h - g) * 2 ^ l * divisorAt (finest + l))) end
-      (subst (λ (w : ℕ). (j : ℕ) → j ≤ w → Within (micrometres tolerance) (offChord w j (at (g * 2 ^ l)) (at (g * 2 ^ l + w)) (at (g * 2 ^ l + j))) (w * divisorAt (finest + l))) width
-      (piece-within q at (left + l) (g * 2 ^ l) c tolerance (s .piece .level) l (omega (arith, s .deep)) flat))
+      subst (λ (e : ℕ). (j : ℕ) → j ≤ (h - g) * 2 ^ l → Within (micrometres tolerance) (offChord ((h - g) * 2 ^ l) j (at (g * 2 ^ l)) (at e) (at (g * 2 ^ l + j))) ((h - g) * 2 ^ l * divisor b (finest + l))) end
+      (subst (λ (w : ℕ). (j : ℕ) → j ≤ w → Within (micrometres tolerance) (offChord w j (at (g * 2 ^ l)) (at (g * 2 ^ l + w)) (at (g * 2 ^ l + j))) (w * divisor b (finest + l))) width
+      (piece-within q at (left + l) (g * 2 ^ l) c b tolerance (s .piece .level) l (omega (arith, s .deep)) flat))
 
-  pub near-x : Near tolerance l x g h
-  near-x = near (s .piece .x) x (s .on-x) (flat-within tolerance (s .piece) (s .flat) .on-x)
+  pub near-x : Near b tolerance l x g h
+  near-x = near (s .piece .x) x (s .on-x) (flat-within b tolerance (s .piece) (s .flat) .on-x)
 
-  pub near-y : Near tolerance l y g h
-  near-y = near (s .piece .y) y (s .on-y) (flat-within tolerance (s .piece) (s .flat) .on-y)
+  pub near-y : Near b tolerance l y g h
+  near-y = near (s .piece .y) y (s .on-y) (flat-within b tolerance (s .piece) (s .flat) .on-y)

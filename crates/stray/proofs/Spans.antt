@@ -11,7 +11,7 @@ use Rattle.curve.specs.declared.Four.{Four}
 use Rattle.curve.specs.declared.Basis.{Basis}
 use Rattle.curve.specs.Bend.{bend, firstBend, lastBend}
 use Rattle.curve.specs.Published.{published, denominator}
-use Rattle.curve.specs.Span.{sixfold, wholeControls, weighted, divisor, sumAt}
+use Rattle.curve.specs.Span.{fold, wholeControls, weighted, divisor, sumAt}
 use Rattle.curve.proofs.Powers.{cube, thrice}
 use Rattle.curve.proofs.Reflect.{num}
 use Rattle.curve.proofs.Span.{same-value}
@@ -50,7 +50,7 @@ module _ (b : Basis) (p : Four) (k l i : ℕ) where
   most =
       (λ x. divisor b 0 * (3 * bend q * (2 ^ l * cube (sym (pow-add 2 k l) x))))
       ∙ (λ x. divisor b 0 * (3 * bend q * (2 ^ l * sym (thrice (k + l)) x)))
-      ∙ pos-injective (solve (pos (bend q) ∷ pos (2 ^ l) ∷ pos (2 ^ (3 * (k + l))) ∷ []) (num sixfold ⊗ (num 3 ⊗ var 0 ⊗ (var 1 ⊗ var 2))) (num 3 ⊗ var 0 ⊗ (var 1 ⊗ (num sixfold ⊗ var 2))) tt)
+      ∙ pos-injective (solve (pos (bend q) ∷ pos (2 ^ l) ∷ pos (2 ^ (3 * (k + l))) ∷ pos (fold b) ∷ []) (var 3 ⊗ num 1 ⊗ (num 3 ⊗ var 0 ⊗ (var 1 ⊗ var 2))) (num 3 ⊗ var 0 ⊗ (var 1 ⊗ (var 3 ⊗ var 2))) tt)
 
   pub sums-within : (j : ℕ) → i < 2 ^ k → j ≤ 2 ^ l → Within (bendBound (divisor b 0) q k) (offSums j) (2 ^ l * divisor b (k + l))
   sums-within j hi hj = le-trans (le-of-eq (size j)) (le-trans (mul-le-mul (le-refl (divisor b 0)) (chord-most q i (2 ^ k) j (2 ^ l) hi hj)) (le-of-eq most))
