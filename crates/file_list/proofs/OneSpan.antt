@@ -20,7 +20,7 @@ use Rattle.shape.specs.declared.Plan.{Plan}
 use Rattle.shape.specs.Inner.{Good, Lent}
 use Rattle.shape.specs.Shape.{leastRecords, basisIn, spansOf, recordsOf, allowed, pointsOf}
 use Rattle.shape.specs.Refusals.{NoRow, shapeRows, listRows, outside, planOf}
-use Rattle.shape.proofs.Refusals.{none-both, good-plan, good-records}
+use Rattle.shape.proofs.Refusals.{none-both, row-fails, good-plan, good-records}
 use Rattle.shape.proofs.Seek.{seek-none}
 use Rattle.spans.specs.Numbers.{number, perSpan}
 use Rattle.spans.proofs.Alone.{coordinate-from, alone, number-alone}
@@ -75,7 +75,7 @@ module _ (s : Shape) (sound : NoRow (shapeRows s)) (c : List ℤ) (m len : ℕ) 
       rw (near 0 (coordinate c 0 (first + j)) refl (lent .x (first + j) (omega (arith, last))), near 1 (coordinate c 1 (first + j)) refl (lent .y (first + j) (omega (arith, last))))
 
   shape-rows : NoRow (shapeRows (oneSpan s))
-  shape-rows = (sound .0, (sound .1 .0, (sound .1 .1 .0, (ap not (one-allowed (basisIn s)), tt))))
+  shape-rows = let rows = shapeRows s in (row-fails 1 rows sound, (row-fails 2 rows sound, (row-fails 24 rows sound, (ap not (one-allowed (basisIn s)), tt))))
 
   all-points : outline.points (planOf (oneSpan s)) ≡ 2 ^ p .depth + 1
   unfolding pointsOf

@@ -25,8 +25,8 @@ use Rattle.curve.proofs.Span.{divisor-pos}
 use Rattle.curve.proofs.Tab.{length-tab}
 use Rattle.shape.specs.declared.Shape.{Shape}
 use Rattle.shape.specs.declared.Refusal.{Refusal}
-use Rattle.shape.specs.Refusals.{Row, row, First, NoRow, judge, basisRow, countRow, planOf}
-use Rattle.shape.proofs.Refusals.{judge-append, judge-none, none-earlier, none-later, verdict}
+use Rattle.shape.specs.Refusals.{Row, row, First, NoRow, judge, basisRow, parameterRow, countRow, planOf}
+use Rattle.shape.proofs.Refusals.{judge-append, judge-none, none-both, none-earlier, none-later, verdict}
 use Rattle.outline.specs.declared.Figures.{Figures}
 use Rattle.spans.specs.Numbers.{number}
 use Rattle.outline.specs.declared.Drawn.{Drawn}
@@ -93,7 +93,7 @@ tables-agree d e b k in-d in-e p i = table-number d b k in-d p i ∙ sym (table-
 -- two builds that both allow the depth
 pub same-call : {A : Type 0} (d e : ℕ) (s : Shape) → s .depth ≤ d → s .depth ≤ e → (own : List Row) (refused : Refusal → A) (accepted : A) → callOf d s own refused accepted ≡ callOf e s own refused accepted
 same-call d e s below within own refused accepted =
-    ap (λ (t : Bool). judge (basisRow s ∷ row t 2 0 ∷ countRow s ∷ own) refused accepted) (le-ltb d (s .depth) below ∙ sym (le-ltb e (s .depth) within))
+    ap (λ (t : Bool). judge (basisRow s ∷ row t 2 0 ∷ parameterRow s ∷ countRow s ∷ own) refused accepted) (le-ltb d (s .depth) below ∙ sym (le-ltb e (s .depth) within))
 
 -- and one that does not, where the basis is one of those that there are
 pub refused-call : {A : Type 0} (d : ℕ) (s : Shape) → d < s .depth → basisRow s .holds ≡ false → (own : List Row) (refused : Refusal → A) (accepted : A) → callOf d s own refused accepted ≡ refused (record { number = 2; place = 0 })
@@ -151,7 +151,7 @@ module _ (d : ℕ) (file : List ℕ) where
   pub read-as-before : d ≤ deepest → s .depth ≤ d → (lent : List ℤ) → readingOf d file lent ≡ reading file lent
   unfolding reading
   read-as-before less below lent =
-      ap (λ (t : Bool). judge (lengthRows (length file) ++ (recordRows file 0 n ++ (basisRow s ∷ row t 2 0 ∷ countRow s ∷ rows.listRows file n lent))) (refuses read.Refused lent) (rows.accepts file n lent))
+      ap (λ (t : Bool). judge (lengthRows (length file) ++ (recordRows file 0 n ++ (basisRow s ∷ row t 2 0 ∷ parameterRow s ∷ countRow s ∷ rows.listRows file n lent))) (refuses read.Refused lent) (rows.accepts file n lent))
       (le-ltb d (s .depth) below ∙ sym (le-ltb deepest (s .depth) (omega arith)))
 
   -- a file that this build reads, of a greater depth, one with less refuses with 2
@@ -192,6 +192,6 @@ module _ (d : ℕ) (file : List ℕ) where
           let vs = tab (number p held) 0 (2 * outline.points p) in
           ap text (read-as-before less below controls ∙ none-read file controls none)
           ∙ ap (λ (o : Outcome Drawn (List ℤ)). drawnText s (o .held) (o .answer))
-          (judge-none (shapeRowsOf d s ++ outline.planRows n p held lent) (refuses drawn.Refused lent) (outline.accepts p held lent) (sound .0, (le-ltb d (s .depth) below, (sound .1 .1 .0, file-read.lists file none d shallow))))
+          (judge-none (shapeRowsOf d s ++ outline.planRows n p held lent) (refuses drawn.Refused lent) (outline.accepts p held lent) (none-both (shapeRowsOf d s) (outline.planRows n p held lent) (sound .0, (le-ltb d (s .depth) below, sound .1 .1)) (file-read.lists file none d shallow)))
           ∙ ap (outlineText (s .basis) (s .depth) (p .spans)) (file-read.front file none d shallow vs (length-tab (number p held) 0 (2 * outline.points p)))
           ∙ sym (drawn-text file none)

@@ -15,7 +15,7 @@ use Rattle.whole.specs.Outcome.{outcome}
 use Rattle.whole.proofs.Remainder.{remainder-close, divides-nought, nought-divides}
 use Rattle.curve.specs.declared.Four.{Four}
 use Rattle.curve.specs.Published.{denominator}
-use Rattle.curve.specs.Span.{sixfold, coordinate, records, divisor}
+use Rattle.curve.specs.Span.{fold, coordinate, records, divisor}
 use Rattle.curve.specs.Tab.{tab}
 use Rattle.curve.specs.Ways.{byWeights, byHalving, byDifferences}
 use Rattle.curve.proofs.Span as curve
@@ -49,7 +49,7 @@ module _ (p : Plan) (controls : List ℤ) (q : ℕ) where
   under-pos = mul-pos (curve.denominator-pos (p .basis)) (pow-pos (3 * p .depth))
 
   -- over its divisor, 6 · 2^(3k), it is what the published value is more than the number: both sides are that difference, times the two divisors and over 2^(3k)
-  pub remainder-published : pos (denominator (p .basis)) *ℤ remainderOf p controls q ≡ pos sixfold *ℤ (value -ℤ pos under *ℤ publishedNumber p controls q)
+  pub remainder-published : pos (denominator (p .basis)) *ℤ remainderOf p controls q ≡ pos (fold (p .basis)) *ℤ (value -ℤ pos under *ℤ publishedNumber p controls q)
   unfolding sumOf remainderOf publishedValue publishedNumber remainder
   remainder-published =
       let s = min (q / 2 / 2 ^ p .depth) (p .spans - 1) in

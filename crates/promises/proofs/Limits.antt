@@ -9,7 +9,8 @@ use Rattle.whole.specs.Outcome.{outcome}
 use Rattle.curve.specs.declared.Four.{Four}
 use Rattle.curve.specs.declared.Basis.{Basis}
 use Rattle.curve.specs.declared.Basis.the-variants.{Bezier, BSpline}
-use Rattle.curve.specs.Limits.{Box, Inside, limit, reach}
+use Rattle.curve.specs.Published.{mostParameter}
+use Rattle.curve.specs.Limits.{Box, Inside, limit, reach, parameterOf}
 use Rattle.curve.specs.Span.{point}
 use Rattle.curve.proofs.Limits as curve
 use Rattle.shape.specs.declared.Shape.{Shape}
@@ -28,16 +29,16 @@ bezier-in-box = curve.bezier-box
 pub b-spline-in-box : (k i : ℕ) (q : Four) (lo hi : ℤ) → i ≤ 2 ^ k → Box lo hi q → (lo ≤ℤ point BSpline k q i) × (point BSpline k q i ≤ℤ hi)
 b-spline-in-box = curve.bSpline-box
 
--- every point of records inside the limits lies within 5,000,000 either way
-pub within-reach : (b : Basis) (k i : ℕ) (q : Four) → i ≤ 2 ^ k → Inside limit q → natAbs (point b k q i) ≤ reach
+-- every point of records inside the limits, with a parameter that is offered, lies within the reach of its basis: 5,000,000 either way, of a cardinal one 6,000,000
+pub within-reach : (b : Basis) (k i : ℕ) (q : Four) → i ≤ 2 ^ k → parameterOf b ≤ mostParameter → Inside limit q → natAbs (point b k q i) ≤ reach b
 within-reach = curve.point-size
 
 -- so every number of the outline does, as it stands in the lent list after an accepted drawing
-pub drawn-within : (s : Shape) (controls lent : List ℤ) (fs : Figures) (held : List ℤ) → draws s controls lent ≡ outcome (Done fs) held → (q : ℕ) → q < 2 * fs .points → natAbs (getD held q (pos 0)) ≤ reach
+pub drawn-within : (s : Shape) (controls lent : List ℤ) (fs : Figures) (held : List ℤ) → draws s controls lent ≡ outcome (Done fs) held → (q : ℕ) → q < 2 * fs .points → natAbs (getD held q (pos 0)) ≤ reach (planOf s .basis)
 drawn-within = outline.drawn-within
 
 -- and after any sequence of edits that follow it, refused ones among them
 pub played-within : (s : Shape) (controls lent : List ℤ) (fs : Figures) (held : List ℤ) (calls : List Call) → draws s controls lent ≡ outcome (Done fs) held
     → (q : ℕ) → q < 2 * points (planOf (played (state s controls held) calls .shape))
-    → natAbs (getD (played (state s controls held) calls .held) q (pos 0)) ≤ reach
+    → natAbs (getD (played (state s controls held) calls .held) q (pos 0)) ≤ reach (planOf (played (state s controls held) calls .shape) .basis)
 played-within = sequences.drawn-played-within

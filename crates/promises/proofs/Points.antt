@@ -9,7 +9,7 @@ use Rattle.whole.specs.Outcome.{outcome}
 use Rattle.curve.specs.declared.Four.{Four}
 use Rattle.curve.specs.declared.Basis.{Basis}
 use Rattle.curve.specs.Published.{published, denominator}
-use Rattle.curve.specs.Span.{sixfold, coordinate, records, point}
+use Rattle.curve.specs.Span.{fold, coordinate, records, point}
 use Rattle.curve.specs.Ways.{byWeights, byHalving, byDifferences}
 use Rattle.curve.proofs.Span as curve
 use Rattle.curve.proofs.Ways.{halving-agrees, differences-agree}
@@ -28,7 +28,7 @@ pub point-published : (b : Basis) (k : ℕ) (p : Four) (i : ℕ) → point b k p
 point-published = curve.point-published
 
 -- the exact sum of an outline's number and its published value are one fraction, over the one divisor and over the other
-pub value-published : (p : Plan) (controls : List ℤ) (q : ℕ) → pos (denominator (p .basis)) *ℤ sumOf p controls q ≡ pos sixfold *ℤ publishedValue p controls q
+pub value-published : (p : Plan) (controls : List ℤ) (q : ℕ) → pos (denominator (p .basis)) *ℤ sumOf p controls q ≡ pos (fold (p .basis)) *ℤ publishedValue p controls q
 unfolding sumOf publishedValue
 value-published p controls q =
     let s = min (q / 2 / 2 ^ p .depth) (p .spans - 1) in curve.same-value (p .basis) (p .depth) (records (p .basis) s (coordinate controls (q % 2))) (q / 2 - s * 2 ^ p .depth)

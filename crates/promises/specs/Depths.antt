@@ -12,7 +12,7 @@ use Rattle.curve.specs.declared.Basis.{Basis}
 use Rattle.curve.specs.Span.{wholeControls, weighted, divisor}
 use Rattle.shape.specs.declared.Shape.{Shape}
 use Rattle.shape.specs.declared.Refusal.{Refusal}
-use Rattle.shape.specs.Refusals.{Row, row, judge, basisRow, countRow, planOf}
+use Rattle.shape.specs.Refusals.{Row, row, judge, basisRow, parameterRow, countRow, planOf}
 use Rattle.outline.specs.declared.Drawn.{Drawn}
 use Rattle.outline.specs.declared.Drawn.the-variants as drawn
 use Rattle.outline.specs.Outline as outline
@@ -36,9 +36,9 @@ remainderBy d b k p i = remainder (sumBy d b k p i) (divisor b d)
 
 -- ---- the refusals
 
--- Rows 1, 2, 3 of a build whose deepest depth is d.
+-- Rows 1, 2, 24, 3 of a build whose deepest depth is d.
 abbrev pub shapeRowsOf : ℕ → Shape → List Row
-shapeRowsOf d s = basisRow s ∷ row (ltb d (s .depth)) 2 0 ∷ countRow s ∷ []
+shapeRowsOf d s = basisRow s ∷ row (ltb d (s .depth)) 2 0 ∷ parameterRow s ∷ countRow s ∷ []
 
 -- A call of such a build that has a shape: those rows, and then its own.
 abbrev pub callOf : {A : Type 0} → ℕ → Shape → List Row → (Refusal → A) → A → A
