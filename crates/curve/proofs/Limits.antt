@@ -183,6 +183,7 @@ weights-size b l i j = go b
   where
     r : List ℤ
     r = pos l ∷ pos 0 ∷ pos 0 ∷ pos 0 ∷ pos i ∷ pos j ∷ pos mostParameter ∷ []
+
     go : (b : Basis) → size (bounds l i j) (wide b p) ≤ whole-size (fold b) (further b) l i j
     go Bezier = omega (arith, pos-injective (solve r (added (wide Bezier alike) ⊕ left-over) (whole-sizeᵉ (num 6) (num 6)) tt))
     go BSpline = omega (arith, pos-injective (solve r (added (wide BSpline alike) ⊕ left-over) (whole-sizeᵉ (num 6) (num 6)) tt))

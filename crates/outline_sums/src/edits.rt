@@ -23,13 +23,14 @@ const SHAPE: Shape = Shape {
     basis: CARDINAL,
     depth: 0,
     count: 6,
+    parameter: 0,
 };
 
 const CONTROLS: [i32; 14] = [0, 0, 10, 0, 20, 0, 30, 0, 40, 0, 50, 0, 0, 0];
 
 // The outline before the edits, and P9 to P11.
 pub(crate) fn put_edits(text: &mut Text, at: usize) -> usize {
-    let before = put_outline(text, at, CARDINAL, 0, 6, &CONTROLS, true);
+    let before = put_outline(text, at, SHAPE, &CONTROLS, true);
     let p9 = put_insert(text, before);
     let p10 = put_remove(text, p9);
     put_move(text, p10)

@@ -10,6 +10,7 @@ use console::end_line;
 use curve::DEEPEST;
 use curve::LIMIT;
 use shape::MOST_RECORDS;
+use shape::Shape;
 
 // Depth 6, the deepest and one more; the most records, 5 and 2^32; the farthest coordinate and one more.
 pub(crate) fn put_limits(text: &mut Text, at: usize) -> usize {
@@ -27,15 +28,24 @@ fn put_counts(text: &mut Text, at: usize) -> usize {
     put_zeros(text, odd, 4294967296)
 }
 
+fn bezier(depth: usize, count: usize) -> Shape {
+    Shape {
+        basis: BEZIER,
+        depth,
+        count,
+        parameter: 0,
+    }
+}
+
 // The line of a Bezier sum of four records, of which only the last is not 0.
 fn put_last(text: &mut Text, at: usize, depth: usize, x: i32, all: bool) -> usize {
-    put_outline(text, at, BEZIER, depth, 4, &[0, 0, 0, 0, 0, 0, x, 0], all)
+    put_outline(text, at, bezier(depth, 4), &[0, 0, 0, 0, 0, 0, x, 0], all)
 }
 
 // The line of a Bezier sum whose records are all 0.
 fn put_zeros(text: &mut Text, at: usize, count: usize) -> usize {
     let past_count = add_phrase(text, at, b"Bezier", count);
     let start = add_word(text, past_count, b" records of 0 depth 1:");
-    let end = put_drawn(text, start, BEZIER, 1, count, &[0i32; ROOM], false);
+    let end = put_drawn(text, start, bezier(1, count), &[0i32; ROOM], false);
     end_line(text, end)
 }

@@ -3,6 +3,7 @@ mod drawings;
 mod edits;
 mod limits;
 mod outlines;
+mod parameters;
 
 use console::length_of;
 use console::write_output;
@@ -10,13 +11,14 @@ use console::write_output;
 // The text of the sums: as many bytes as a buffer has.
 pub(crate) type Text = [u8; 4096];
 
-// Every sum in the paper's order.
+// Every sum in the paper's order, and those of request 7.
 fn main() {
     let mut text = io::buffer();
     let past_bases = outlines::put_bases(&mut text, 0);
     let past_edits = edits::put_edits(&mut text, past_bases);
     let past_millimetres = drawings::put_millimetres(&mut text, past_edits);
-    let end = limits::put_limits(&mut text, past_millimetres);
+    let past_limits = limits::put_limits(&mut text, past_millimetres);
+    let end = parameters::put_parameters(&mut text, past_limits);
     send(&text, end);
 }
 

@@ -14,7 +14,7 @@ use shape::Shape;
 // The bases by their numbers.
 pub(crate) const BEZIER: usize = 1;
 
-const B_SPLINE: usize = 2;
+pub(crate) const B_SPLINE: usize = 2;
 
 pub(crate) const CARDINAL: usize = 3;
 
@@ -37,16 +37,13 @@ fn put_base(text: &mut Text, at: usize, number: usize) -> usize
     requires { ⌜ number < 9 ⌝ }
 {
     let start = add_word(text, at, &[b'P', b'0' + number as u8, b' ']);
-    let basis = (number + 1) / 2;
-    put_outline(
-        text,
-        start,
-        basis,
-        depth_of(number),
-        4,
-        &records_of(number),
-        true,
-    )
+    let shape = Shape {
+        basis: (number + 1) / 2,
+        depth: depth_of(number),
+        count: 4,
+        parameter: 0,
+    };
+    put_outline(text, start, shape, &records_of(number), true)
 }
 
 // The records of P1 to P8.
@@ -71,18 +68,21 @@ fn depth_of(number: usize) -> usize {
 pub(crate) fn put_outline(
     text: &mut Text,
     at: usize,
-    basis: usize,
-    depth: usize,
-    count: usize,
+    shape: Shape,
     controls: &[i32],
     all: bool,
 ) -> usize {
-    let past_basis = put_basis(text, at, basis);
-    let past_records = add_x(text, past_basis, controls, count);
-    let past_depth = add_phrase(text, past_records, b" depth", depth);
-    let start = add_word(text, past_depth, b":");
-    let end = put_drawn(text, start, basis, depth, count, controls, all);
+    let past_shape = put_shape(text, at, shape, controls);
+    let start = add_word(text, past_shape, b":");
+    let end = put_drawn(text, start, shape, controls, all);
     end_line(text, end)
+}
+
+// The basis, the records' x and the depth.
+pub(crate) fn put_shape(text: &mut Text, at: usize, shape: Shape, controls: &[i32]) -> usize {
+    let past_basis = put_basis(text, at, shape.basis);
+    let past_records = add_x(text, past_basis, controls, shape.count);
+    add_phrase(text, past_records, b" depth", shape.depth)
 }
 
 fn put_basis(text: &mut Text, at: usize, basis: usize) -> usize {
@@ -98,22 +98,12 @@ fn put_basis(text: &mut Text, at: usize, basis: usize) -> usize {
 pub(crate) fn put_drawn(
     text: &mut Text,
     at: usize,
-    basis: usize,
-    depth: usize,
-    count: usize,
+    shape: Shape,
     controls: &[i32],
     all: bool,
 ) -> usize {
     let mut points = [0i32; ROOM];
-    match by_weights(
-        Shape {
-            basis,
-            depth,
-            count,
-        },
-        controls,
-        &mut points,
-    ) {
+    match by_weights(shape, controls, &mut points) {
         Drawn::Done(figures) => {
             let end = if all {
                 add_x(text, at, &points, figures.points)

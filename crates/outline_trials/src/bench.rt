@@ -29,6 +29,7 @@ impl Bench {
                 basis: 0,
                 depth: 0,
                 count: 0,
+                parameter: 0,
             },
             state,
             controls: 0,

@@ -87,6 +87,7 @@ fn edited(bench: Bench, answer: Edited) -> Turn {
                     change.first,
                     change.fresh,
                     change.exact,
+                    shape.parameter,
                 ],
             );
             go_on(is_written, bench.with_shape(shape))
@@ -188,7 +189,10 @@ pub(crate) fn read_file(bench: Bench, file: &[u8], controls: &mut [i32]) -> Turn
     match record_file::read(file, controls) {
         Reading::Refused(refusal) => go_on(say_refusal(refusal), bench),
         Reading::Read(shape) => {
-            let is_written = say(b"read", &[shape.basis, shape.depth, shape.count]);
+            let is_written = say(
+                b"read",
+                &[shape.basis, shape.depth, shape.count, shape.parameter],
+            );
             go_on(is_written, bench.with_shape(shape))
         }
     }

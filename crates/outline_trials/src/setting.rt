@@ -75,10 +75,14 @@ fn set_shape(bench: Bench, r: Record) -> Turn {
     if r.c > MOST_32 {
         return Turn::Bad;
     }
+    if r.d > MOST_32 {
+        return Turn::Bad;
+    }
     Turn::Next(bench.with_shape(Shape {
         basis: r.a as usize,
         depth: r.b as usize,
         count: r.c as usize,
+        parameter: r.d as usize,
     }))
 }
 

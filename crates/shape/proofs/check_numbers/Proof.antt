@@ -48,17 +48,20 @@ returns-4 c =
     let h = t .before .before .before in
     let s = h .before .before .args .shape in
     refused s _
-    (inr (basis-passed s (h .before .if1 .left) (h .if2 .left),
-    inr (le-ltb deepest (s .depth) (t .before .if3 .left), inl (simp (eq-eqb (s .basis) cardinal (t .if4 .taken), lt-ltb mostParameter (s .parameter) (c .if5 .taken)), refl))))
+    (inr (
+      basis-passed s (h .before .if1 .left) (h .if2 .left),
+      inr (le-ltb deepest (s .depth) (t .before .if3 .left), inl (simp (eq-eqb (s .basis) cardinal (t .if4 .taken), lt-ltb mostParameter (s .parameter) (c .if5 .taken)), refl)),
+    ))
 
 returns-5 : tie.Need-returns-5
 returns-5 c =
     let t = c .before .before in
     let h = t .before .before .before in
     let s = h .before .before .args .shape in
-    passed s
-    (basis-passed s (h .before .if1 .left) (h .if2 .left),
-    (le-ltb deepest (s .depth) (t .before .if3 .left), (simp (eq-eqb (s .basis) cardinal (t .if4 .taken), le-ltb mostParameter (s .parameter) (c .if5 .left)), tt)))
+    passed s (
+      basis-passed s (h .before .if1 .left) (h .if2 .left),
+      (le-ltb deepest (s .depth) (t .before .if3 .left), (simp (eq-eqb (s .basis) cardinal (t .if4 .taken), le-ltb mostParameter (s .parameter) (c .if5 .left)), tt)),
+    )
 
 returns-6 : tie.Need-returns-6
 returns-6 c =
