@@ -8,7 +8,7 @@ from typing import Sequence, Tuple
 
 import refusal
 from refusal import Refusal
-from shape import DEEPEST, STRIDE, Shape, count_allowed, point_count
+from shape import CARDINAL, DEEPEST, STRIDE, WHOLE_PARAMETER, Shape, count_allowed, point_count
 
 CONTROL_LIMIT = 4_000_000
 
@@ -19,14 +19,37 @@ def within(limit: int, numbers: Sequence[int]) -> bool:
     return all(-limit <= number <= limit for number in numbers)
 
 
-def check_shape(shape: Shape) -> None:
-    """1, 2 and 3: basis, depth and count."""
+def check_basis(shape: Shape) -> None:
+    """1: there is no such basis."""
     if shape.basis not in STRIDE:
         raise Refusal(refusal.BASIS)
+
+
+def check_depth(shape: Shape) -> None:
+    """2: the depth is past the deepest."""
     if shape.depth > DEEPEST:
         raise Refusal(refusal.DEPTH)
+
+
+def check_parameter(shape: Shape) -> None:
+    """24: the parameter is above one; for other bases than the cardinal it is not looked at."""
+    if shape.basis == CARDINAL and shape.parameter > WHOLE_PARAMETER:
+        raise Refusal(refusal.PARAMETER)
+
+
+def check_count(shape: Shape) -> None:
+    """3: the basis does not allow so many records."""
     if not count_allowed(shape):
         raise Refusal(refusal.COUNT)
+
+
+SHAPE_CHECKS = (check_basis, check_depth, check_parameter, check_count)
+
+
+def check_shape(shape: Shape) -> None:
+    """1, 2, 24 and 3, in this order."""
+    for check in SHAPE_CHECKS:
+        check(shape)
 
 
 def check_offered(shape: Shape, bases: Sequence[int]) -> None:

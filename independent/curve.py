@@ -5,10 +5,12 @@ the basis and G holds the span's four records.  Nothing is rounded before the en
 """
 
 from fractions import Fraction
+from functools import lru_cache
 from math import floor
 from typing import Iterable, List, Sequence, Tuple
 
-from shape import B_SPLINE, BEZIER, CARDINAL, HERMITE, Shape, point_count, span_records, spans
+from shape import (B_SPLINE, BEZIER, CARDINAL, HERMITE, ONE_HALF, WHOLE_PARAMETER, Shape, point_count, span_records,
+                   spans)
 
 Matrix = Tuple[Tuple[Fraction, ...], ...]
 
@@ -27,6 +29,11 @@ def cardinal_matrix(s: Fraction) -> Matrix:
     ))
 
 
+def parameter_value(parameter: int) -> Fraction:
+    """What a cardinal shape's parameter stands for: 64ths, and zero for one half (document 02, request 7)."""
+    return Fraction(1, 2) if parameter == ONE_HALF else Fraction(parameter, WHOLE_PARAMETER)
+
+
 MATRIX = {
     # Document 000, (14); document 001, "The Bezier Spline Matrix".
     BEZIER: scaled(Fraction(1), (
@@ -43,7 +50,6 @@ MATRIX = {
         (-3, 0, 3, 0),
         (1, 4, 1, 0),
     )),
-    CARDINAL: cardinal_matrix(Fraction(1, 2)),
     # Document 000, (9); document 001, "The Cubic Hermite Spline Equation".
     HERMITE: scaled(Fraction(1), (
         (2, -2, 1, 1),
@@ -52,6 +58,13 @@ MATRIX = {
         (1, 0, 0, 0),
     )),
 }
+
+
+@lru_cache(maxsize=None)
+def matrix(basis: int, parameter: int) -> Matrix:
+    """The matrix of the basis; only the cardinal one has a parameter in it."""
+    return cardinal_matrix(parameter_value(parameter)) if basis == CARDINAL else MATRIX[basis]
+
 
 # Which of a span's records stands in each row of G.  The Hermite equation has
 # both ends before both tangents; a record list has each end before its tangent.
@@ -67,10 +80,10 @@ def product(row: Sequence[Fraction], column: Sequence[Fraction]) -> Fraction:
     return sum((a * b for a, b in zip(row, column)), Fraction(0))
 
 
-def cubic(basis: int, four: Sequence[int]) -> List[Fraction]:
+def cubic(basis: int, four: Sequence[int], parameter: int = ONE_HALF) -> List[Fraction]:
     """M G for one axis: the coefficients of t^3, t^2, t and 1."""
     geometry = [four[place] for place in GEOMETRY[basis]]
-    return [product(row, geometry) for row in MATRIX[basis]]
+    return [product(row, geometry) for row in matrix(basis, parameter)]
 
 
 def powers(t: Fraction) -> Tuple[Fraction, ...]:
@@ -92,7 +105,7 @@ def exact_outline(shape: Shape, controls: Sequence[int]) -> List[Fraction]:
 def span_cubics(shape: Shape, controls: Sequence[int], span: int) -> List[List[Fraction]]:
     """The cubic of a span in x and the one in y."""
     records = span_records(shape, span)
-    return [cubic(shape.basis, [controls[2 * j + axis] for j in records]) for axis in (0, 1)]
+    return [cubic(shape.basis, [controls[2 * j + axis] for j in records], shape.parameter) for axis in (0, 1)]
 
 
 def whole_values(values: Iterable[Fraction]) -> int:

@@ -1,6 +1,7 @@
 """The house record file and its two listings: document 01, "Record file" and "Sums to hold it to".
 
-A file is listed evenly, or with points chosen by tolerance (document 02, request 3).
+A file is listed evenly, or with points chosen by tolerance (document 02, request 3).  Byte 2
+is a cardinal curve's parameter (request 7).
 """
 
 import struct
@@ -10,11 +11,12 @@ import refusal
 from checks import check_controls_room, check_limits, check_shape
 from outline import formula_points, rounded
 from refusal import Refusal
-from shape import MOST_RECORDS, Shape, spans
+from shape import CARDINAL, MOST_RECORDS, Shape, spans
 from tolerance import chosen
 
-# Basis, depth, two spare bytes, x and y, low byte first.
-RECORD = struct.Struct("<BBHii")
+# Basis, depth, parameter, a spare byte, x and y, low byte first.
+RECORD = struct.Struct("<BBBBii")
+HEAD_BYTES = 4
 LONGEST = MOST_RECORDS * RECORD.size
 
 
@@ -25,11 +27,11 @@ def read(file: bytes, controls: List[int]) -> Shape:
     if len(file) % RECORD.size:
         raise Refusal(refusal.FILE_LENGTH)
     records = list(RECORD.iter_unpack(file))
-    basis, depth = records[0][:2]
     for place, record in enumerate(records):
-        check_record(record, basis, depth, place)
-    shape = Shape(basis, depth, len(records))
-    numbers = [number for record in records for number in record[3:]]
+        check_record(record, records[0], place)
+    basis, depth, parameter = records[0][:3]
+    shape = Shape(basis, depth, len(records), parameter)
+    numbers = [number for record in records for number in record[HEAD_BYTES:]]
     check_shape(shape)
     check_controls_room(controls, shape.count)
     check_limits(numbers, shape.count)
@@ -37,11 +39,12 @@ def read(file: bytes, controls: List[int]) -> Shape:
     return shape
 
 
-def check_record(record: tuple, basis: int, depth: int, place: int) -> None:
-    """14 and then 15, at one record."""
-    if record[2] != 0:
+def check_record(record: tuple, first: tuple, place: int) -> None:
+    """14 and then 15, at one record: its own basis says whether it may carry a parameter."""
+    basis, _, parameter, spare = record[:HEAD_BYTES]
+    if spare != 0 or basis != CARDINAL and parameter != 0:
         raise Refusal(refusal.SPARE_BYTES, place)
-    if record[:2] != (basis, depth):
+    if record[:3] != first[:3]:
         raise Refusal(refusal.UNLIKE_FIRST, place)
 
 

@@ -18,6 +18,7 @@ UNLIKE_FIRST = 15
 TOLERANCE = 20
 NOT_FLAT = 21
 CUTS = 22
+PARAMETER = 24
 
 
 class Refusal(Exception):

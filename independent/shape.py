@@ -12,14 +12,18 @@ SPAN_RECORDS = 4
 MOST_RECORDS = 64
 # Document 02, request 10; document 01 has 6.
 DEEPEST = 8
+# Document 02, request 7: a cardinal curve's parameter is so many 64ths, and zero is one half.
+WHOLE_PARAMETER = 64
+ONE_HALF = 0
 
 
 class Shape(NamedTuple):
-    """Basis, depth k and control count n; nothing is promised of the three."""
+    """Basis, depth k, control count n and parameter; nothing is promised of the four."""
 
     basis: int
     depth: int
     count: int
+    parameter: int = ONE_HALF
 
 
 def count_allowed(shape: Shape) -> bool:

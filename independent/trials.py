@@ -96,8 +96,8 @@ class Bench:
         self.preview = [float(fill)] * fit(preview, 0, MOST_PREVIEW)
         return []
 
-    def set_shape(self, basis: int, depth: int, count: int, *_: int) -> Lines:
-        self.shape = Shape(unsigned_32(basis), unsigned_32(depth), unsigned_32(count))
+    def set_shape(self, *numbers: int) -> Lines:
+        self.shape = Shape(*map(unsigned_32, numbers[:len(self.shape)]))
         return []
 
     def set_control(self, at: int, number: int, *_: int) -> Lines:
@@ -136,8 +136,8 @@ class Bench:
         return self.edited(remove(self.shape, self.controls, self.points, natural(place)))
 
     def edited(self, answer: Edited) -> Lines:
-        self.shape = answer.shape
-        return [f"edited {line(answer.shape)} {answer.first} {answer.fresh} {answer.exact}"]
+        basis, depth, count, parameter = self.shape = answer.shape
+        return [f"edited {line((basis, depth, count, answer.first, answer.fresh, answer.exact, parameter))}"]
 
     def view(self, span: int, *_: int) -> Lines:
         part = view(self.shape, self.points, natural(span))

@@ -15,7 +15,7 @@ from make_trials import exact, tolerance
 from make_trials.defects import EDITS, FULL, OFFERED, bad_shape, call, lend_for, needs, sound_shape
 from make_trials.dice import ALL_BASES, DEEPEST_BEFORE, Dice
 from make_trials.edits import edits_of
-from make_trials.files import DEPTH_BYTE, SPARE_BYTES, spoil
+from make_trials.files import DEPTH_BYTE, PARAMETER_BYTE, ZERO_BYTES, spoil
 from make_trials.halves import ALL_SIDES, AXES, Side, X, half_coordinate, sides, told_apart
 from make_trials.outlines import WAYS
 from make_trials.script import ACCEPTED, Script, file_of
@@ -380,8 +380,9 @@ def damaged_files(script: Script) -> None:
         shape, numbers = Shape(dice.pick(ALL_BASES), depth, SPAN_RECORDS), dice.numbers(SPAN_RECORDS)
         good = file_of(shape, numbers)
         far = file_of(shape, numbers[:-1] + [dice.outside()])
+        zero = dice.pick(ZERO_BYTES)
         for file, room, number in (
-                (good[:-1], 8, refusal.FILE_LENGTH), (spoilt(good, dice.pick(SPARE_BYTES), 1), 8, refusal.SPARE_BYTES),
+                (good[:-1], 8, refusal.FILE_LENGTH), (spoilt(good, zero, 1), 8, set_in_a_later_record(shape, zero)),
                 (spoilt(good, DEPTH_BYTE, DEEPEST_BEFORE), 8, refusal.UNLIKE_FIRST),
                 (file_of(shape._replace(basis=0), numbers), 8, refusal.BASIS),
                 (good[:-12], 8, after_depth(depth, refusal.COUNT)),
@@ -389,6 +390,11 @@ def damaged_files(script: Script) -> None:
             script.lend(room, 0)
             script.put_file(file)
             comes_to(script, number, trials.READ_FILE)
+
+
+def set_in_a_later_record(shape: Shape, zero: int) -> int:
+    """What a byte that is zero in record 0 gives: a cardinal record may have a parameter, but not one of its own."""
+    return refusal.UNLIKE_FIRST if (shape.basis, zero) == (CARDINAL, PARAMETER_BYTE) else refusal.SPARE_BYTES
 
 
 def spoilt(good: bytes, byte: int, value: int) -> bytes:

@@ -94,8 +94,8 @@ def one_edit(script: Script, op: int, shape: Shape) -> None:
 
 
 def figure(script: Script) -> int:
-    """The figure of the last edit: its line's last number."""
-    return int(script.lines[0].split()[-1])
+    """The figure of the last edit: its line's last number but the parameter."""
+    return int(script.lines[0].split()[-2])
 
 
 def none_fresh(script: Script) -> None:

@@ -12,8 +12,9 @@ from shape import B_SPLINE, CARDINAL, HERMITE, MOST_RECORDS, SPAN_RECORDS, Shape
 DEFECTS = ("length", "spare", "unlike basis", "unlike depth", "basis", "depth", "count", "controls", "limit")
 Defects = Collection[str]
 
-BASIS_BYTE, DEPTH_BYTE, SPARE_BYTES = 0, 1, (2, 3)
-HEAD_BYTES = (BASIS_BYTE, DEPTH_BYTE, *SPARE_BYTES)
+BASIS_BYTE, DEPTH_BYTE, PARAMETER_BYTE, SPARE_BYTE = HEAD_BYTES = 0, 1, 2, 3
+# Zero in every record, but for the parameter of a cardinal one.
+ZERO_BYTES = PARAMETER_BYTE, SPARE_BYTE
 
 
 def spoil(file: bytearray, record: int, byte: int, value: int) -> None:
@@ -41,7 +42,7 @@ def damaged_file(script: Script, sound: Shape, defects: Defects) -> bytes:
             numbers[dice.below(len(numbers))] = dice.outside()
     file = bytearray(file_of(shape, numbers))
     if "spare" in defects:
-        spoil(file, dice.below(shape.count), dice.pick(SPARE_BYTES), dice.between(1, 255))
+        spoil(file, dice.below(shape.count), dice.pick(ZERO_BYTES), dice.between(1, 255))
     if "unlike basis" in defects:
         spoil(file, dice.below(shape.count), BASIS_BYTE, dice.below(HERMITE + 2))
     if "unlike depth" in defects:
@@ -92,14 +93,14 @@ def lengths(script: Script) -> None:
 
 
 def record_by_record(script: Script) -> None:
-    """A spare byte set in one record and a head unlike the first in another, at every two places."""
+    """A byte that is zero set in one record and a head unlike the first in another, at every two places."""
     dice = script.dice
     shape = Shape(B_SPLINE, 1, SPAN_RECORDS)
     script.lend(2 * shape.count, 0)
     for spare in range(shape.count):
         for unlike in range(shape.count):
             file = bytearray(file_of(shape, dice.numbers(shape.count)))
-            spoil(file, spare, dice.pick(SPARE_BYTES), dice.between(1, 255))
+            spoil(file, spare, dice.pick(ZERO_BYTES), dice.between(1, 255))
             spoil(file, unlike, *dice.pick(((BASIS_BYTE, CARDINAL), (DEPTH_BYTE, 2))))
             script.put_file(bytes(file))
             script.say(trials.READ_FILE)

@@ -30,7 +30,7 @@ def encode(op: int, numbers: Sequence[Number]) -> bytes:
 
 def file_of(shape: Shape, numbers: Sequence[int]) -> bytes:
     """A record file; nothing says that it is a good one."""
-    return b"".join(RECORD.pack(shape.basis, shape.depth, 0, *numbers[2 * record:2 * record + 2])
+    return b"".join(RECORD.pack(shape.basis, shape.depth, shape.parameter, 0, *numbers[2 * record:2 * record + 2])
                     for record in range(shape.count))
 
 
