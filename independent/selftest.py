@@ -60,6 +60,13 @@ Bezier 5 records of 0 depth 1: refused 3 0
 Bezier 4294967296 records of 0 depth 1: refused 3 0
 Bezier 0 0 0 4000000 depth 1: 0 500000 4000000 exact 6
 Bezier 0 0 0 4000001 depth 1: refused 8 3
+cardinal 0 1000 1000 0 depth 1 parameter 0: 1000 1125 1000 exact 6
+cardinal 0 1000 1000 0 depth 1 parameter 16: 1000 1063 1000 exact 5
+cardinal 0 1000 1000 0 depth 1 parameter 64: 1000 1250 1000 exact 6
+cardinal 0 1000 1000 0 depth 1 parameter 65: refused 24 0
+cardinal -4000000 4000000 4000000 -4000000 depth 1 parameter 64: 4000000 6000000 4000000 exact 6
+cardinal 4000000 -4000000 -4000000 4000000 depth 1 parameter 64: -4000000 -6000000 -4000000 exact 6
+B-spline 0 6 12 18 depth 1 parameter 65: 6 9 12 exact 6
 """
 
 SEED = 2024

@@ -2,6 +2,7 @@
 
 A sum is over one axis: its numbers are the x of records whose y is 0, and the x
 of the points is what is written.  The limit of depth is that of document 02, request 10.
+The last sums are of request 7: cardinal curves with a parameter, and what it is not looked at for.
 """
 
 from typing import Iterator, List, Sequence
@@ -10,7 +11,7 @@ from drawing import NOTHING_DRAWN, Step, take
 from edits import Edited, insert, move, remove
 from outline import draw
 from refusal import Refusal
-from shape import B_SPLINE, BEZIER, CARDINAL, DEEPEST, HERMITE, Shape, point_count
+from shape import B_SPLINE, BEZIER, CARDINAL, DEEPEST, HERMITE, ONE_HALF, Shape, point_count
 
 NAME = {BEZIER: "Bezier", B_SPLINE: "B-spline", CARDINAL: "cardinal", HERMITE: "Hermite"}
 
@@ -29,8 +30,8 @@ def on_x(numbers: Sequence[int]) -> List[int]:
     return pairs + [0] * (ROOM - len(pairs))
 
 
-def drawn(basis: int, depth: int, numbers: Sequence[int]) -> str:
-    shape = Shape(basis, depth, len(numbers))
+def drawn(basis: int, depth: int, numbers: Sequence[int], parameter: int = ONE_HALF) -> str:
+    shape = Shape(basis, depth, len(numbers), parameter)
     points = [0] * ROOM
     answer = draw(shape, on_x(numbers), points)
     return f"{words(points[0:2 * answer.points:2])} exact {answer.exact}"
@@ -38,6 +39,11 @@ def drawn(basis: int, depth: int, numbers: Sequence[int]) -> str:
 
 def outline_sum(label: str, basis: int, depth: int, numbers: Sequence[int]) -> str:
     return f"{label}{NAME[basis]} {words(numbers)} depth {depth}: {result(drawn, basis, depth, numbers)}"
+
+
+def parameter_sum(basis: int, numbers: Sequence[int], parameter: int) -> str:
+    told = result(drawn, basis, 1, numbers, parameter)
+    return f"{NAME[basis]} {words(numbers)} depth 1 parameter {parameter}: {told}"
 
 
 def only_counted(depth: int, count: int, controls: Sequence[int]) -> str:
@@ -99,3 +105,8 @@ def sums() -> Iterator[str]:
         yield f"Bezier {count} records of 0 depth 1: {result(only_counted, 1, count, on_x(()))}"
     for coordinate in (4000000, 4000001):
         yield outline_sum("", BEZIER, 1, (0, 0, 0, coordinate))
+    for parameter in (0, 16, 64, 65):
+        yield parameter_sum(CARDINAL, (0, 1000, 1000, 0), parameter)
+    for farthest in (4000000, -4000000):
+        yield parameter_sum(CARDINAL, (-farthest, farthest, farthest, -farthest), 64)
+    yield parameter_sum(B_SPLINE, (0, 6, 12, 18), 65)
