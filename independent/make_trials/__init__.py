@@ -3,13 +3,14 @@
 from collections import Counter
 
 import refusal
-from make_trials import defects, depths, drawings, edits, exact, files, halves, outlines, tolerance
+from make_trials import (defects, depths, drawings, edits, exact, files, halves, outlines, taut_edits, taut_files,
+                         tautness, tolerance)
 from make_trials.script import Script
 
 SEED = 0x0123_4567_89AB_CDEF
 FEWEST_CALLS = 2000
 FEWEST_OF_EACH_REFUSAL = 3
-GIVEN = (*range(refusal.BASIS, refusal.UNLIKE_FIRST + 1), *range(refusal.TOLERANCE, refusal.CUTS + 1))
+GIVEN = (*range(refusal.BASIS, refusal.UNLIKE_FIRST + 1), *range(refusal.TOLERANCE, refusal.CUTS + 1), refusal.PARAMETER)
 
 SECTIONS = (
     outlines.every_way, outlines.ties, outlines.longest, outlines.views, outlines.previews, outlines.long_previews,
@@ -26,6 +27,13 @@ SECTIONS = (
     depths.views, depths.previews, depths.longest_preview, depths.edits, depths.run_of_edits, depths.longest_edits,
     depths.refusals, depths.by_tolerance, depths.no_deeper, depths.refusals_by_tolerance,
     depths.files, depths.longest_listing, depths.damaged_files,
+    tautness.every_parameter, tautness.one_half, tautness.every_depth, tautness.too_large, tautness.farthest,
+    tautness.longest, tautness.at_halves, tautness.figures, tautness.views, tautness.previews,
+    taut_edits.every_place, taut_edits.half_edits, taut_edits.runs, taut_edits.stale_points,
+    taut_edits.drawn_outlines_stay_drawn, taut_edits.handed_on,
+    tautness.refusals, tautness.by_tolerance, tautness.thresholds, tautness.refusals_by_tolerance,
+    taut_files.files, taut_files.mixed_files, taut_files.two_places, taut_files.damaged_files, taut_files.late_damage,
+    taut_files.long_listing,
 )
 
 

@@ -68,7 +68,16 @@ def one_call(script: Script, op: int, defects: Defects) -> None:
 
 
 def lend_for(script: Script, op: int, shape: Shape, defects: Defects) -> None:
-    """The lists that the call needs, but for rows 7, 8 and 9."""
+    """The lists that the call needs, with some controls unlike the others, but for rows 7, 8 and 9."""
+    controls = lend_room(script, op, shape, defects)
+    for _ in range(min(controls, 4)):
+        script.say(trials.SET_CONTROL, script.dice.below(controls), script.dice.coordinate())
+    if "limit" in defects and controls:
+        spoil_controls(script, min(controls, 2 * shape.count))
+
+
+def lend_room(script: Script, op: int, shape: Shape, defects: Defects) -> int:
+    """Lists as long as the call needs, but for rows 7 and 9; how many controls numbers there are."""
     dice = script.dice
     controls, points = needs(op, shape)
     if "controls" in defects:
@@ -76,11 +85,13 @@ def lend_for(script: Script, op: int, shape: Shape, defects: Defects) -> None:
     if "points" in defects:
         points -= dice.pick((1, 1, 2, points))
     script.lend(controls, points, points if op == trials.PREVIEW else 0, dice.coordinate())
-    for _ in range(min(controls, 4)):
-        script.say(trials.SET_CONTROL, dice.below(controls), dice.coordinate())
-    if "limit" in defects and controls:
-        for _ in range(dice.between(1, 2)):
-            script.say(trials.SET_CONTROL, dice.below(min(controls, 2 * shape.count)), dice.outside())
+    return controls
+
+
+def spoil_controls(script: Script, controls: int) -> None:
+    """One or two of so many controls numbers are outside the limits."""
+    for _ in range(script.dice.between(1, 2)):
+        script.say(trials.SET_CONTROL, script.dice.below(controls), script.dice.outside())
 
 
 def call(script: Script, op: int, shape: Shape, defects: Defects) -> None:

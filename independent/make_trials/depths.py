@@ -345,7 +345,7 @@ def no_deeper(script: Script) -> None:
 
 def refusals_by_tolerance(script: Script) -> None:
     """Each defect, and none, at depths 7 and 8 and past them."""
-    for name in tolerance.FOUND:
+    for name in tolerance.DEFECTS:
         for depth in (*DEEP, *TOO_DEEP):
             tolerance.one_call(script, Shape(script.dice.pick(ALL_BASES), depth, SPAN_RECORDS), {name} - {"depth"})
 

@@ -14,7 +14,7 @@ from curve import exact_outline, whole_values
 from make_trials.defects import CHANGE, needs
 from make_trials.dice import ALL_BASES, DEEPEST_BEFORE, Dice
 from make_trials.edits import edits_of
-from make_trials.halves import DIVISOR
+from make_trials.halves import divisor
 from make_trials.outlines import WAYS
 from make_trials.script import ACCEPTED, Script
 from shape import B_SPLINE, CARDINAL, SPAN_RECORDS, STRIDE, Shape, point_count
@@ -25,7 +25,7 @@ MOST = 9
 
 def grained(dice: Dice, shape: Shape, count: int) -> List[int]:
     """The numbers of that many records, each a multiple of a grain; the coarsest grain makes every point whole."""
-    grains = [DIVISOR[shape.basis] * 2 ** dice.between(0, 3 * shape.depth) for _ in range(2 * count)]
+    grains = [divisor(shape) * 2 ** dice.between(0, 3 * shape.depth) for _ in range(2 * count)]
     return [grain * dice.sign() * dice.below(min(MOST, CONTROL_LIMIT // grain) + 1) for grain in grains]
 
 

@@ -10,7 +10,7 @@ from typing import List, Optional, Sequence, Set, Tuple
 
 import trials
 from checks import Record
-from curve import cubic, exact_outline, powers, product
+from curve import cubic, exact_outline, parameter_value, powers, product
 from drawing import MICROMETRES_PER_MM
 from make_trials.defects import CHANGE, needs
 from make_trials.dice import ALL_BASES, DEEPEST_BEFORE, Dice
@@ -27,9 +27,6 @@ MIRRORS = (None, X, Y)
 Side = Tuple[int, bool]
 ALL_SIDES = {(axis, above) for axis in AXES for above in (False, True)}
 BELOW = {(axis, False) for axis in AXES}
-
-# The least whole number, over 2^(3k), that makes every share of a record in a point whole.
-DIVISOR = {BEZIER: 1, B_SPLINE: 6, CARDINAL: 2, HERMITE: 1}
 
 # Every exact half of a micrometre that a double can be is an odd sixteenth of a millimetre.
 PER_MM = 16
@@ -51,12 +48,18 @@ def told_apart(values: Sequence[Fraction], rounded: Sequence[int]) -> bool:
     return [floor(value + Fraction(1, 2)) for value in values] != list(rounded)
 
 
+def divisor(shape: Shape) -> int:
+    """The least whole number, over 2^(3k), that makes every share of a record in a point whole."""
+    return {BEZIER: 1, B_SPLINE: 6, CARDINAL: parameter_value(shape.parameter).denominator, HERMITE: 1}[shape.basis]
+
+
 def half_coordinate(dice: Dice, shape: Shape, three: Sequence[int], step: int) -> int:
     """What a span's last record must be, after the other three, for the point at a step to be an exact half."""
-    divisor = DIVISOR[shape.basis] * 8 ** shape.depth
+    whole = divisor(shape) * 8 ** shape.depth
     t = powers(Fraction(step, 2 ** shape.depth))
-    others, share = (int(divisor * product(t, cubic(shape.basis, four))) for four in ((*three, 0), (0, 0, 0, 1)))
-    return (divisor // 2 - others) * pow(share, -1, divisor) % divisor - dice.pick((0, divisor))
+    others, share = (int(whole * product(t, cubic(shape.basis, four, shape.parameter)))
+                     for four in ((*three, 0), (0, 0, 0, 1)))
+    return (whole // 2 - others) * pow(share, -1, whole) % whole - dice.pick((0, whole))
 
 
 def half_record(dice: Dice, shape: Shape, controls: Sequence[int], span: int) -> Record:

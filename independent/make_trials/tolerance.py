@@ -20,8 +20,8 @@ from make_trials.rules import (ANEW_EACH_SPAN, AXES_ADDED, EXCHANGED, FIRST_CUT_
                                ONLY_FIRST, ONLY_LAST, ONLY_X, ONLY_Y, RIGHT, RIGHT_FIRST, ROUNDED, STRICT, Rule, Walk,
                                bends)
 from make_trials.script import ACCEPTED, Script
-from shape import (B_SPLINE, BEZIER, CARDINAL, DEEPEST, HERMITE, MOST_RECORDS, SPAN_RECORDS, STRIDE, Shape,
-                   point_count, spans)
+from shape import (B_SPLINE, BEZIER, CARDINAL, DEEPEST, HERMITE, MOST_RECORDS, SPAN_RECORDS, STRIDE, WHOLE_PARAMETER,
+                   Shape, point_count, spans)
 from tolerance import FINEST, MOST_TOLERANCE, span_pieces
 
 # More cuts than any outline needs, and all that a span can have.
@@ -119,18 +119,19 @@ def outlines(script: Script) -> None:
 
 # What can be wrong with a call, in the order in which it is found.  Where the cuts run out before the piece that
 # stays bent is met, 22 comes before 21.
-FOUND = {"basis": refusal.BASIS, "depth": refusal.DEPTH, "count": refusal.COUNT, "controls": refusal.CONTROLS_SHORT,
-         "limit": refusal.LIMITS, "tolerance": refusal.TOLERANCE, "most": refusal.CUTS, "bent": refusal.NOT_FLAT,
-         "points": refusal.POINTS_SHORT}
+FOUND = {"basis": refusal.BASIS, "depth": refusal.DEPTH, "parameter": refusal.PARAMETER, "count": refusal.COUNT,
+         "controls": refusal.CONTROLS_SHORT, "limit": refusal.LIMITS, "tolerance": refusal.TOLERANCE,
+         "most": refusal.CUTS, "bent": refusal.NOT_FLAT, "points": refusal.POINTS_SHORT}
+# What is tried here; the parameter is not, so that the records stay what they were.
+DEFECTS = tuple(name for name in FOUND if name != "parameter")
 TOO_MUCH = (MOST_TOLERANCE + 1, 2 ** 15, 2 ** 31, 2 ** 32, 2 ** 32 + MOST_TOLERANCE, 2 ** 62, 2 ** 63 - 1)
 
 
 def refusals(script: Script) -> None:
     """Each defect alone and each two of them."""
     dice = script.dice
-    names = list(FOUND)
-    for first, name in enumerate(names):
-        for other in names[first:]:
+    for first, name in enumerate(DEFECTS):
+        for other in DEFECTS[first:]:
             one_call(script, Shape(dice.pick(ALL_BASES), dice.below(DEEPEST_BEFORE + 1), SPAN_RECORDS), {name, other})
 
 
@@ -154,9 +155,9 @@ def one_call(script: Script, shape: Shape, defects: Collection[str]) -> None:
 
 
 def first_found(laid: Shape, defects: Collection[str]) -> int:
-    """The number of what is found first; its depth is wrong where it is past the deepest, and only there."""
-    wrong = {*defects, "depth"} if laid.depth > DEEPEST else {*defects} - {"depth"}
-    return next((number for name, number in FOUND.items() if name in wrong), ACCEPTED)
+    """The number of what is found first; depth and parameter are wrong where they are past their most, and only there."""
+    past = {"depth": laid.depth > DEEPEST, "parameter": laid.basis == CARDINAL and laid.parameter > WHOLE_PARAMETER}
+    return next((number for name, number in FOUND.items() if past.get(name, name in defects)), ACCEPTED)
 
 
 def asked(dice: Dice, shape: Shape, controls: Sequence[int], defects: Collection[str]) -> Tuple[int, int, int]:
