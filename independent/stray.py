@@ -11,18 +11,20 @@ from math import ceil, floor, sqrt
 from typing import Dict, Iterator, List, NamedTuple, Sequence, Tuple
 
 from checks import CONTROL_LIMIT
-from curve import cubic, nearest, powers, product, span_cubics
+from curve import cubic, nearest, parameter_value, powers, product, span_cubics
 from make_trials.dice import ALL_BASES, Dice
 from make_trials.tolerance import ANY_CUTS, any_outline
 from record_file import read
 from refusal import Refusal
-from shape import B_SPLINE, BEZIER, CARDINAL, DEEPEST, HERMITE, MOST_RECORDS, Shape, spans
+from shape import B_SPLINE, BEZIER, CARDINAL, DEEPEST, HERMITE, MOST_RECORDS, ONE_HALF, WHOLE_PARAMETER, Shape, spans
 from tolerance import Piece, bezier_controls, cubic_over, flat_pieces, second_differences, span_pieces
 
 SEED = 1981
 HALF = Fraction(1, 2)
 FINE = 2 ** 24
 NAMES = {BEZIER: "Bezier", B_SPLINE: "B-spline", CARDINAL: "cardinal", HERMITE: "Hermite"}
+# Cardinal curves are tried at one half and at these (document 02, request 7).
+TAUT = (1, 3, 48, WHOLE_PARAMETER)
 
 Cubic = Sequence[Fraction]
 
@@ -117,16 +119,30 @@ def piece_strays(piece: Cubic) -> Tuple[Fraction, Fraction]:
 # ---- spans to try
 
 
-def parabola(basis: int, start: int, slope: int, second: int) -> List[int]:
-    """Four records that make a parabola, both of whose second differences are the one given."""
+def parabola(basis: int, start: int, slope: int, second: int, parameter: int = ONE_HALF) -> List[int]:
+    """Four records that make a parabola, both of whose second differences are the one given.
+
+    For a cardinal curve they are so many times it as the numerator of its parameter says, so that the records are whole.
+    """
     if basis == BEZIER:
         return [start, start + slope, start + 2 * slope + second, start + 3 * slope + 3 * second]
     if basis == HERMITE:
         return [start, slope, start + slope + 3 * second, slope + 6 * second]
+    if basis == CARDINAL:
+        over, under = parameter_value(parameter).as_integer_ratio()
+        start = start + slope + 3 * second
+        end = start + over * (slope + 9 * second)
+        return [end - under * (slope + 6 * second), start, end, start + under * (slope + 12 * second)]
     return [start + slope * place + 3 * second * place ** 2 for place in range(4)]
 
 
-def fours(dice: Dice, basis: int) -> Iterator[List[int]]:
+def steepest(parameter: int) -> Tuple[int, int]:
+    """The greatest slope and second difference of parabolas to try, less where the parameter sets records far apart."""
+    apart = max(parameter_value(parameter).denominator // 2, 1)
+    return 50_000 // apart, 100_000 // apart
+
+
+def fours(dice: Dice, basis: int, parameter: int) -> Iterator[List[int]]:
     """Records at the limits in every way, any records, straight edges, parabolas, and those a micrometre off."""
     for signs in range(16):
         yield [CONTROL_LIMIT if signs >> place & 1 else -CONTROL_LIMIT for place in range(4)]
@@ -134,16 +150,19 @@ def fours(dice: Dice, basis: int) -> Iterator[List[int]]:
         yield [dice.coordinate() for _ in range(4)]
         start, end = dice.coordinate(), dice.coordinate()
         yield [start, start, end, end]
+    slope, second = steepest(parameter)
     for _ in range(40):
-        yield (exact := parabola(basis, dice.coordinate() // 8, dice.between(-50_000, 50_000), dice.between(-100_000, 100_000)))
+        exact = parabola(basis, dice.coordinate() // 8, dice.between(-slope, slope), dice.between(-second, second),
+                         parameter)
+        yield exact
         off = dice.below(4)
         yield [number + dice.sign() * (place == off) for place, number in enumerate(exact)]
 
 
-def chords(dice: Dice, basis: int) -> Iterator[Tuple[Cubic, int, Cubic]]:
+def chords(dice: Dice, basis: int, parameter: int = ONE_HALF) -> Iterator[Tuple[Cubic, int, Cubic]]:
     """Spans, a depth each, and one of the pieces that it makes."""
-    for four in fours(dice, basis):
-        span = cubic(basis, four)
+    for four in fours(dice, basis, parameter):
+        span = cubic(basis, four, parameter)
         for depth in range(DEEPEST + 1):
             width = Fraction(1, 2 ** depth)
             yield span, depth, cubic_over(span, dice.below(2 ** depth) * width, width)
@@ -160,22 +179,25 @@ class Stray(NamedTuple):
     most: Fraction
 
 
-def even(dice: Dice, basis: int) -> Iterator[Stray]:
+def even(dice: Dice, basis: int, parameter: int) -> Iterator[Stray]:
     """Chords of even outlines, against the request's bound, and between rounded points half a micrometre more."""
-    for span, depth, piece in chords(dice, basis):
+    for span, depth, piece in chords(dice, basis, parameter):
         exact, rounded = piece_strays(piece)
         most = bound(larger(span), depth)
         yield Stray("alike" if len(set(differences(span))) == 1 else "unlike", exact, most)
         yield Stray("rounded", rounded, most + HALF)
 
 
-def outlines(dice: Dice, basis: int) -> Iterator[Tuple[Shape, Sequence[int], int]]:
-    """Outlines with a tolerance each, and parabolas that a tolerance of 3 cuts into pieces that stray just so far."""
+def outlines(dice: Dice, basis: int, parameter: int) -> Iterator[Tuple[Shape, Sequence[int], int]]:
+    """Outlines with a tolerance each, and parabolas with one that cuts them into pieces that stray just so far."""
     for _ in range(20):
         size = dice.pick((1000, 100_000, CONTROL_LIMIT))
-        yield *any_outline(dice, basis, size), dice.between(1, 1 + size // 400)
+        shape, controls = any_outline(dice, basis, size)
+        yield shape._replace(parameter=parameter), controls, dice.between(1, 1 + size // 400)
+    just_so_far = 3 * parameter_value(parameter).numerator if basis == CARDINAL else 3
     for slope in range(16):
-        yield Shape(basis, 0, 4), [number for x in parabola(basis, 0, slope, 64) for number in (x, -x)], 3
+        four = parabola(basis, 0, slope, 64, parameter)
+        yield Shape(basis, 0, 4, parameter), [number for x in four for number in (x, -x)], just_so_far
 
 
 def cubics_over(piece: Piece) -> List[Cubic]:
@@ -184,9 +206,9 @@ def cubics_over(piece: Piece) -> List[Cubic]:
     return [cubic_over(axis, piece.part * width, width) for axis in piece.cubics]
 
 
-def chosen(dice: Dice, basis: int) -> Iterator[Stray]:
+def chosen(dice: Dice, basis: int, parameter: int = ONE_HALF) -> Iterator[Stray]:
     """Chords of points chosen by tolerance, against the tolerance and half a micrometre more."""
-    for shape, controls, tolerance in outlines(dice, basis):
+    for shape, controls, tolerance in outlines(dice, basis, parameter):
         for span in span_pieces(shape, controls):
             try:
                 pieces, _ = flat_pieces(span, tolerance, ANY_CUTS, 0)
@@ -208,14 +230,23 @@ def largest(strays: Iterator[Stray]) -> Dict[str, str]:
     return {kind: f"{floor(part)}.{floor(part * 10 ** 6) % 10 ** 6:06d}" for kind, part in parts.items()}
 
 
+def even_line(dice: Dice, name: str, basis: int, parameter: int) -> str:
+    part = largest(even(dice, basis, parameter))
+    return (f"{name}: the curve strays by up to {part['alike']} of the bound, {part['unlike']} where the second "
+            f"differences are unlike; between rounded points by up to {part['rounded']} of the bound and a half")
+
+
+def chosen_line(dice: Dice, name: str, basis: int, parameter: int) -> str:
+    part = largest(chosen(dice, basis, parameter))
+    return (f"{name} by tolerance: by up to {part['exact']} of the tolerance; "
+            f"between rounded points by up to {part['rounded']} of the tolerance and a half")
+
+
 def report(seed: int = SEED) -> Iterator[str]:
-    """The largest parts, basis by basis."""
+    """The largest parts, basis by basis, and then of cardinal curves at other parameters than one half."""
     dice = Dice(seed)
-    for basis in ALL_BASES:
-        part = largest(even(dice, basis))
-        yield (f"{NAMES[basis]}: the curve strays by up to {part['alike']} of the bound, {part['unlike']} where the second "
-               f"differences are unlike; between rounded points by up to {part['rounded']} of the bound and a half")
-    for basis in ALL_BASES:
-        part = largest(chosen(dice, basis))
-        yield (f"{NAMES[basis]} by tolerance: by up to {part['exact']} of the tolerance; "
-               f"between rounded points by up to {part['rounded']} of the tolerance and a half")
+    halves = [(NAMES[basis], basis, ONE_HALF) for basis in ALL_BASES]
+    taut = [(f"{NAMES[CARDINAL]} with parameter {parameter}", CARDINAL, parameter) for parameter in TAUT]
+    for kinds in (halves, taut):
+        for line in (even_line, chosen_line):
+            yield from (line(dice, *kind) for kind in kinds)
