@@ -1,7 +1,8 @@
 """The program's own tests: `python3 selftest.py`.
 
 Document 01's sums stand here as they are printed there, P2 and P12 as document 02's
-request 1 has them and the depths as its request 10.  The curve is computed again by other published formulas, the
+request 1 has them and the depths as its request 10.  The curve is computed again by other published formulas, a
+cardinal one at every parameter of request 7, the
 edits are read again point by point, the pieces of the outline by tolerance are made
 again by halving, every call is made again in the mirror, and each bound of how far the
 cut strays is seen to be none too large.
@@ -20,17 +21,18 @@ from checks import CONTROL_LIMIT  # noqa: E402
 from curve import cubic, exact_outline, nearest, powers, product  # noqa: E402
 from drawing import NOTHING_DRAWN, State, Step, micrometres, take  # noqa: E402
 from edits import BASES_THAT_GROW, insert, move, remove  # noqa: E402
-from make_trials import defects, drawings, edits, exact, files  # noqa: E402
+from make_trials import defects, drawings, edits, exact, files, taut_edits, taut_files, tautness  # noqa: E402
 from make_trials.depths import refusals as too_deep  # noqa: E402
 from make_trials.dice import ALL_BASES, Dice  # noqa: E402
-from make_trials.halves import ALL_SIDES, AXES, mirrored, sides  # noqa: E402
+from make_trials.halves import ALL_SIDES, AXES, X, Y, mirrored, sides  # noqa: E402
 from make_trials.script import ACCEPTED, CALLS, Script, encode, file_of  # noqa: E402
 from make_trials.tolerance import ANY_CUTS, any_outline, refusals  # noqa: E402
 from outline import draw, formula_points, preview, view  # noqa: E402
 from record_file import cut_listing, listing, read  # noqa: E402
 from refusal import Refusal  # noqa: E402
-from shape import B_SPLINE, BEZIER, CARDINAL, DEEPEST, HERMITE, Shape, point_count, span_records, spans  # noqa: E402
-from stray import HALF, bound, chords, depths, differences, parabola, piece_strays  # noqa: E402
+from shape import (B_SPLINE, BEZIER, CARDINAL, DEEPEST, HERMITE, ONE_HALF, Shape, point_count, span_records,  # noqa: E402
+                   spans)
+from stray import HALF, TAUT, bound, chords, depths, differences, parabola, piece_strays  # noqa: E402
 from stray import chosen as by_tolerance  # noqa: E402
 from sums import sums  # noqa: E402
 from tolerance import FINEST, MOST_TOLERANCE, chosen, cubic_over, cut  # noqa: E402
@@ -71,7 +73,10 @@ B-spline 0 6 12 18 depth 1 parameter 65: 6 9 12 exact 6
 
 SEED = 2024
 JUNK = 77
-POINT_LIMIT = 5_000_000
+POINT_LIMIT = {BEZIER: 4_000_000, B_SPLINE: 4_000_000, CARDINAL: 5_000_000, HERMITE: 5_000_000}
+# Every parameter that is none too large, and each kind of curve: at one half, and cardinal ones at some others.
+PARAMETERS = range(65)
+KINDS = [(basis, ONE_HALF) for basis in ALL_BASES] + [(CARDINAL, parameter) for parameter in TAUT]
 
 
 def de_casteljau(four: Sequence[Fraction], t: Fraction) -> Fraction:
@@ -86,9 +91,15 @@ def bezier_of_hermite(start, start_tangent, end, end_tangent) -> List[Fraction]:
     return [start, start + Fraction(start_tangent, 3), end - Fraction(end_tangent, 3), end]
 
 
-def hermite_of_cardinal(p0, p1, p2, p3) -> tuple:
-    """Document 000, (18), with a = 1/2."""
-    return p1, Fraction(p2 - p0, 2), p2, Fraction(p3 - p1, 2)
+def hermite_of_cardinal(p0, p1, p2, p3, a=Fraction(1, 2)) -> tuple:
+    """Document 000, (18)."""
+    return p1, a * (p2 - p0), p2, a * (p3 - p1)
+
+
+def bezier_of_cardinal(p0, p1, p2, p3, parameter=ONE_HALF) -> List[Fraction]:
+    """Document 02, request 7: a third of the parameter, in 64ths, times the differences; zero is 32."""
+    third = Fraction(parameter or 32, 192)
+    return [p1, p1 + third * (p2 - p0), p2 - third * (p3 - p1), p2]
 
 
 def uniform(i: int, order: int, t: Fraction) -> Fraction:
@@ -148,11 +159,99 @@ class Curve(unittest.TestCase):
     def test_boxes_and_bounds(self):
         """No point of basis 1 or 2 leaves its controls' box; none of 3 or 4 passes the bound."""
         for four in at_limits():
-            controls = [number for p in four for number in (p, p)]
             for basis in ALL_BASES:
-                outline = formula_points(Shape(basis, DEEPEST, 4), controls)
-                bound = POINT_LIMIT if basis in (CARDINAL, HERMITE) else CONTROL_LIMIT
-                self.assertLessEqual(max(abs(number) for number in outline), bound)
+                outline = formula_points(Shape(basis, DEEPEST, 4), [number for p in four for number in (p, p)])
+                self.assertLessEqual(max(abs(number) for number in outline), POINT_LIMIT[basis])
+
+
+class Parameters(unittest.TestCase):
+    """Document 02, request 7: cardinal curves at each parameter by other formulas, and what looks at the parameter."""
+
+    def setUp(self):
+        self.dice = Dice(SEED)
+
+    def fours(self):
+        """Each parameter with any four records."""
+        for parameter in PARAMETERS:
+            yield parameter, Fraction(parameter or 32, 64), [self.dice.coordinate() for _ in range(4)]
+
+    def test_other_formulas_agree(self):
+        """Interpolations of interpolations of the request's Bezier controls, and the Hermite curve by its tangents."""
+        for parameter, a, four in self.fours():
+            span = cubic(CARDINAL, four, parameter)
+            self.assertEqual(span, cubic(HERMITE, hermite_of_cardinal(*four, a)))
+            for step in range(17):
+                t = Fraction(step, 16)
+                self.assertEqual(product(powers(t), span), de_casteljau(bezier_of_cardinal(*four, parameter), t))
+
+    def test_ends_and_tangents(self):
+        """Document 000, after (20)."""
+        for parameter, a, (p0, p1, p2, p3) in self.fours():
+            x, y, z, w = cubic(CARDINAL, (p0, p1, p2, p3), parameter)
+            self.assertEqual((w, x + y + z + w), (p1, p2))
+            self.assertEqual((z, 3 * x + 2 * y + z), (a * (p2 - p0), a * (p3 - p1)))
+
+    def test_points(self):
+        """Every point at every parameter is the nearest to the curve by its Bezier controls."""
+        for parameter, _, four in self.fours():
+            depth = self.dice.between(1, DEEPEST)
+            outline = formula_points(Shape(CARDINAL, depth, 4, parameter), [number for p in four for number in (p, -p)])
+            for i, number in enumerate(outline[X::2]):
+                off = abs(de_casteljau(bezier_of_cardinal(*four, parameter), Fraction(i, 2 ** depth)) - number)
+                self.assertLessEqual(off, HALF)
+            self.assertEqual(outline[Y::2], [-number for number in outline[X::2]])
+
+    def test_zero_is_one_half(self):
+        """Zero and 32 come to one outline, with one figure of exact coordinates, and 64 to another outline."""
+        for depth in range(1, 5):
+            controls = self.dice.numbers(5)
+            told = [(draw(shape, controls, points := [JUNK] * (2 * point_count(shape))), points)
+                    for shape in (Shape(CARDINAL, depth, 5, parameter) for parameter in (0, 32, 64))]
+            self.assertEqual(told[0], told[1])
+            self.assertNotEqual(told[1][1], told[2][1])
+
+    def test_bound(self):
+        """No parameter takes a point past 6,000,000, and the whole one comes to it on both sides."""
+        farthest = {}
+        for four in at_limits():
+            controls = [number for p in four for number in (p, -p)]
+            for parameter in PARAMETERS:
+                outline = formula_points(Shape(CARDINAL, 3, 4, parameter), controls)
+                farthest[parameter] = max(farthest.get(parameter, 0), *map(abs, outline))
+        self.assertEqual(farthest, {parameter: 4_000_000 + 31_250 * (parameter or 32) for parameter in PARAMETERS})
+        self.assertEqual(max(farthest.values()), 6_000_000)
+
+    def test_order_of_refusals(self):
+        """1, 2, 24, 3, 4, 5, 6, 7, 8, 9: each is given where all that come after it hold as well."""
+        far = [CONTROL_LIMIT + 1] * 8
+        for shape, controls, text in (
+                (Shape(5, 9, 3, 65), far[1:], "1 0"), (Shape(CARDINAL, 9, 3, 65), far[1:], "2 0"),
+                (Shape(CARDINAL, 8, 3, 65), far[1:], "24 0"), (Shape(CARDINAL, 8, 3, 64), far[1:], "3 0"),
+                (Shape(CARDINAL, 8, 4, 64), far[1:], "7 0"), (Shape(CARDINAL, 8, 4, 64), far, "8 0"),
+                (Shape(CARDINAL, 8, 4, 64), [0] * 8, "9 0"), (Shape(CARDINAL, 8, 4, 2 ** 32 - 1), far[1:], "24 0")):
+            self.assertEqual(answer(draw, shape, controls, []), f"refused {text}")
+            self.assertEqual(list(view(shape, [], 0)), [])
+        for shape, text in ((Shape(CARDINAL, 9, 4, 65), "2 0"), (Shape(CARDINAL, 8, 4, 65), "24 0"),
+                            (Shape(CARDINAL, 8, 3, 64), "3 0"), (Shape(CARDINAL, 8, 4, 64), "4 0"),
+                            (Shape(B_SPLINE, 8, 4, 65), "4 0"), (Shape(BEZIER, 8, 4, 65), "7 0")):
+            self.assertEqual(answer(preview, shape, [], []), f"refused {text}")
+        for edit, arguments in ((move, (99, (0, 0))), (insert, (99, (0, 0))), (remove, (99,))):
+            for shape, text in ((Shape(CARDINAL, 9, 3, 65), "2 0"), (Shape(CARDINAL, 8, 3, 65), "24 0"),
+                                (Shape(CARDINAL, 8, 3, 64), "3 0"), (Shape(CARDINAL, 8, 4, 64), "5 99"),
+                                (Shape(B_SPLINE, 8, 4, 65), "5 99")):
+                self.assertEqual(answer(edit, shape, [], [], *arguments), f"refused {text}")
+
+    def test_other_bases_do_not_look_at_it(self):
+        for basis in (BEZIER, B_SPLINE, HERMITE):
+            controls = self.dice.numbers(4)
+            plain, other = ([JUNK] * (2 * point_count(Shape(basis, 2, 4))) for _ in range(2))
+            draw(Shape(basis, 2, 4), controls, plain)
+            for parameter in (1, 64, 65, 2 ** 32 - 1):
+                shape = Shape(basis, 2, 4, parameter)
+                draw(shape, controls, other)
+                self.assertEqual(other, plain)
+                self.assertEqual(list(view(shape, plain, 0)), plain)
+                self.assertEqual(move(shape, controls, other, 0, tuple(controls[:2])).shape, shape)
 
 
 class Outline(unittest.TestCase):
@@ -272,7 +371,7 @@ class Edits(unittest.TestCase):
 
     def test_any_contents(self):
         for _ in range(150):
-            shape = self.dice.shape(BASES_THAT_GROW, 2, 12)
+            shape = self.dice.shape(BASES_THAT_GROW, 2, 12)._replace(parameter=self.dice.below(65))
             controls = exact.grained(self.dice, shape, shape.count + 2)
             points = [self.dice.junk() for _ in range(2 * point_count(shape._replace(count=shape.count + 2)))]
             self.one_insert(shape, list(controls), list(points))
@@ -284,6 +383,7 @@ class Edits(unittest.TestCase):
         before, kept = list(points), controls[2 * shape.count + 2:]
         wanted = controls[:2 * place] + list(record) + controls[2 * place:2 * shape.count] + kept
         answer = insert(shape, controls, points, place, record)
+        self.assertEqual(answer.shape, shape._replace(count=shape.count + 1))
         fresh = range(max(place - 3, 0), min(place + 1, spans(answer.shape)))
         self.assertEqual((answer.first, answer.fresh), (fresh.start, len(fresh)))
         self.assertEqual(controls, wanted)
@@ -296,6 +396,7 @@ class Edits(unittest.TestCase):
         before, kept = list(points), controls[2 * shape.count - 2:]
         wanted = controls[:2 * place] + controls[2 * place + 2:2 * shape.count] + kept
         answer = remove(shape, controls, points, place)
+        self.assertEqual(answer.shape, shape._replace(count=shape.count - 1))
         fresh = range(max(place - 3, 0), min(place, spans(answer.shape)))
         self.assertEqual((answer.first, answer.fresh), (fresh.start, len(fresh)) if fresh else (0, 0))
         self.assertEqual(controls, wanted)
@@ -304,8 +405,8 @@ class Edits(unittest.TestCase):
         self.assertEqual(points, point_by_point(before, answer.shape, outline, fresh, place, 1))
 
     def test_drawn_outlines_stay_drawn(self):
-        for basis in ALL_BASES:
-            shape = Shape(basis, 2, 10)
+        for basis, parameter in KINDS:
+            shape = Shape(basis, 2, 10, parameter)
             controls = self.dice.numbers(20)
             points = [JUNK] * (2 * point_count(shape._replace(count=19 if basis == BEZIER else 20)))
             draw(shape, controls, points)
@@ -379,8 +480,9 @@ class Mirror(unittest.TestCase):
     def test_outlines(self):
         for basis in ALL_BASES:
             seen = set()
-            for _ in range(60):
-                shape = self.dice.shape((basis,), 3, 10)
+            for _ in range(120):
+                parameter = self.dice.pick((0, 16, 48, 64, self.dice.below(65)))
+                shape = self.dice.shape((basis,), 3, 10)._replace(parameter=parameter)
                 controls = self.numbers(shape.count)
                 outline = formula_points(shape, controls)
                 for axis in AXES:
@@ -392,7 +494,7 @@ class Mirror(unittest.TestCase):
         """Runs of edits, refused ones among them, over any contents."""
         for basis in ALL_BASES:
             for axis in AXES:
-                shape = self.dice.shape((basis,), 2, 10)
+                shape = self.dice.shape((basis,), 2, 10)._replace(parameter=self.dice.below(65))
                 controls = self.numbers(12)
                 points = [self.dice.junk() for _ in range(2 * point_count(shape._replace(count=13)))]
                 others = mirrored(controls, axis), mirrored(points, axis)
@@ -450,9 +552,13 @@ def bezier_of_b_spline(p0, p1, p2, p3) -> List[Fraction]:
 BEZIER_OF = {
     BEZIER: lambda *four: [Fraction(number) for number in four],
     B_SPLINE: bezier_of_b_spline,
-    CARDINAL: lambda *four: bezier_of_hermite(*hermite_of_cardinal(*four)),
     HERMITE: bezier_of_hermite,
 }
+
+
+def bezier_of_span(shape: Shape, four: Sequence[int]) -> List[Fraction]:
+    return bezier_of_cardinal(*four, shape.parameter) if shape.basis == CARDINAL else BEZIER_OF[shape.basis](*four)
+
 
 Fours = List[List[Fraction]]
 
@@ -483,7 +589,7 @@ def by_halving(shape: Shape, controls: Sequence[int], tolerance: int) -> Tuple[L
     pieces: List[Fours] = []
     for span in range(spans(shape)):
         records = span_records(shape, span)
-        fours = [BEZIER_OF[shape.basis](*(controls[2 * j + axis] for j in records)) for axis in AXES]
+        fours = [bezier_of_span(shape, [controls[2 * j + axis] for j in records]) for axis in AXES]
         pieces += flat_fours(fours, tolerance)
     starts = [four[0] for fours in pieces for four in fours]
     return starts + [four[-1] for four in pieces[-1]], len(pieces) - spans(shape)
@@ -497,13 +603,14 @@ class Tolerance(unittest.TestCase):
 
     def calls(self):
         """Outlines of every basis and size with a tolerance each, and spans with all their records at limits."""
-        for basis in ALL_BASES:
+        for basis, parameter in KINDS:
             for _ in range(15):
                 size = self.dice.pick((9, 1000, 100_000, CONTROL_LIMIT))
-                yield *any_outline(self.dice, basis, size), self.dice.between(0, 1 + size // 400)
+                shape, controls = any_outline(self.dice, basis, size)
+                yield shape._replace(parameter=parameter), controls, self.dice.between(0, 1 + size // 400)
             for _ in range(5):
                 controls = [self.dice.sign() * CONTROL_LIMIT for _ in range(8)]
-                yield Shape(basis, 0, 4), controls, self.dice.pick((0, 1000, 2929, 2930, MOST_TOLERANCE))
+                yield Shape(basis, 0, 4, parameter), controls, self.dice.pick((0, 1000, 2929, 2930, MOST_TOLERANCE))
 
     def test_halving_gives_the_same_tree(self):
         refused = 0
@@ -511,7 +618,7 @@ class Tolerance(unittest.TestCase):
             told = answer(chosen, shape, controls, tolerance, ANY_CUTS)
             self.assertEqual(told, answer(by_halving, shape, controls, tolerance))
             refused += isinstance(told, str)
-        self.assertTrue(10 < refused < 60)
+        self.assertTrue(20 < refused < 120)
 
     def test_counts_and_points(self):
         """One point more than pieces, each of them a point of the even outline, and all past them kept."""
@@ -550,6 +657,8 @@ class Tolerance(unittest.TestCase):
         good, endless = Shape(BEZIER, 8, 4), 2 ** 99
         for shape, controls, tolerance, most, text in (
                 (Shape(5, 9, 5), far[1:], 10_001, 0, "1 0"), (Shape(BEZIER, 9, 5), far[1:], 10_001, 0, "2 0"),
+                (Shape(CARDINAL, 9, 3, 65), far[1:], 10_001, 0, "2 0"),
+                (Shape(CARDINAL, 8, 3, 65), far[1:], 10_001, 0, "24 0"),
                 (Shape(BEZIER, 8, 5), far[1:], 10_001, 0, "3 0"), (good, far[1:], 10_001, 0, "7 0"),
                 (good, far, 10_001, 0, "8 3"), (good, line, 10_001, 0, "20 0"), (good, line, endless, endless, "20 0"),
                 (good, line, 1, 5, "22 0"), (good, line, 1, 6, "21 0"), (good, line, 1, endless, "21 0"),
@@ -565,7 +674,7 @@ class Strays(unittest.TestCase):
 
     def test_found_again(self):
         for _ in range(60):
-            shape = self.dice.shape(ALL_BASES, 3, 10)
+            shape = self.dice.shape(ALL_BASES, 3, 10)._replace(parameter=self.dice.below(65))
             controls = self.dice.numbers(shape.count)
             outline = formula_points(shape, controls)
             for more in range(4):
@@ -574,13 +683,14 @@ class Strays(unittest.TestCase):
                     self.assertEqual(deeper[axis::2 << more], outline[axis::2])
 
     def test_parabolas_meet_it(self):
-        for basis in ALL_BASES:
-            span = cubic(basis, parabola(basis, 7, -3, 20))
-            self.assertEqual(differences(span), (20, 20))
+        for basis, parameter in KINDS:
+            span = cubic(basis, parabola(basis, 7, -3, 20, parameter), parameter)
+            second = 20 * Fraction(parameter, 64).numerator if parameter else 20
+            self.assertEqual(differences(span), (second, second))
             for depth in range(DEEPEST + 1):
                 for part in range(2 ** depth):
                     piece = cubic_over(span, Fraction(part, 2 ** depth), Fraction(1, 2 ** depth))
-                    self.assertEqual(piece_strays(piece)[0], bound(Fraction(20), depth))
+                    self.assertEqual(piece_strays(piece)[0], bound(Fraction(second), depth))
 
     def test_depths_of_a_file(self):
         file = file_of(Shape(BEZIER, 1, 7), [0, 0, 0, 0, 8, 8, 8, 8, 8, 8, 9, 12, 8, 16])
@@ -590,17 +700,27 @@ class Strays(unittest.TestCase):
             "curved spans, second difference 4: strays at most  3.50  1.25  0.69  0.55  0.52  0.51  0.51  0.51  0.51"])
         self.assertEqual([*depths(file[:-1])], ["refused 13 0"])
 
+    def test_depths_of_a_taut_file(self):
+        """The second differences are those of the file's own parameter: 4, 2 and 1 a third of it."""
+        for parameter, figures in ((64, "4: strays at most  3.50  1.25"), (32, "2: strays at most  2.00  0.88"),
+                                   (0, "2: strays at most  2.00  0.88"), (16, "1: strays at most  1.25  0.69")):
+            told = [*depths(file_of(Shape(CARDINAL, 1, 4, parameter), [0, 12, 0, 0, 1, 0, 1, 12]))]
+            self.assertTrue(told[0].startswith(f"span 0, second difference {figures}"))
+        self.assertEqual([*depths(file_of(Shape(CARDINAL, 1, 4, 65), [0] * 8))], ["refused 24 0"])
+
     def test_nothing_smaller_would_do(self):
         """Five eighths, the smaller second difference, more than a quarter less with each depth, and no half for rounding."""
-        for basis in ALL_BASES:
-            tried = [(differences(span), depth, *piece_strays(piece)) for span, depth, piece in chords(self.dice, basis)]
+        for basis, parameter in KINDS:
+            tried = [(differences(span), depth, *piece_strays(piece))
+                     for span, depth, piece in chords(self.dice, basis, parameter)]
             for smaller in (lambda first, last, depth: Fraction(5, 6) * bound(max(first, last), depth),
                             lambda first, last, depth: bound(min(first, last), depth),
                             lambda first, last, depth: bound(max(first, last), depth) * Fraction(7, 8) ** depth):
                 passed = [depth for (first, last), depth, exact, _ in tried if exact > smaller(abs(first), abs(last), depth)]
                 self.assertGreater(max(passed), 0)
             self.assertTrue(any(rounded > bound(max(map(abs, both)), depth) for both, depth, _, rounded in tried))
-            self.assertTrue(any(stray.kind == "rounded" and stray.far > stray.most - HALF for stray in by_tolerance(self.dice, basis)))
+            self.assertTrue(any(stray.kind == "rounded" and stray.far > stray.most - HALF
+                                for stray in by_tolerance(self.dice, basis, parameter)))
 
 
 class RecordFile(unittest.TestCase):
@@ -625,6 +745,25 @@ class RecordFile(unittest.TestCase):
                            (bytes(48), "refused 1 0"), (good[:36], "refused 3 0")):
             self.assertEqual(listing(file), [text])
 
+    def test_parameters(self):
+        """The byte is the shape's parameter as it stands; the listing's first line does not say it."""
+        for parameter, middle in ((0, 9), (1, 8), (16, 9), (32, 9), (64, 10)):
+            shape, controls = Shape(CARDINAL, 1, 4, parameter), [JUNK] * 8
+            file = file_of(shape, [0, 0, 8, -8, 8, -8, 0, 0])
+            self.assertEqual(read(file, controls), shape)
+            self.assertEqual(listing(file), ["3 1 1 3", "0 8 -8", f"1 {middle} {-middle}", "2 8 -8"])
+
+    def test_bytes_2_and_3(self):
+        """Byte 2 is looked at by the record's own basis, and then against record 0's."""
+        heads = {"5": b"\3\1\5\0", "6": b"\3\1\6\0", "0": b"\3\1\0\0", "!": b"\3\1\5\1", "A": b"\3\1\x41\0",
+                 "D": b"\3\x09\x41\0", "b": b"\2\1\0\0", "B": b"\2\1\5\0", "n": b"\0\1\0\0", "N": b"\0\1\5\0"}
+        for letters, text in (("5556", "15 3"), ("5505", "15 2"), ("0055", "15 2"), ("555!", "14 3"), ("55B5", "14 2"),
+                              ("5b55", "15 1"), ("bb5b", "15 2"), ("bbBb", "14 2"), ("B555", "14 0"), ("N555", "14 0"),
+                              ("n555", "15 1"), ("56B5", "15 1"), ("5B65", "14 1"), ("AAAA", "24 0"), ("AAA5", "15 3"),
+                              ("DDDD", "2 0"), ("AAA", "24 0"), ("555", "3 0"), ("nnnn", "1 0")):
+            file = b"".join(heads[letter] + bytes(8) for letter in letters)
+            self.assertEqual(listing(file), [f"refused {text}"])
+
     def test_short_controls(self):
         with self.assertRaises(Refusal) as refused:
             read(file_of(Shape(BEZIER, 1, 4), [4000001] * 8), [0] * 7)
@@ -648,7 +787,8 @@ class WatchedScript(Script):
 class Trials(unittest.TestCase):
     def test_refusals_change_nothing(self):
         script = WatchedScript(SEED)
-        for section in (defects.any_defects, edits.rooms, drawings.states, files.files, refusals, too_deep):
+        for section in (defects.any_defects, edits.rooms, drawings.states, files.files, refusals, too_deep,
+                        tautness.refusals, taut_edits.stale_points, taut_files.damaged_files):
             section(script)
         self.assertGreater(sum(times for (_, number), times in script.tally.items() if number != ACCEPTED), 500)
 
@@ -660,9 +800,23 @@ class Trials(unittest.TestCase):
                     encode(trials.MORE_FILE, (41,)), encode(trials.MORE_FILE, (0,)),
                     encode(trials.CUT, (-1, 0)), encode(trials.CUT, (0, -1)),
                     encode(trials.MOVE, (-1, 0, 0)), encode(trials.MOVE, (0, 0, -2 ** 31 - 1)),
-                    encode(trials.SET_STATE, (0, 0, 0, 0, 0, 2)), encode(trials.SET_SHAPE, (1, 2 ** 32, 4))):
+                    encode(trials.SET_STATE, (0, 0, 0, 0, 0, 2)), encode(trials.SET_SHAPE, (1, 2 ** 32, 4)),
+                    encode(trials.SET_SHAPE, (3, 0, 4, 2 ** 32)), encode(trials.SET_SHAPE, (1, 0, 4, -1))):
             self.assertEqual(list(trials.play(lend + show + bad + show)), [f"{JUNK} {JUNK}", "bad record 2"])
         self.assertEqual(list(trials.play(lend + show[:-1])), ["bad record 1"])
+
+    def test_parameters(self):
+        """The shape's fourth number comes back after an edit and with a file, as it came."""
+        lend = encode(trials.LEND, (10, 4, 0, 0))
+        for basis, parameter in ((CARDINAL, 0), (CARDINAL, 7), (CARDINAL, 64), (B_SPLINE, 2 ** 32 - 1)):
+            shape = encode(trials.SET_SHAPE, (basis, 0, 4, parameter))
+            edits_of_it = encode(trials.MOVE, (0, 0, 0)) + encode(trials.INSERT, (4, 0, 0)) + encode(trials.REMOVE, (0,))
+            self.assertEqual(list(trials.play(lend + shape + edits_of_it)), [
+                f"edited {basis} 0 4 0 1 4 {parameter}", "refused 9 0", "refused 6 0"])
+        script = Script(SEED)
+        script.lend(8, 0)
+        script.read(Shape(CARDINAL, 2, 4, 48), [0] * 8)
+        self.assertEqual(script.lines, ["read 3 2 4 48"])
 
     def test_longest_lists(self):
         shows = [encode(op, ()) for op in (trials.SHOW_CONTROLS, trials.SHOW_POINTS, trials.SHOW_PREVIEW)]
