@@ -97,7 +97,7 @@ class Bench:
         return []
 
     def set_shape(self, *numbers: int) -> Lines:
-        self.shape = Shape(*map(unsigned_32, numbers[:len(self.shape)]))
+        self.shape = Shape(*(unsigned_32(number) for number in numbers[:4]))
         return []
 
     def set_control(self, at: int, number: int, *_: int) -> Lines:
