@@ -5,6 +5,7 @@ whole micrometres.
 """
 
 import struct
+from functools import partial
 from pathlib import Path
 
 BEZIER, B_SPLINE, CARDINAL, HERMITE = 1, 2, 3, 4
@@ -107,6 +108,19 @@ def cabriole_leg():
     return CARDINAL, 4, [(0, 342), *front, *foot, *back, (60, 344)]
 
 
+def chair_back(parameter):
+    """A balloon back over the seat, 450 mm by 500 mm at its records, from its left foot round the crest to its right.
+
+    Five records a side and one at the crest are all it has, so that the curve between
+    them shows its parameter, in 64ths.  At the widest place it goes straight up: the
+    waist and the shoulder lie in one plumb line.
+    """
+    left = [(-200, -70),                              # under the seat, for the direction at the foot alone
+            (-185, 0), (-145, 130), (-225, 310),      # foot, waist, and the widest place
+            (-145, 452)]                              # shoulder
+    return CARDINAL, 5, [*left, (0, 500), *mirrored(left)], parameter
+
+
 def crest_rail():
     """The top rail of a chair back, half a metre wide; its first three records come again to join the ends."""
     right = [(60, 104), (130, 97), (190, 82), (232, 86), (268, 78), (266, 44), (226, 36), (160, 34), (90, 26),
@@ -142,6 +156,7 @@ PIECES = {
     "arched-door": arched_door,
     "bracket": bracket,
     "cabriole-leg": cabriole_leg,
+    **{f"chair-back-{parameter}": partial(chair_back, parameter) for parameter in (16, 32, 48, 64)},
     "crest-rail": crest_rail,
     "left-door": left_door,
     "right-door": right_door,
@@ -152,8 +167,9 @@ PIECES = {
 }
 
 
-def record_file(basis, depth, records):
-    return b"".join(struct.pack("<BBxxii", basis, depth, round(x * 1000), round(y * 1000)) for x, y in records)
+def record_file(basis, depth, records, parameter=0):
+    """The bytes of a piece; a cardinal one may have a parameter, in 64ths, and 0 is one half."""
+    return b"".join(struct.pack("<BBBxii", basis, depth, parameter, round(x * 1000), round(y * 1000)) for x, y in records)
 
 
 if __name__ == "__main__":
