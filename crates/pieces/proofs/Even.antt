@@ -56,7 +56,7 @@ same-append d a b s t e f =
 
 -- ---- a fraction m times as large, above and below
 
-nought-times : (m : ℕ) (z : ℤ) → 0 < m → nought (pos m *ℤ z) ≡ nought z
+pub nought-times : (m : ℕ) (z : ℤ) → 0 < m → nought (pos m *ℤ z) ≡ nought z
 nought-times zero z h = absurd (omega arith)
 nought-times (suc m) (pos zero) h = let e : suc m * 0 ≡ 0 = omega arith in ap (λ (k : ℕ). nought (pos k)) e
 nought-times (suc m) (pos (suc n)) h = let e : suc m * suc n ≡ suc (m * suc n + n) = omega (arith, suc-mul m (suc n)) in ap (λ (k : ℕ). nought (pos k)) e

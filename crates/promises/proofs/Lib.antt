@@ -19,6 +19,8 @@ pub mod Mirror
 -- Record file, and its listing:
 pub mod Listings
 pub mod Depths
+-- Tauter cardinal curves (document 02, request 7):
+pub mod Parameters
 -- Refusal numbers:
 pub mod Refusals
 pub mod Lists

@@ -4,4 +4,5 @@ pub mod Tolerance
 pub mod Stray
 pub mod Listings
 pub mod Depths
+pub mod Parameters
 pub mod Sequences
