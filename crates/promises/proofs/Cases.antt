@@ -16,9 +16,14 @@ use Rattle.doubles.specs.Number.{within, measure}
 use Rattle.edit.specs.Cases.{flat}
 use Rattle.asked.specs.Edits.{asked, runOf, isFresh, exactFresh, pointAt}
 use Rattle.edit.specs.Reading.{edits}
-use Rattle.promises.specs.Cases.{Case, cases}
+use Rattle.promises.specs.Cases.{Case, cases, tauter}
 
 -- for every case the definitions give what the paper gives
 pub cases-hold : map (λ (c : Case). c .given) cases ≡ map (λ (c : Case). c .paper) cases
 unfolding tab point wholeControls weighted weights dot nearest halfUp firstRecord coordinate recordsFrom sixtyFourths basisOf recordsOf spansOf lastUsing allowed pointsOf judge seek planOf outside sumOf number remainder remainderOf noughts draws onX dyadic within measure asked runOf isFresh exactFresh pointAt edits flat
 cases-hold = refl
+
+-- and at other parameters
+pub tauter-hold : map (λ (c : Case). c .given) tauter ≡ map (λ (c : Case). c .paper) tauter
+unfolding tab wholeControls weighted weights dot nearest halfUp firstRecord coordinate recordsFrom sixtyFourths basisOf recordsOf spansOf allowed pointsOf judge seek planOf outside sumOf number remainder remainderOf noughts draws onX
+tauter-hold = refl

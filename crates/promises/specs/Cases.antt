@@ -65,3 +65,7 @@ p12 =
 
 abbrev pub cases : List Case
 cases = map ofDrawing outline-cases.cases ++ (start ∷ map ofEdit edit.cases ++ (p12 ∷ []))
+
+-- Document 02, request 7: cardinal spans at other parameters, the farthest point of any among them.
+abbrev pub tauter : List Case
+tauter = map ofDrawing outline-cases.tauter

@@ -1,6 +1,6 @@
 -- Files small enough to be read by computation alone: document 01's own, one with two faults in a record, and two words.
 use mathlib.Core.Path.{_≡_, refl}
-use mathlib.Core.List.{List, [], _∷_}
+use mathlib.Core.List.{List, [], _∷_, _++_}
 use Prim.Native.Nat.{ℕ}
 use lib.IntN.{ℤ, pos, negsuc}
 use lib.ListN.{replicate}
@@ -36,6 +36,25 @@ pub zeros-first :
     reading (1 ∷ 1 ∷ 0 ∷ 0 ∷ 0 ∷ 0 ∷ 0 ∷ 0 ∷ 0 ∷ 0 ∷ 0 ∷ 0 ∷ 2 ∷ 1 ∷ 0 ∷ 7 ∷ 0 ∷ 0 ∷ 0 ∷ 0 ∷ 0 ∷ 0 ∷ 0 ∷ 0 ∷ []) lent ≡ refuses Refused lent (record { number = 14; place = 1 })
 unfolding reading judge recordRows number word signed tab coordinate sixtyFourths basisOf spansOf recordsOf allowed outside seek
 zeros-first = refl
+
+-- document 02, request 7: the parameter is read; a record of another one is unlike record 0; and byte 2 of a record whose own basis is not 3 is refused as a zero byte is, before that
+abbrev cardinalRecord : ℕ → ℕ → List ℕ
+cardinalRecord basis c = basis ∷ 1 ∷ c ∷ 0 ∷ 0 ∷ 0 ∷ 0 ∷ 0 ∷ 0 ∷ 0 ∷ 0 ∷ 0 ∷ []
+
+abbrev cardinals : ℕ → ℕ → List ℕ
+cardinals basis c = cardinalRecord 3 48 ++ (cardinalRecord 3 48 ++ (cardinalRecord 3 48 ++ cardinalRecord basis c))
+
+pub parameter-read : reading (cardinals 3 48) (replicate 8 (negsuc 4)) ≡ outcome (Read (record { basis = 3; depth = 1; count = 4; parameter = 48 })) (replicate 8 (pos 0))
+unfolding reading judge recordRows number word signed tab coordinate sixtyFourths basisOf spansOf recordsOf allowed outside seek
+parameter-read = refl
+
+pub parameter-unlike : reading (cardinals 3 0) lent ≡ refuses Refused lent (record { number = 15; place = 3 })
+unfolding reading judge recordRows number word signed tab coordinate sixtyFourths basisOf spansOf recordsOf allowed outside seek
+parameter-unlike = refl
+
+pub own-basis : reading (cardinals 2 48) lent ≡ refuses Refused lent (record { number = 14; place = 3 })
+unfolding reading judge recordRows number word signed tab coordinate sixtyFourths basisOf spansOf recordsOf allowed outside seek
+own-basis = refl
 
 -- 255 255 255 255 is -1, and 0 0 0 128 the least number
 pub minus-one : signed (word (255 ∷ 255 ∷ 255 ∷ 255 ∷ []) 0) ≡ negsuc 0

@@ -5,4 +5,5 @@ pub mod Seek
 pub mod Refusals
 pub mod Exactly
 pub mod Lists
+pub mod Cases
 pub mod Unique

@@ -1,0 +1,35 @@
+-- Which refusal comes first (document 02, request 7): 24 after 2 and before 3, and for basis 3 alone. And what a parameter means: 0 and 32 one half, 64 one.
+use mathlib.Core.Path.{_≡_, refl}
+use Prim.Native.Nat.{ℕ}
+use Rattle.curve.specs.declared.Basis.the-variants.{Cardinal}
+use Rattle.shape.specs.declared.Shape.{Shape}
+use Rattle.shape.specs.declared.Judged.{Judged}
+use Rattle.shape.specs.declared.Judged.the-variants.{Unsound}
+use Rattle.shape.specs.Shape.{sixtyFourths, basisOf, spansOf, recordsOf, allowed}
+use Rattle.shape.specs.Refusals.{judge, planOf, judgeShape}
+
+abbrev shape : ℕ → ℕ → ℕ → ℕ → Shape
+shape b k n c = record { basis = b; depth = k; count = n; parameter = c }
+
+abbrev refused : ℕ → Judged
+refused n = Unsound (record { number = n; place = 0 })
+
+pub depth-first : judgeShape (shape 3 9 3 65) ≡ refused 2
+unfolding judgeShape judge
+depth-first = refl
+
+pub before-count : judgeShape (shape 3 8 3 65) ≡ refused 24
+unfolding judgeShape judge
+before-count = refl
+
+pub count-last : judgeShape (shape 3 8 3 64) ≡ refused 3
+unfolding judgeShape judge sixtyFourths basisOf spansOf recordsOf allowed
+count-last = refl
+
+pub other-basis : judgeShape (shape 2 8 3 65) ≡ refused 3
+unfolding judgeShape judge basisOf spansOf recordsOf allowed
+other-basis = refl
+
+pub one-half : (basisOf 3 0 ≡ Cardinal 32) × (basisOf 3 32 ≡ Cardinal 32) × (basisOf 3 64 ≡ Cardinal 64)
+unfolding basisOf sixtyFourths
+one-half = (refl, refl, refl)
