@@ -1,6 +1,7 @@
 -- P1 to P12 of document 01: one statement over one list of cases, computed from the definitions.
 use mathlib.Core.Path.{_≡_, refl}
-use mathlib.Core.List.{map}
+use mathlib.Core.List.{[], _∷_, map}
+use lib.IntN.{pos}
 use Rattle.whole.specs.Nearest.{halfUp, nearest, remainder}
 use Rattle.curve.specs.Tab.{tab}
 use Rattle.curve.specs.Four.{dot}
@@ -17,6 +18,7 @@ use Rattle.edit.specs.Cases.{flat}
 use Rattle.asked.specs.Edits.{asked, runOf, isFresh, exactFresh, pointAt}
 use Rattle.edit.specs.Reading.{edits}
 use Rattle.promises.specs.Cases.{Case, cases, tauter}
+use Rattle.promises.specs.Parameters.{halfControls, halfSum, halfNumber}
 
 -- for every case the definitions give what the paper gives
 pub cases-hold : map (λ (c : Case). c .given) cases ≡ map (λ (c : Case). c .paper) cases
@@ -27,3 +29,8 @@ cases-hold = refl
 pub tauter-hold : map (λ (c : Case). c .given) tauter ≡ map (λ (c : Case). c .paper) tauter
 unfolding tab wholeControls weighted weights dot nearest halfUp firstRecord coordinate recordsFrom sixtyFourths basisOf recordsOf spansOf allowed pointsOf judge seek planOf outside sumOf number remainder remainderOf noughts draws onX
 tauter-hold = refl
+
+-- document 01's own cardinal curve gives P5's middle
+pub half-hold : halfNumber 1 1 (onX (pos 0 ∷ pos 1000 ∷ pos 1000 ∷ pos 0 ∷ [])) 2 ≡ pos 1125
+unfolding halfSum halfControls weighted weights dot nearest halfUp coordinate recordsFrom onX
+half-hold = refl

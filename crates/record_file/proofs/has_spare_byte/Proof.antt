@@ -56,7 +56,9 @@ returns-3 c =
     let k = c .before .before .before in
     let s = k .before .before .args .file .now in
     let i = k .before .before .args .i in
-    sym (simp (eq-eqb (getD s (12 * i + 3) 0) 0 (k .if1 .left), ne-eqb (getD s (12 * i + 2) 0) 0 (c .before .if2 .left))) ∙ test-at s i
+    let zero = eq-eqb (getD s (12 * i + 3) 0) 0 (k .if1 .left) in
+    let some = ne-eqb (getD s (12 * i + 2) 0) 0 (c .before .if2 .left) in
+    sym (λ x. not (zero x) || (not (some x) && not (eqb (getD s (12 * i) 0) cardinal))) ∙ test-at s i
 
 pub has-spare-byte-spec : {M : Type 1} → statement M
 has-spare-byte-spec =

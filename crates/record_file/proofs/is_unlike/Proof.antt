@@ -65,7 +65,9 @@ returns-3 c =
     let k = e .before .before .before in
     let s = k .before .before .before .args .file .now in
     let i = k .before .before .before .args .i in
-    sym (simp (eq-eqb (getD s (12 * i) 0) (getD s 0 0) (k .if1 .left), eq-eqb (getD s (12 * i + 1) 0) (getD s 1 0) (e .if2 .left))) ∙ test-at s i
+    let basis = eq-eqb (getD s (12 * i) 0) (getD s 0 0) (k .if1 .left) in
+    let depth = eq-eqb (getD s (12 * i + 1) 0) (getD s 1 0) (e .if2 .left) in
+    sym (λ x. not (basis x && (depth x && eqb (getD s (12 * i + 2) 0) (getD s 2 0)))) ∙ test-at s i
 
 pub is-unlike-spec : {M : Type 1} → statement M
 is-unlike-spec =
