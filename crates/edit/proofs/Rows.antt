@@ -260,7 +260,7 @@ module _ (e : Edit) (s : Shape) (j : ℕ) (controls lent : List ℤ) where
   abbrev roomOf : Plan → Plan → List Row
   roomOf p q = roomRows e (s .count) controls (max (points p) (points q)) (length lent)
 
-  -- rows 1, 2, 3
+  -- rows 1, 2, 24, 3
   pub shape-bad : (r : Refusal) → judgeShape s ≡ Unsound r → edits e s j controls lent ≡ refuses Refused (controls, lent) r
   unfolding edits
   shape-bad r t = unsound s r t (editRows e s (planOf s) next j controls lent) (refuses Refused (controls, lent)) (accepts e s next j controls lent)

@@ -40,7 +40,7 @@ pub record Editable (e : Edit) (s : Shape) (p : Plan) (j : ℕ) : Type 0 where
   pub inRange : inRange e j (s .count) ≡ true
   pub notAtTheEnd : atTheEnd e (s .count) ≡ false
 
--- Rows 1 to 9 passed: q is the plan of the new shape, and `len` the numbers of the lent points.
+-- Every row passed: q is the plan of the new shape, and `len` the numbers of the lent points.
 pub record Workable (e : Edit) (s : Shape) (q : Plan) (j : ℕ) (controls : List ℤ) (len : ℕ) : Type 0 where
   pub good : Good (shapeAfter e s) q
   pub least : 1 ≤ s .count

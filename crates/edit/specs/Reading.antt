@@ -1,4 +1,4 @@
--- What an edit comes to (document 01): the refusals in the order 1 to 9; or the new controls, the new points and the answer, with every number past the last control and
+-- What an edit comes to (document 01): the refusals in the order 1 to 9, with 24 after 2; or the new controls, the new points and the answer, with every number past the last control and
 -- past the last point as it was. For any contents of the lent points.
 use mathlib.Core.Bool.{not}
 use mathlib.Core.List.{List, [], _∷_, _++_}

@@ -65,7 +65,7 @@ fn check_room(edit: Edit, count: usize, controls: &[i32], most: usize, len: usiz
     Checked::Fine
 }
 
-// All checks of an edit in the paper's order, 1 to 9: a refusal, or the plan of the new shape.
+// All checks of an edit in the paper's order, 1 to 9 with 24 after 2: a refusal, or the plan of the new shape.
 pub(crate) fn check_edit(
     edit: Edit,
     shape: Shape,

@@ -75,7 +75,7 @@ pub fn remove_record(shape: Shape, place: usize, controls: &mut [i32], points: &
     edit_shape(Edit::Remove, shape, place, controls, points)
 }
 
-// The checks, rows 1 to 9, and the edit itself where they pass.
+// The checks, rows 1 to 9 with 24 after 2, and the edit itself where they pass.
 fn edit_shape(
     edit: Edit,
     shape: Shape,

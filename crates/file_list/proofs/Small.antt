@@ -1,4 +1,4 @@
--- The numbers of an outline have at most seven digits, since every point of records inside the limits lies within 5,000,000 either way; chosen points are among those of the even outline
+-- The numbers of an outline have at most seven digits, since every point of records inside the limits lies within 6,000,000 either way; chosen points are among those of the even outline
 -- at the finest depth.
 use mathlib.Core.Path.{_≡_, refl, sym, subst}
 use mathlib.Core.List.{List, [], _∷_}

@@ -24,7 +24,7 @@ pub all-numbers : (k m : ℕ) → 2 * pointsOf k m ≡ m * perSpan k + 2
 unfolding pointsOf
 all-numbers k m = omega (arith, mul-left-comm m 2 (2 ^ k))
 
--- ---- rows 1, 2, 3
+-- ---- rows 1, 2, 24, 3
 
 pub draws-unsound : (s : Shape) (r : Refusal) → judgeShape s ≡ Unsound r → (controls lent : List ℤ) → draws s controls lent ≡ refuses Refused lent r
 unfolding draws

@@ -1,4 +1,4 @@
--- Every point of records inside the limits lies within 5,000,000 either way, so every number of an outline that was drawn does.
+-- Every point of records inside the limits lies within the reach of its basis, 5,000,000 or 6,000,000 either way, so every number of an outline that was drawn does.
 use mathlib.Core.Path.{_≡_, sym, ap, _∙_, subst}
 use mathlib.Core.List.{List}
 use mathlib.Core.Logic.{⊎-elim}

@@ -18,7 +18,7 @@ use Rattle.outline.specs.declared.Drawn.the-variants.{Done, Refused}
 abbrev pub points : Plan → ℕ
 points p = pointsOf (p .depth) (p .spans)
 
--- The checks of a drawing call: 7, 8, 9 over n records and a plan's points, and 1, 2, 3 before them.
+-- The checks of a drawing call: 7, 8, 9 over n records and a plan's points, and 1, 2, 24, 3 before them.
 abbrev pub planRows : ℕ → Plan → List ℤ → List ℤ → List Row
 planRows n p controls lent = listRows n controls (points p) (length lent)
 

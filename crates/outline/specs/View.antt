@@ -1,4 +1,4 @@
--- The view of a span (document 01, "Preview and drawing"): the part of the lent points that is span s, 2^k + 1 points; the empty part for a shape that 1, 2 or 3
+-- The view of a span (document 01, "Preview and drawing"): the part of the lent points that is span s, 2^k + 1 points; the empty part for a shape that 1, 2, 24 or 3
 -- would refuse, s not below m, or a list shorter than all points.
 use mathlib.Core.Bool.{Bool, cond, _||_}
 use mathlib.Core.List.{List}
@@ -34,7 +34,7 @@ partOf sh s lent =
 unfoldable pub viewed : Part → List ℤ → List ℤ
 viewed v lent = take (v .size) (drop (v .start) lent)
 
--- The paper's cases of the empty part: a shape that 1, 2 or 3 refuses, s not below m, or a list shorter than all points.
+-- The paper's cases of the empty part: a shape that 1, 2, 24 or 3 refuses, s not below m, or a list shorter than all points.
 abbrev pub Unseen : Shape → ℕ → List ℤ → Type 0
 Unseen sh s lent =
     let p = planOf sh in

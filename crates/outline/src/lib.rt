@@ -49,7 +49,7 @@ pub fn by_differences(shape: Shape, controls: &[i32], points: &mut [i32]) -> Dra
     draw(Way::Differences, shape, controls, points)
 }
 
-// The checks of the shape, rows 1 to 3, and the rest where they pass.
+// The checks of the shape, rows 1, 2, 24, 3, and the rest where they pass.
 fn draw(way: Way, shape: Shape, controls: &[i32], points: &mut [i32]) -> Drawn
     ensures { λ r. ⌜ outcome r (now (points .exit)) ≡ draws shape (now (controls .entry)) (now (points .entry)) ⌝ }
 {
@@ -75,7 +75,7 @@ fn draw_plan(way: Way, shape: Shape, plan: Plan, controls: &[i32], points: &mut 
     })
 }
 
-// The part of the caller's points that is a span, its 2^depth + 1 points; the empty part for a shape that 1, 2 or 3 would refuse, a span that is not there, or a list
+// The part of the caller's points that is a span, its 2^depth + 1 points; the empty part for a shape that 1, 2, 24 or 3 would refuse, a span that is not there, or a list
 // shorter than all points. The part lies in the caller's own list: nothing is copied.
 pub fn view(shape: Shape, span: usize, points: &[i32]) -> &[i32]
     ensures { λ r. ⌜ now r ≡ viewed (partOf shape span (now (points .entry))) (now (points .entry)) ⌝ }

@@ -1,4 +1,4 @@
--- What the preview answers and leaves (document 01, "Preview and drawing"): rows 1, 2, 3, 4, 7, 8, 9 in that order, and for basis 1 the exact double of each whole
+-- What the preview answers and leaves (document 01, "Preview and drawing"): rows 1, 2, 24, 3, 4, 7, 8, 9 in that order, and for basis 1 the exact double of each whole
 -- weighted sum of the plain controls over 2^(3k). Definitions only.
 use mathlib.Core.Bool.{not}
 use mathlib.Core.List.{List, [], _∷_, _++_}

@@ -127,7 +127,7 @@ fn preview_plan(shape: Shape, plan: Plan, controls: &[i32], points: &mut [f64]) 
     }
 }
 
-// Draws the outline of a shape of basis 1 in doubles: the checks of document 01 in its order, 1, 2, 3, 4, 7, 8, 9. An accepted preview writes two numbers for each point
+// Draws the outline of a shape of basis 1 in doubles: the checks of document 01 in its order, 1, 2, 24, 3, 4, 7, 8, 9. An accepted preview writes two numbers for each point
 // from the start of the points on, x then y, in micrometres, exact and with zero as positive zero, keeps all past them, and answers how many points there are. A refusal
 // answers its number and place and writes nothing.
 pub fn preview(shape: Shape, controls: &[i32], points: &mut [f64]) -> Previewed

@@ -48,7 +48,7 @@ module _ (p : Plan) (controls : List ℤ) (q : ℕ) where
   pub under-pos : 0 < under
   under-pos = mul-pos (curve.denominator-pos (p .basis)) (pow-pos (3 * p .depth))
 
-  -- over its divisor, 6 · 2^(3k), it is what the published value is more than the number: both sides are that difference, times the two divisors and over 2^(3k)
+  -- over its divisor, 6 · 2^(3k) or 192 · 2^(3k), it is what the published value is more than the number: both sides are that difference, times the two divisors and over 2^(3k)
   pub remainder-published : pos (denominator (p .basis)) *ℤ remainderOf p controls q ≡ pos (fold (p .basis)) *ℤ (value -ℤ pos under *ℤ publishedNumber p controls q)
   unfolding sumOf remainderOf publishedValue publishedNumber remainder
   remainder-published =

@@ -54,7 +54,7 @@ pub chord-met : (b : Basis) (k l : ℕ) (controls : List ℤ) (s axis i j : ℕ)
     → Meets (spanBound b k controls s axis) (offExact b k l controls s axis i j) (2 ^ l * publishedDivisor b (k + l))
 chord-met b k l controls s axis i j = spans.published-meets b (records b s (coordinate controls axis)) k l i j
 
--- the two second differences, six times, in the records of each basis
+-- the two second differences, six times and of a cardinal curve 192 times, in the records of each basis
 pub bends-in-records : (b : Basis) (p : Four) → (firstBend (wholeControls b p) ≡ firstInRecords b p) × (lastBend (wholeControls b p) ≡ lastInRecords b p)
 bends-in-records b p = (bends.first-in-records b p, bends.last-in-records b p)
 

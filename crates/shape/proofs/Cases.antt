@@ -6,7 +6,7 @@ use Rattle.shape.specs.declared.Shape.{Shape}
 use Rattle.shape.specs.declared.Judged.{Judged}
 use Rattle.shape.specs.declared.Judged.the-variants.{Unsound}
 use Rattle.shape.specs.Shape.{sixtyFourths, basisOf, spansOf, recordsOf, allowed}
-use Rattle.shape.specs.Refusals.{judge, planOf, judgeShape}
+use Rattle.shape.specs.Refusals.{judge, judgeShape}
 
 abbrev shape : ℕ → ℕ → ℕ → ℕ → Shape
 shape b k n c = record { basis = b; depth = k; count = n; parameter = c }

@@ -122,7 +122,7 @@ pub only-none {ℓ} : {A : Type ℓ} (rows : List Row) (f : Refusal → A) (a b 
 only-none rows f a b apart e =
     ⊎-elim (λ (v : (r : Refusal) × First rows r). absurd (apart (v .0) (sym (judge-first rows f a (v .0) (v .1)) ∙ e))) (λ h. h) (verdict rows)
 
--- ---- rows 1, 2, 3
+-- ---- rows 1, 2, 24, 3
 
 unsound-same : (q r : Refusal) → Unsound q ≡ Unsound r → q ≡ r
 unsound-same q r e = cc

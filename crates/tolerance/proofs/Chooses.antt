@@ -25,7 +25,7 @@ use Rattle.tolerance.specs.Reading.{toleranceRow, walkRows, lastRows, pl
 abbrev pub refusal : ℕ → Refusal
 refusal number = record { number = number; place = 0 }
 
--- ---- rows 1, 2, 3
+-- ---- rows 1, 2, 24, 3
 
 module _ (s : Shape) (tolerance most : ℕ) (controls lent : List ℤ) where
   pub chooses-unsound : (r : Refusal) → judgeShape s ≡ Unsound r → chooses s tolerance most controls lent ≡ refuses Refused lent r

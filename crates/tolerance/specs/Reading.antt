@@ -74,7 +74,7 @@ isTooMany TooMany = true
 abbrev pub walkRows : Walked → List Row
 walkRows w = row (isTooDeep w) 21 0 ∷ row (isTooMany w) 22 0 ∷ []
 
--- 7, 8, 20, then 21 or 22, then 9, over n records; and 1, 2, 3 before them.
+-- 7, 8, 20, then 21 or 22, then 9, over n records; and 1, 2, 24, 3 before them.
 abbrev pub lastRows : Plan → ℕ → ℕ → List ℤ → ℕ → List Row
 lastRows p tolerance most controls len = walkRows (walkOf p tolerance most controls) ++ pointRows (pointsFor p (cutsOf p tolerance controls)) len
 

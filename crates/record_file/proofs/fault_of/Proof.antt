@@ -1,8 +1,8 @@
 -- The two rows, one after the other.
-use mathlib.Core.Path.{_≡_, sym, ap, _∙_}
-use mathlib.Core.Bool.{Bool, true, false, cond}
+use mathlib.Core.Path.{sym, ap, _∙_}
+use mathlib.Core.Bool.{Bool, cond}
 use borrow.Author.Needs.{needs}
-use Rattle.record_file.specs.Rows.{zerosRow, alikeRow, fault}
+use Rattle.record_file.specs.Rows.{alikeRow, fault}
 use Rattle.record_file.proofs.fault_of.Statement.{statement}
 use Rattle.record_file.proofs.fault_of.Tie as tie
 
