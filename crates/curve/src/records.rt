@@ -87,7 +87,7 @@ fn bspline_controls(p: Four) -> Four
     }
 }
 
-// The parameter is in 64ths.
+// The parameter is in 64ths, and the inner controls have a third of it: 192 = 3 · 64 times, all is whole.
 fn cardinal_controls(parameter: usize, p: Four) -> Four
     requires { ⌜ (parameter ≤ mostParameter) × Inside limit p ⌝ }
     ensures { λ r. ⌜ r ≡ wholeControls (Basis.Cardinal parameter) p ⌝ }
