@@ -34,7 +34,7 @@ use Rattle.shape.specs.declared.Plan.{Plan}
 use Rattle.shape.specs.declared.Refusal.{Refusal}
 use Rattle.shape.specs.declared.Judged.the-variants.{Unsound}
 use Rattle.shape.specs.Shape.{lastBasis, cardinal, sixtyFourths, basisOf, spansOf, allowed}
-use Rattle.shape.specs.Refusals.{row, First, NoRow, judge, basisRow, depthRow, parameterRow, countRow, shapeRows, planOf, judgeShape}
+use Rattle.shape.specs.Refusals.{Row, row, First, NoRow, judge, basisRow, depthRow, parameterRow, countRow, shapeRows, planOf, judgeShape}
 use Rattle.shape.proofs.Refusals.{judge-append, verdict, unsound, first-unsound}
 use Rattle.spans.specs.Numbers.{sumOf, number, remainderOf, nought, noughts, exactIn}
 use Rattle.pieces.proofs.Even.{nought-times}
@@ -52,8 +52,10 @@ use Rattle.tolerance.specs.Reading as choice
 use Rattle.tolerance.specs.Reading.{chooses}
 use Rattle.tolerance.proofs.Chooses.{chooses-unsound}
 use Rattle.asked.specs.declared.Edit.{Edit}
+use Rattle.edit.specs.declared.Edited.{Edited}
 use Rattle.edit.specs.declared.Edited.the-variants as edited
-use Rattle.edit.specs.Reading.{edits}
+use Rattle.edit.specs.Reading as reading
+use Rattle.edit.specs.Reading.{shapeAfter, edits}
 use Rattle.edit.proofs.Rows.{shape-bad}
 use Rattle.edit.proofs.Exactly.{callRows, first-refused, none-done}
 use Rattle.sequences.specs.Played.{State, Call, stateThen, called, played}
@@ -64,7 +66,7 @@ use Rattle.record_file.specs.declared.Reading.{Reading}
 use Rattle.record_file.specs.declared.Reading.the-variants as read
 use Rattle.record_file.specs.Format.{byte, numbers}
 use Rattle.record_file.specs.Rows.{zerosRow, alikeRow, recordRows, lengthRows, listRows, recordCount, shapeOf, reading as readingFile}
-use Rattle.promises.specs.Parameters.{withParameter, halfControls, halfSum, halfNumber, halfRemainder, oldZerosRow, oldAlikeRow, oldRecordRows, oldShape, oldReading}
+use Rattle.promises.specs.Parameters.{withParameter, butParameter, halfControls, halfSum, halfNumber, halfRemainder, oldZerosRow, oldAlikeRow, oldRecordRows, oldShape, oldReading}
 
 -- ---- at one half
 
@@ -179,6 +181,16 @@ not-looked-at s other c d =
     same (suc (suc (suc zero))) apart = absurd (apart refl)
     same (suc (suc (suc (suc n)))) apart = refl
 
+-- what is made of a judged answer is judged alike
+judged : {A B : Type 0} (g : A → B) (rows : List Row) (f : Refusal → A) (a : A) → g (judge rows f a) ≡ judge rows (λ r. g (f r)) (g a)
+unfolding judge
+judged g [] f a = refl
+judged {A} {B} g (x ∷ rows) f a = chosen (x .holds) (f (x .refusal)) (judge rows f a) ∙ ap (cond (x .holds) (g (f (x .refusal)))) (judged g rows f a)
+  where
+    chosen : (t : Bool) (y z : A) → g (cond t y z) ≡ cond t (g y) (g z)
+    chosen true y z = refl
+    chosen false y z = refl
+
 -- every call answers alike, and leaves the same in every lent list
 module _ (s : Shape) (c d : ℕ) (alike : Alike s c d) where
   abbrev one : Shape
@@ -212,6 +224,18 @@ module _ (s : Shape) (c d : ℕ) (alike : Alike s c d) where
   pub views-alike : (t : ℕ) (lent : List ℤ) → partOf one t lent ≡ partOf other t lent
   unfolding partOf
   views-alike t lent = λ x. judge (rows x) (λ r. emptyPart) (cond (outOfSight (plans x) t lent) emptyPart (spanPart (plans x) t))
+
+  -- an edit's answer but for the parameter, which it hands on as it came
+  pub edits-alike : (e : Edit) (j : ℕ) (controls lent : List ℤ) → butParameter (edits e one j controls lent) ≡ butParameter (edits e other j controls lent)
+  unfolding edits planOf
+  edits-alike e j controls lent =
+      let after = shapeAfter e s in
+      let nexts : planOf (withParameter c after) ≡ planOf (withParameter d after) = λ x. record { basis = alike .basis x; depth = s .depth; spans = spansOf (alike .basis x) (after .count) } in
+      let f : Refusal → Outcome Edited (List ℤ × List ℤ) = λ r. outcome (edited.Refused r) (controls, lent) in
+      let came : Shape → Outcome Edited (List ℤ × List ℤ) = λ t. reading.accepts e t (planOf (shapeAfter e t)) j controls lent in
+      judged butParameter (shapeRows one ++ reading.editRows e one (planOf one) (planOf (shapeAfter e one)) j controls lent) f (came one)
+      ∙ (λ x. judge (rows x ++ reading.editRows e s (plans x) (nexts x) j controls lent) (λ r. butParameter (f r)) (butParameter (reading.accepts e s (nexts x) j controls lent)))
+      ∙ sym (judged butParameter (shapeRows other ++ reading.editRows e other (planOf other) (planOf (shapeAfter e other)) j controls lent) f (came other))
 
 -- ---- above 64
 

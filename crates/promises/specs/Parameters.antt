@@ -13,6 +13,8 @@ use Rattle.curve.specs.Four.{four}
 use Rattle.curve.specs.Span.{coordinate, recordsFrom, weighted}
 use Rattle.shape.specs.declared.Shape.{Shape}
 use Rattle.shape.specs.Refusals.{Row, row, judge, basisRow, depthRow, countRow}
+use Rattle.edit.specs.declared.Edited.{Edited}
+use Rattle.edit.specs.declared.Edited.the-variants as edited
 use Rattle.record_file.specs.declared.Reading.{Reading}
 use Rattle.record_file.specs.declared.Reading.the-variants.{Read, Refused}
 use Rattle.record_file.specs.Format.{byte, numbers}
@@ -20,6 +22,14 @@ use Rattle.record_file.specs.Rows.{lengthRows, listRows, recordCount}
 
 abbrev pub withParameter : ℕ → Shape → Shape
 withParameter c s = record { basis = s .basis; depth = s .depth; count = s .count; parameter = c }
+
+-- What an edit comes to, with the parameter of its answer left out.
+abbrev pub without : Edited → Edited
+without (edited.Done c) = edited.Done (record { shape = withParameter 0 (c .shape); first = c .first; fresh = c .fresh; exact = c .exact })
+without (edited.Refused r) = edited.Refused r
+
+abbrev pub butParameter : Outcome Edited (List ℤ × List ℤ) → Outcome Edited (List ℤ × List ℤ)
+butParameter o = outcome (without (o .answer)) (o .held)
 
 -- ---- document 01's cardinal curve ("The curve, exactly")
 
