@@ -1,6 +1,6 @@
 -- The numbers of an outline have at most seven digits, since every point of records inside the limits lies within 6,000,000 either way; chosen points are among those of the even outline
 -- at the finest depth.
-use mathlib.Core.Path.{_≡_, refl, sym, subst}
+use mathlib.Core.Path.{_≡_, sym, subst}
 use mathlib.Core.List.{List, [], _∷_}
 use Prim.Native.Nat.{ℕ, zero, suc, _+_, _*_, _^_, _≤_, _<_}
 use native.Mathlib.Omega.{arith}
@@ -15,7 +15,7 @@ use Rattle.shape.specs.declared.Plan.{Plan}
 use Rattle.shape.specs.Inner.{Good, Lent}
 use Rattle.shape.specs.Refusals.{NoRow, shapeRows, planOf}
 use Rattle.shape.specs.Shape.{pointsOf}
-use Rattle.shape.proofs.Refusals.{good-plan}
+use Rattle.shape.proofs.Refusals.{none-at, good-plan}
 use Rattle.spans.specs.Numbers.{number}
 use Rattle.spans.specs.Inner.{wholes}
 use Rattle.outline.specs.Outline as outline
@@ -51,7 +51,7 @@ module _ (s : Shape) (controls : List ℤ) (sound : NoRow (shapeRows s)) (k len 
   -- the shape is sound at the finest depth too
   good : Good (finestShape s) (finestPlan p)
   unfolding planOf
-  good = good-plan (finestShape s) (sound .0, (refl, sound .1 .1))
+  good = good-plan (finestShape s) (none-at s finest (omega arith) sound)
 
   near : (q : ℕ) → q < 2 * outline.points (finestPlan p) → natAbs (number (finestPlan p) controls q) < 10 ^ 7
   near q h = omega (arith, reach-most (p .basis), number-within (finestShape s) (finestPlan p) good controls k len lent q h)

@@ -25,8 +25,8 @@ use Rattle.curve.proofs.Span.{divisor-pos}
 use Rattle.curve.proofs.Tab.{length-tab}
 use Rattle.shape.specs.declared.Shape.{Shape}
 use Rattle.shape.specs.declared.Refusal.{Refusal}
-use Rattle.shape.specs.Refusals.{Row, row, First, NoRow, judge, basisRow, parameterRow, countRow, planOf}
-use Rattle.shape.proofs.Refusals.{judge-append, judge-none, none-both, none-earlier, none-later, verdict}
+use Rattle.shape.specs.Refusals.{Row, row, First, NoRow, judge, basisRow, parameterRow, countRow, shapeRows, planOf}
+use Rattle.shape.proofs.Refusals.{judge-append, judge-none, none-both, row-fails, none-earlier, none-later, verdict}
 use Rattle.outline.specs.declared.Figures.{Figures}
 use Rattle.spans.specs.Numbers.{number}
 use Rattle.outline.specs.declared.Drawn.{Drawn}
@@ -188,10 +188,11 @@ module _ (d : ℕ) (file : List ℕ) where
           let p = planOf s in
           let lent = points d in
           let sound = file-read.shape file none in
+          let mine = shapeRows s in
           let shallow : p .depth ≤ d = omega (arith, file-read.good file none .depth) in
           let vs = tab (number p held) 0 (2 * outline.points p) in
           ap text (read-as-before less below controls ∙ none-read file controls none)
           ∙ ap (λ (o : Outcome Drawn (List ℤ)). drawnText s (o .held) (o .answer))
-          (judge-none (shapeRowsOf d s ++ outline.planRows n p held lent) (refuses drawn.Refused lent) (outline.accepts p held lent) (none-both (shapeRowsOf d s) (outline.planRows n p held lent) (sound .0, (le-ltb d (s .depth) below, sound .1 .1)) (file-read.lists file none d shallow)))
+          (judge-none (shapeRowsOf d s ++ outline.planRows n p held lent) (refuses drawn.Refused lent) (outline.accepts p held lent) (none-both (shapeRowsOf d s) (outline.planRows n p held lent) (row-fails 1 mine sound, (le-ltb d (s .depth) below, (row-fails 24 mine sound, (row-fails 3 mine sound, tt)))) (file-read.lists file none d shallow)))
           ∙ ap (outlineText (s .basis) (s .depth) (p .spans)) (file-read.front file none d shallow vs (length-tab (number p held) 0 (2 * outline.points p)))
           ∙ sym (drawn-text file none)

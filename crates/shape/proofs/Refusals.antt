@@ -20,6 +20,7 @@ use Rattle.shape.specs.declared.Plan.{Plan}
 use Rattle.shape.specs.declared.Refusal.{Refusal}
 use Rattle.shape.specs.declared.Judged.the-variants.{Sound, Unsound}
 use Rattle.shape.specs.declared.Checked.the-variants.{Fine, Bad}
+use Rattle.shape.specs.Depth.{shapeAt}
 use Rattle.shape.specs.Shape.{lastBasis, cardinal, sixtyFourths, basisOf, basisIn, spansOf, allowed}
 use Rattle.shape.specs.Refusals.{Row, judge, First, NoRow, shapeRows, planOf, judgeShape, outside, firstOutside, limitsRow, controlRows, judgeControls, listRows, judgeLists}
 use Rattle.shape.specs.Inner.{Good, Lent}
@@ -200,6 +201,10 @@ good-plan s h =
 
 pub sound-facts : (s : Shape) (p : Plan) → judgeShape s ≡ Sound p → Good s p
 sound-facts s p e = subst (λ q. Good s q) (sym (sound-plan s p e)) (good-plan s (sound-none s p e))
+
+-- no row holds of the same shape at another depth that is offered
+pub none-at : (s : Shape) (k : ℕ) → k ≤ deepest → NoRow (shapeRows s) → NoRow (shapeRows (shapeAt k s))
+none-at s k h none = let rows = shapeRows s in (row-fails 1 rows none, (le-ltb deepest k h, (row-fails 24 rows none, (row-fails 3 rows none, tt))))
 
 -- every span of a sound shape has its four records
 pub good-records : (s : Shape) (p : Plan) → Good s p → (t : ℕ) → t < p .spans → firstRecord (p .basis) t + 3 < s .count

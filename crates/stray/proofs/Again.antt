@@ -26,7 +26,7 @@ use Rattle.shape.specs.declared.Plan.{Plan}
 use Rattle.shape.specs.Depth.{shapeAt, planAt}
 use Rattle.shape.specs.Refusals.{NoRow, shapeRows, controlRows, pointRows, planOf}
 use Rattle.shape.specs.Shape.{pointsOf}
-use Rattle.shape.proofs.Refusals.{none-earlier, none-later, none-both}
+use Rattle.shape.proofs.Refusals.{none-earlier, none-later, none-both, none-at}
 use Rattle.spans.specs.Numbers.{sumOf, number, remainderOf}
 use Rattle.outline.specs.declared.Drawn.the-variants.{Done}
 use Rattle.outline.specs.declared.Figures.{Figures}
@@ -112,7 +112,7 @@ module _ (s : Shape) (controls lent : List ℤ) (fs : Figures) (held : List ℤ)
       let none = done-none s controls lent fs held done in
       let mine = none-earlier (shapeRows s) (planRows (s .count) (planOf s) controls lent) none in
       let lists = none-earlier (controlRows (s .count) (s .count) controls) (pointRows (points (planOf s)) (length lent)) (none-later (shapeRows s) (planRows (s .count) (planOf s) controls lent) none) in
-      none-both (shapeRows deeper) (planRows (s .count) (planOf deeper) controls list) (mine .0, (le-ltb deepest (s .depth + l) shallow, mine .1 .1))
+      none-both (shapeRows deeper) (planRows (s .count) (planOf deeper) controls list) (none-at s (s .depth + l) shallow mine)
       (none-both (controlRows (s .count) (s .count) controls) (pointRows (points (planOf deeper)) (length list)) lists (le-ltb (length list) (2 * points (planOf deeper)) room, tt))
 
   pub drawn-deeper : (list : List ℤ) → s .depth + l ≤ deepest → 2 * points (planOf deeper) ≤ length list

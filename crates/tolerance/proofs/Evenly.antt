@@ -16,7 +16,7 @@ use Rattle.shape.specs.declared.Shape.{Shape}
 use Rattle.shape.specs.declared.Plan.{Plan}
 use Rattle.shape.specs.Refusals.{NoRow, shapeRows, controlRows, pointRows, planOf}
 use Rattle.shape.specs.Shape.{pointsOf}
-use Rattle.shape.proofs.Refusals.{none-earlier, none-later, none-both}
+use Rattle.shape.proofs.Refusals.{none-earlier, none-later, none-both, none-at}
 use Rattle.spans.specs.Numbers.{sumOf, noughts}
 use Rattle.spans.specs.Filled.{fills}
 use Rattle.spans.specs.Inner.{wholes, remainders}
@@ -130,7 +130,7 @@ module _ (s : Shape) (tolerance most : ℕ) (controls lent : List ℤ) (fs : Ste
       let mine = none-earlier (shapeRows s) rows none in
       let lists = none-earlier (controlRows (s .count) (s .count) controls) (toleranceRow tolerance ∷ lastRows p tolerance most controls (length lent)) (none-later (shapeRows s) rows none) in
       none-both (shapeRows (finestShape s)) (outline.planRows (s .count) q controls lent)
-      (mine .0, (refl, mine .1 .1))
+      (none-at s finest (omega arith) mine)
       (none-both (controlRows (s .count) (s .count) controls) (pointRows (outline.points q) (length lent)) lists (le-ltb (length lent) (2 * outline.points q) (subst (λ (n : ℕ). 2 * n ≤ length lent) points-full (answered-room s tolerance most controls lent fs held done)), tt))
 
   pub even-outline : draws (finestShape s) controls lent ≡ outcome (drawn.Done (record { points = fs .points; exact = fs .exact })) held
