@@ -52,7 +52,7 @@ hermiteMatrix =
       constant = four (pos 1) (pos 0) (pos 0) (pos 0);
     }
 
--- 001 "Catmull-Rom Spline Matrix", 000 (20), with the parameter s, there a, n / m, times m.
+-- 001 "Catmull-Rom Spline Matrix", which has s for the parameter, and 000 (20), which has a: at n / m, and times m.
 abbrev pub cardinalMatrix : ℤ → ℤ → Matrix
 cardinalMatrix n m =
     record {

@@ -1,12 +1,12 @@
 -- Which refusal comes first (document 02, request 7): 24 after 2 and before 3, and for basis 3 alone. And what a parameter means: 0 and 32 one half, 64 one.
 use mathlib.Core.Path.{_≡_, refl}
-use Prim.Native.Nat.{ℕ}
-use Rattle.curve.specs.declared.Basis.the-variants.{Cardinal}
+use Prim.Native.Nat.{ℕ, _-_, _^_}
+use Rattle.curve.specs.declared.Basis.the-variants.{BSpline, Cardinal}
 use Rattle.shape.specs.declared.Shape.{Shape}
 use Rattle.shape.specs.declared.Judged.{Judged}
-use Rattle.shape.specs.declared.Judged.the-variants.{Unsound}
+use Rattle.shape.specs.declared.Judged.the-variants.{Sound, Unsound}
 use Rattle.shape.specs.Shape.{sixtyFourths, basisOf, spansOf, recordsOf, allowed}
-use Rattle.shape.specs.Refusals.{judge, judgeShape}
+use Rattle.shape.specs.Refusals.{judge, planOf, judgeShape}
 
 abbrev shape : ℕ → ℕ → ℕ → ℕ → Shape
 shape b k n c = record { basis = b; depth = k; count = n; parameter = c }
@@ -29,6 +29,15 @@ count-last = refl
 pub other-basis : judgeShape (shape 2 8 3 65) ≡ refused 3
 unfolding judgeShape judge basisOf spansOf recordsOf allowed
 other-basis = refl
+
+-- the greatest number that a shape can hold
+pub largest : judgeShape (shape 3 8 4 (2 ^ 64 - 1)) ≡ refused 24
+unfolding judgeShape judge
+largest = refl
+
+pub largest-unseen : judgeShape (shape 2 8 4 (2 ^ 64 - 1)) ≡ Sound (record { basis = BSpline; depth = 8; spans = 1 })
+unfolding judgeShape judge planOf basisOf spansOf recordsOf allowed
+largest-unseen = refl
 
 pub one-half : (basisOf 3 0 ≡ Cardinal 32) × (basisOf 3 32 ≡ Cardinal 32) × (basisOf 3 64 ≡ Cardinal 64)
 unfolding basisOf sixtyFourths
