@@ -6,7 +6,7 @@ use native.Mathlib.Omega.{arith}
 use lib.Dec.{lit≤}
 use lib.Pow.{pow-add, pow-mono}
 use Rattle.curve.specs.declared.Basis.{Basis}
-use Rattle.curve.specs.declared.Basis.the-variants.{Bezier, BSpline, Cardinal, Hermite}
+use Rattle.curve.specs.declared.Basis.the-variants.{Bezier, BSpline, Cardinal, Hermite, Loop}
 use Rattle.curve.specs.Limits.{reach}
 use Rattle.curve.specs.Span.{fold, divisor}
 use Rattle.curve.specs.Ways.{deepest}
@@ -17,6 +17,7 @@ fold-bits Bezier = refl
 fold-bits BSpline = refl
 fold-bits (Cardinal c) = refl
 fold-bits Hermite = refl
+fold-bits (Loop n) = refl
 
 pub divisor-bits : (b : Basis) (k : ℕ) → divisor b k ≡ divisorOf (bitsOf b k)
 unfolding bitsOf
@@ -34,6 +35,7 @@ few-bits Bezier = lit≤ tt
 few-bits BSpline = lit≤ tt
 few-bits (Cardinal c) = lit≤ tt
 few-bits Hermite = lit≤ tt
+few-bits (Loop n) = lit≤ tt
 
 pub bits-most : (b : Basis) (k : ℕ) → k ≤ deepest → bitsOf b k ≤ mostBits
 unfolding bitsOf
@@ -48,3 +50,4 @@ reach-most Bezier = lit≤ tt
 reach-most BSpline = lit≤ tt
 reach-most (Cardinal c) = lit≤ tt
 reach-most Hermite = lit≤ tt
+reach-most (Loop n) = lit≤ tt

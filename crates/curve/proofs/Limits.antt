@@ -16,7 +16,7 @@ use Rattle.whole.proofs.Nearest.{nearest-above, nearest-below, nearest-size}
 use Rattle.whole.proofs.Fit.{Bounded, size, ev-size}
 use Rattle.curve.specs.declared.Four.{Four}
 use Rattle.curve.specs.declared.Basis.{Basis}
-use Rattle.curve.specs.declared.Basis.the-variants.{Bezier, BSpline, Cardinal, Hermite}
+use Rattle.curve.specs.declared.Basis.the-variants.{Bezier, BSpline, Cardinal, Hermite, Loop}
 use Rattle.curve.specs.Four.{four, dot}
 use Rattle.curve.specs.Published.{mostParameter, weights}
 use Rattle.curve.specs.Span.{fold, wholeControls, weighted, divisor, sumAt, point}
@@ -108,19 +108,23 @@ bSpline-box k i q lo hi within box =
 
 -- ---- limits
 
--- the sum of each basis with its weights in i = var 4 and j = h - i = var 5, no weight of mixed sign
-wide : Basis → Fourᵉ → Ex
-wide Bezier q =
-    let i = var 4 in
-    let j = var 5 in
-    num 6 ⊗ (j ⊗ j ⊗ j) ⊗ q .a ⊕ num 18 ⊗ (i ⊗ j ⊗ j) ⊗ q .b ⊕ num 18 ⊗ (i ⊗ i ⊗ j) ⊗ q .c ⊕ num 6 ⊗ (i ⊗ i ⊗ i) ⊗ q .d
-wide BSpline q =
+-- the sum of a B-spline with its weights in i = var 4 and j = h - i = var 5
+abbrev bSplineWide : Fourᵉ → Ex
+bSplineWide q =
     let i = var 4 in
     let j = var 5 in
     j ⊗ j ⊗ j ⊗ q .a
     ⊕ (i ⊗ i ⊗ i ⊕ num 6 ⊗ (i ⊗ i ⊗ j) ⊕ num 12 ⊗ (i ⊗ j ⊗ j) ⊕ num 4 ⊗ (j ⊗ j ⊗ j)) ⊗ q .b
     ⊕ (num 4 ⊗ (i ⊗ i ⊗ i) ⊕ num 12 ⊗ (i ⊗ i ⊗ j) ⊕ num 6 ⊗ (i ⊗ j ⊗ j) ⊕ j ⊗ j ⊗ j) ⊗ q .c
     ⊕ i ⊗ i ⊗ i ⊗ q .d
+
+-- the sum of each basis with its weights in i = var 4 and j = h - i = var 5, no weight of mixed sign
+wide : Basis → Fourᵉ → Ex
+wide Bezier q =
+    let i = var 4 in
+    let j = var 5 in
+    num 6 ⊗ (j ⊗ j ⊗ j) ⊗ q .a ⊕ num 18 ⊗ (i ⊗ j ⊗ j) ⊗ q .b ⊕ num 18 ⊗ (i ⊗ i ⊗ j) ⊗ q .c ⊕ num 6 ⊗ (i ⊗ i ⊗ i) ⊗ q .d
+wide BSpline q = bSplineWide q
 wide (Cardinal c) q =
     let i = var 4 in
     let j = var 5 in
@@ -135,6 +139,7 @@ wide Hermite q =
     ⊕ num 6 ⊗ (i ⊗ j ⊗ j) ⊗ q .b
     ⊕ (num 6 ⊗ (i ⊗ i ⊗ i) ⊕ num 18 ⊗ (i ⊗ i ⊗ j)) ⊗ q .c
     ⊖ num 6 ⊗ (i ⊗ i ⊗ j) ⊗ q .d
+wide (Loop n) q = bSplineWide q
 
 wide-is : (b : Basis) (q : Four) (i j : ℕ) → weighted (wholeControls b q) (pos i) (pos (i + j)) ≡ ev (valuesWith b q (pos i) (pos j)) (wide b p)
 unfolding weighted weights dot wholeControls wide
@@ -142,6 +147,7 @@ wide-is Bezier q i j = solve (valuesWith Bezier q (pos i) (pos j)) (weightedᵉ 
 wide-is BSpline q i j = solve (valuesWith BSpline q (pos i) (pos j)) (weightedᵉ (wholeᵉ BSpline p) (var 4) (var 4 ⊕ var 5)) (wide BSpline p) tt
 wide-is (Cardinal c) q i j = solve (valuesWith (Cardinal c) q (pos i) (pos j)) (weightedᵉ (wholeᵉ (Cardinal c) p) (var 4) (var 4 ⊕ var 5)) (wide (Cardinal c) p) tt
 wide-is Hermite q i j = solve (valuesWith Hermite q (pos i) (pos j)) (weightedᵉ (wholeᵉ Hermite p) (var 4) (var 4 ⊕ var 5)) (wide Hermite p) tt
+wide-is (Loop n) q i j = solve (valuesWith (Loop n) q (pos i) (pos j)) (weightedᵉ (wholeᵉ (Loop n) p) (var 4) (var 4 ⊕ var 5)) (wide (Loop n) p) tt
 
 -- how many times ijh the sizes of a basis' weights are more than `fold` times h^3, at most: of a cardinal one six times the parameter
 further : Basis → ℕ
@@ -149,6 +155,7 @@ further Bezier = 6
 further BSpline = 6
 further (Cardinal c) = 6 * mostParameter
 further Hermite = 6
+further (Loop n) = 6
 
 -- L times the sizes of all weights, where they are f·h^3 + g·ijh
 whole-size : ℕ → ℕ → ℕ → ℕ → ℕ → ℕ
@@ -189,6 +196,7 @@ weights-size b l i j = go b
     go BSpline = omega (arith, pos-injective (solve r (added (wide BSpline alike) ⊕ left-over) (whole-sizeᵉ (num 6) (num 6)) tt))
     go (Cardinal c) = le-of-eq (pos-injective (solve r (added (wide (Cardinal c) alike)) (whole-sizeᵉ (num 192) (num 6 ⊗ taut)) tt))
     go Hermite = le-of-eq (pos-injective (solve r (added (wide Hermite alike)) (whole-sizeᵉ (num 6) (num 6)) tt))
+    go (Loop n) = omega (arith, pos-injective (solve r (added (wide (Loop n) alike) ⊕ left-over) (whole-sizeᵉ (num 6) (num 6)) tt))
 
 -- 4·i·j is at most h^2, by the square of the difference of i and j: so with L at 4,000,000 the whole is at most 4,000,000·f + 1,000,000·g times h^3, which is the reach, f times
 near : (f g i d : ℕ) → whole-size f g limit i (i + d) + 1000000 * g * ((i + (i + d)) * (d * d)) ≡ (limit * f + 1000000 * g) * ((i + (i + d)) * (i + (i + d)) * (i + (i + d)))
@@ -223,6 +231,7 @@ reached Bezier = refl
 reached BSpline = refl
 reached (Cardinal c) = refl
 reached Hermite = refl
+reached (Loop n) = refl
 
 -- Every sum of a span inside the limits, with a parameter that is offered, is within the divisor times the reach, at each of its 2^k + 1 steps.
 pub sum-size : (b : Basis) (k i : ℕ) (q : Four) → i ≤ 2 ^ k → parameterOf b ≤ mostParameter → Inside limit q → natAbs (sumAt b k q i) ≤ divisor b k * reach b
@@ -273,3 +282,4 @@ controls-inside Bezier q offered inside = sized Bezier q offered inside (whole�
 controls-inside BSpline q offered inside = sized BSpline q offered inside (wholeᵉ BSpline p) tt tt tt tt
 controls-inside (Cardinal c) q offered inside = sized (Cardinal c) q offered inside (wholeᵉ (Cardinal c) p) tt tt tt tt
 controls-inside Hermite q offered inside = sized Hermite q offered inside (wholeᵉ Hermite p) tt tt tt tt
+controls-inside (Loop n) q offered inside = sized (Loop n) q offered inside (wholeᵉ (Loop n) p) tt tt tt tt

@@ -5,7 +5,7 @@ use lib.IntN.{ℤ, pos}
 use Rattle.whole.proofs.Ring.{Ex, var, lit, _⊕_, _⊖_, _⊗_}
 use Rattle.curve.specs.declared.Four.{Four}
 use Rattle.curve.specs.declared.Basis.{Basis}
-use Rattle.curve.specs.declared.Basis.the-variants.{Bezier, BSpline, Cardinal, Hermite}
+use Rattle.curve.specs.declared.Basis.the-variants.{Bezier, BSpline, Cardinal, Hermite, Loop}
 use Rattle.curve.specs.Published.{Matrix}
 use Rattle.curve.specs.Limits.{parameterOf}
 
@@ -82,11 +82,15 @@ weightsᵉ x y = let j = y ⊖ x in fourᵉ (j ⊗ j ⊗ j) (num 3 ⊗ (x ⊗ j 
 abbrev pub weightedᵉ : Fourᵉ → Ex → Ex → Ex
 weightedᵉ q x y = dotᵉ (weightsᵉ x y) q
 
+abbrev pub bSplineᵉ : Fourᵉ → Fourᵉ
+bSplineᵉ q = fourᵉ (q .a ⊕ num 4 ⊗ q .b ⊕ q .c) (num 4 ⊗ q .b ⊕ num 2 ⊗ q .c) (num 2 ⊗ q .b ⊕ num 4 ⊗ q .c) (q .b ⊕ num 4 ⊗ q .c ⊕ q .d)
+
 abbrev pub wholeᵉ : Basis → Fourᵉ → Fourᵉ
 wholeᵉ Bezier q = fourᵉ (num 6 ⊗ q .a) (num 6 ⊗ q .b) (num 6 ⊗ q .c) (num 6 ⊗ q .d)
-wholeᵉ BSpline q = fourᵉ (q .a ⊕ num 4 ⊗ q .b ⊕ q .c) (num 4 ⊗ q .b ⊕ num 2 ⊗ q .c) (num 2 ⊗ q .b ⊕ num 4 ⊗ q .c) (q .b ⊕ num 4 ⊗ q .c ⊕ q .d)
+wholeᵉ BSpline q = bSplineᵉ q
 wholeᵉ (Cardinal c) q = fourᵉ (num 192 ⊗ q .b) (num 192 ⊗ q .b ⊕ taut ⊗ (q .c ⊖ q .a)) (num 192 ⊗ q .c ⊖ taut ⊗ (q .d ⊖ q .b)) (num 192 ⊗ q .c)
 wholeᵉ Hermite q = fourᵉ (num 6 ⊗ q .a) (num 6 ⊗ q .a ⊕ num 2 ⊗ q .b) (num 6 ⊗ q .c ⊖ num 2 ⊗ q .d) (num 6 ⊗ q .c)
+wholeᵉ (Loop n) q = bSplineᵉ q
 
 abbrev pub firstBendᵉ : Fourᵉ → Ex
 firstBendᵉ q = q .a ⊖ num 2 ⊗ q .b ⊕ q .c

@@ -14,10 +14,10 @@ use Rattle.whole.proofs.Remainder.{remainder-scale, times-nought}
 use Rattle.whole.proofs.Ring.{var, lit, _⊖_, _⊗_, solve}
 use Rattle.curve.specs.declared.Four.{Four}
 use Rattle.curve.specs.declared.Basis.{Basis}
-use Rattle.curve.specs.declared.Basis.the-variants.{Bezier, BSpline, Cardinal, Hermite}
+use Rattle.curve.specs.declared.Basis.the-variants.{Bezier, BSpline, Cardinal, Hermite, Loop}
 use Rattle.curve.specs.Four.{dot}
 use Rattle.curve.specs.Published.{published, denominator, mostParameter, cardinalToBezier, cubic, weights, bezierMatrix, hermiteMatrix, bSplineMatrix}
-use Rattle.curve.specs.Span.{stride, fold, firstRecord, recordsFrom, records, wholeControls, weighted, divisor, sumAt, point}
+use Rattle.curve.specs.Span.{stride, fold, firstRecord, recordsFrom, recordAt, records, bSplineControls, wholeControls, weighted, divisor, sumAt, point}
 use Rattle.curve.proofs.Stride.{next-first}
 use Rattle.curve.proofs.Reflect.{fourᵉ, num, p, i, h, taut, values, valuesWith, dotᵉ, matrixᵉ, cardinalᵉ, cubicᵉ, weightedᵉ, wholeᵉ}
 
@@ -28,6 +28,7 @@ controls-published Bezier q x y = solve (valuesWith Bezier q x y) (weightedᵉ (
 controls-published BSpline q x y = solve (valuesWith BSpline q x y) (weightedᵉ (wholeᵉ BSpline p) i h ⊗ num 6) (cubicᵉ (matrixᵉ bSplineMatrix) p i h ⊗ num 6) tt
 controls-published (Cardinal c) q x y = solve (valuesWith (Cardinal c) q x y) (weightedᵉ (wholeᵉ (Cardinal c) p) i h ⊗ num mostParameter) (cubicᵉ (cardinalᵉ taut (num mostParameter)) p i h ⊗ num 192) tt
 controls-published Hermite q x y = solve (valuesWith Hermite q x y) (weightedᵉ (wholeᵉ Hermite p) i h ⊗ num 1) (cubicᵉ (matrixᵉ hermiteMatrix) (fourᵉ (p .a) (p .c) (p .b) (p .d)) i h ⊗ num 6) tt
+controls-published (Loop n) q x y = solve (valuesWith (Loop n) q x y) (weightedᵉ (wholeᵉ (Loop n) p) i h ⊗ num 6) (cubicᵉ (matrixᵉ bSplineMatrix) p i h ⊗ num 6) tt
 
 -- For every parameter the cardinal controls are 192 times those of 000 (21) at a = c / 64.
 pub cardinal-converted : (c : ℕ) (q : Four) → wholeControls (Cardinal c) q ≡ cardinalToBezier (pos c) (pos mostParameter) q
@@ -46,12 +47,14 @@ denominator-pos Bezier = lit< tt
 denominator-pos BSpline = lit< tt
 denominator-pos (Cardinal c) = lit< tt
 denominator-pos Hermite = lit< tt
+denominator-pos (Loop n) = lit< tt
 
 pub fold-pos : (b : Basis) → 0 < fold b
 fold-pos Bezier = lit< tt
 fold-pos BSpline = lit< tt
 fold-pos (Cardinal c) = lit< tt
 fold-pos Hermite = lit< tt
+fold-pos (Loop n) = lit< tt
 
 pub divisor-pos : (b : Basis) (k : ℕ) → 0 < divisor b k
 divisor-pos b k = mul-pos (fold-pos b) (pow-pos (3 * k))
@@ -109,19 +112,27 @@ pub weighted-end : (q : Four) (y : ℤ) → weighted q y y ≡ y *ℤ y *ℤ y *
 unfolding weighted weights dot
 weighted-end q y = solve (values q (pos 0) y) (weightedᵉ p h h) (h ⊗ h ⊗ h ⊗ p .d) tt
 
+-- a B-spline's last control is the first one's of the records a place on
+a-place-on : (r : ℕ) (at : ℕ → ℤ) → bSplineControls (recordsFrom r at) .d ≡ bSplineControls (recordsFrom (r + 1) at) .a
+unfolding recordsFrom
+a-place-on r at =
+    let e : r + 1 + 1 ≡ r + 2 = omega arith in
+    let f : r + 1 + 2 ≡ r + 3 = omega arith in
+    rw (e, f)
+
 -- the last whole control of a span is the first of the next one, a stride on
 a-stride-on : (b : Basis) (r : ℕ) (at : ℕ → ℤ) → wholeControls b (recordsFrom r at) .d ≡ wholeControls b (recordsFrom (r + stride b) at) .a
 unfolding wholeControls recordsFrom
 a-stride-on Bezier r at = refl
-a-stride-on BSpline r at =
-    let e : r + 1 + 1 ≡ r + 2 = omega arith in
-    let f : r + 1 + 2 ≡ r + 3 = omega arith in
-    rw (e, f)
+a-stride-on BSpline r at = a-place-on r at
 a-stride-on (Cardinal c) r at = ap (λ n. pos 192 *ℤ at n) (omega arith)
 a-stride-on Hermite r at = refl
+a-stride-on (Loop n) r at = a-place-on r at
 
 controls-meet : (b : Basis) (s : ℕ) (at : ℕ → ℤ) → wholeControls b (records b s at) .d ≡ wholeControls b (records b (suc s) at) .a
-controls-meet b s at = a-stride-on b (firstRecord b s) at ∙ ap (λ r. wholeControls b (recordsFrom r at) .a) (sym (next-first b s))
+controls-meet b s at =
+    let counted : ℕ → ℤ = λ r. at (recordAt b r) in
+    a-stride-on b (firstRecord b s) counted ∙ ap (λ r. wholeControls b (recordsFrom r counted) .a) (sym (next-first b s))
 
 -- For each basis the sum at a span's end, at t = 1, is the one at the next span's start, at t = 0.
 pub joint : (b : Basis) (k s : ℕ) (at : ℕ → ℤ) → sumAt b k (records b s at) (2 ^ k) ≡ sumAt b k (records b (suc s) at) 0

@@ -1,10 +1,10 @@
 -- The stride of a basis is from 1 to 3: all that counts and places need to know of a basis.
 use mathlib.Core.Path.{_≡_, ap, _∙_}
 use Prim.Native.Nat.{ℕ, suc, _+_, _*_, _≤_, _<_}
-use native.Mathlib.Nat.{mul-le-mul-left, mul-suc, one-mul}
+use native.Mathlib.Nat.{mul-le-mul-left, mul-le-mul-right, mul-suc, one-mul}
 use native.Mathlib.Omega.{arith}
 use Rattle.curve.specs.declared.Basis.{Basis}
-use Rattle.curve.specs.declared.Basis.the-variants.{Bezier, BSpline, Cardinal, Hermite}
+use Rattle.curve.specs.declared.Basis.the-variants.{Bezier, BSpline, Cardinal, Hermite, Loop}
 use Rattle.curve.specs.Span.{stride, firstRecord}
 
 pub stride-bounds : (b : Basis) → (1 ≤ stride b) × (stride b ≤ 3)
@@ -12,6 +12,12 @@ stride-bounds Bezier = (omega arith, omega arith)
 stride-bounds BSpline = (omega arith, omega arith)
 stride-bounds (Cardinal c) = (omega arith, omega arith)
 stride-bounds Hermite = (omega arith, omega arith)
+stride-bounds (Loop n) = (omega arith, omega arith)
+
+-- and so no span begins past three times its number
+pub first-few : (b : Basis) (s : ℕ) → firstRecord b s ≤ 3 * s
+unfolding firstRecord
+first-few b s = mul-le-mul-right {m = stride b} {n = 3} s (stride-bounds b .1)
 
 -- the next span's first record is a stride on
 pub next-first : (b : Basis) (s : ℕ) → firstRecord b (suc s) ≡ firstRecord b s + stride b

@@ -3,7 +3,7 @@ use Prim.Native.Nat.{ℕ, max}
 use lib.IntN.{ℤ, pos, natAbs, _+ℤ_, _-ℤ_, _*ℤ_}
 use Rattle.curve.specs.declared.Four.{Four}
 use Rattle.curve.specs.declared.Basis.{Basis}
-use Rattle.curve.specs.declared.Basis.the-variants.{Bezier, BSpline, Cardinal, Hermite}
+use Rattle.curve.specs.declared.Basis.the-variants.{Bezier, BSpline, Cardinal, Hermite, Loop}
 
 -- b0 - 2b1 + b2 and b1 - 2b2 + b3.
 abbrev pub firstBend : Four → ℤ
@@ -23,9 +23,11 @@ firstInRecords Bezier p = pos 6 *ℤ (p .a -ℤ pos 2 *ℤ p .b +ℤ p .c)
 firstInRecords BSpline p = p .a -ℤ pos 2 *ℤ p .b +ℤ p .c
 firstInRecords (Cardinal c) p = pos 192 *ℤ (p .c -ℤ p .b) -ℤ pos 2 *ℤ pos c *ℤ (p .c -ℤ p .a) -ℤ pos c *ℤ (p .d -ℤ p .b)
 firstInRecords Hermite p = pos 6 *ℤ (p .c -ℤ p .a) -ℤ pos 4 *ℤ p .b -ℤ pos 2 *ℤ p .d
+firstInRecords (Loop n) p = p .a -ℤ pos 2 *ℤ p .b +ℤ p .c
 
 abbrev pub lastInRecords : Basis → Four → ℤ
 lastInRecords Bezier p = pos 6 *ℤ (p .b -ℤ pos 2 *ℤ p .c +ℤ p .d)
 lastInRecords BSpline p = p .b -ℤ pos 2 *ℤ p .c +ℤ p .d
 lastInRecords (Cardinal c) p = pos 192 *ℤ (p .b -ℤ p .c) +ℤ pos c *ℤ (p .c -ℤ p .a) +ℤ pos 2 *ℤ pos c *ℤ (p .d -ℤ p .b)
 lastInRecords Hermite p = pos 6 *ℤ (p .a -ℤ p .c) +ℤ pos 2 *ℤ p .b +ℤ pos 4 *ℤ p .d
+lastInRecords (Loop n) p = p .b -ℤ pos 2 *ℤ p .c +ℤ p .d

@@ -1,11 +1,12 @@
 -- For contracts inside the project alone: no public contract uses what is here.
 -- How large sums on the way may be, and divisors as the machine has them.
-use Prim.Native.Nat.{ℕ, _+_, _*_, _^_, _≤_}
+use Prim.Native.Nat.{ℕ, _+_, _*_, _^_, _≤_, _<_}
 use lib.IntN.{natAbs}
 use Rattle.curve.specs.declared.Basis.{Basis}
-use Rattle.curve.specs.declared.Basis.the-variants.{Bezier, BSpline, Cardinal, Hermite}
+use Rattle.curve.specs.declared.Basis.the-variants.{Bezier, BSpline, Cardinal, Hermite, Loop}
 use Rattle.curve.specs.declared.Differences.{Differences}
 use Rattle.curve.specs.Limits.{limit}
+use Rattle.curve.specs.Span.{firstRecord, recordAt}
 use Rattle.curve.specs.Ways.{deepest}
 
 -- Whole controls of records inside the limit are within this: 320 times the limit, by the cardinal row at parameter 64.
@@ -22,6 +23,7 @@ foldBits Bezier = 0
 foldBits BSpline = 0
 foldBits (Cardinal c) = 5
 foldBits Hermite = 0
+foldBits (Loop n) = 0
 
 unfoldable pub bitsOf : Basis → ℕ → ℕ
 bitsOf b k = foldBits b + 3 * k
@@ -32,6 +34,10 @@ divisorOf bits = 6 * 2 ^ bits
 -- The most bits of a divisor.
 abbrev pub mostBits : ℕ
 mostBits = 5 + 3 * deepest
+
+-- A list of `len` numbers holds the four records of span s.
+abbrev pub Holds : Basis → ℕ → ℕ → Type 0
+Holds b s len = (r : ℕ) → r < 4 → 2 * recordAt b (firstRecord b s + r) + 2 ≤ len
 
 -- A sum and its differences that are far from the ends of 64 bits.
 pub record Small (s : Differences) : Type 0 where

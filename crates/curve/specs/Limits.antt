@@ -6,7 +6,7 @@ use lib.IntN.{ℤ, natAbs}
 use lib.Signed.{_≤ℤ_}
 use Rattle.curve.specs.declared.Four.{Four}
 use Rattle.curve.specs.declared.Basis.{Basis}
-use Rattle.curve.specs.declared.Basis.the-variants.{Bezier, BSpline, Cardinal, Hermite}
+use Rattle.curve.specs.declared.Basis.the-variants.{Bezier, BSpline, Cardinal, Hermite, Loop}
 use Rattle.curve.specs.Four.{four}
 
 -- A control coordinate is from -4,000,000 to 4,000,000.
@@ -19,6 +19,7 @@ reach Bezier = 5000000
 reach BSpline = 5000000
 reach (Cardinal c) = 6000000
 reach Hermite = 5000000
+reach (Loop n) = 5000000
 
 -- The parameter of a basis, of which row 24 refuses those above 64 (`shape`); nought where it has none.
 abbrev pub parameterOf : Basis → ℕ
@@ -26,6 +27,7 @@ parameterOf Bezier = 0
 parameterOf BSpline = 0
 parameterOf (Cardinal c) = c
 parameterOf Hermite = 0
+parameterOf (Loop n) = 0
 
 -- Further from zero than n, either way.
 abbrev pub beyond : ℕ → ℤ → Bool

@@ -6,7 +6,7 @@ use Prim.Native.Nat.{ℕ}
 use lib.IntN.{ℤ, pos, _+ℤ_, _-ℤ_, _*ℤ_}
 use Rattle.curve.specs.declared.Four.{Four}
 use Rattle.curve.specs.declared.Basis.{Basis}
-use Rattle.curve.specs.declared.Basis.the-variants.{Bezier, BSpline, Cardinal, Hermite}
+use Rattle.curve.specs.declared.Basis.the-variants.{Bezier, BSpline, Cardinal, Hermite, Loop}
 use Rattle.curve.specs.Numbers.{neg}
 use Rattle.curve.specs.Four.{four, dot}
 
@@ -93,6 +93,7 @@ denominator Bezier = 1
 denominator BSpline = 6
 denominator (Cardinal c) = mostParameter
 denominator Hermite = 1
+denominator (Loop n) = 6
 
 -- Document 01 has a Hermite span's records as start, start tangent, end, end tangent; the matrix wants both ends first.
 unfoldable pub published : Basis → Four → ℤ → ℤ → ℤ
@@ -100,6 +101,7 @@ published Bezier p i h = cubic bezierMatrix p i h
 published BSpline p i h = cubic bSplineMatrix p i h
 published (Cardinal c) p i h = cubic (cardinalMatrix (pos c) (pos mostParameter)) p i h
 published Hermite p i h = cubic hermiteMatrix (four (p .a) (p .c) (p .b) (p .d)) i h
+published (Loop n) p i h = cubic bSplineMatrix p i h
 
 -- ---- the same curves by weights of t
 

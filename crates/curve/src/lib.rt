@@ -7,12 +7,14 @@ pub mod records;
 pub mod rounding;
 pub mod weights;
 
-// The four bases of document 01, numbered 1 to 4 there. A cardinal curve has its parameter, in 64ths (document 02, request 7).
+// The four bases of document 01, numbered 1 to 4 there, and a fifth. A cardinal curve has its parameter, in 64ths (document 02, request 7), and a loop, a B-spline whose
+// records run round, has how many they are (request 8).
 pub enum Basis {
     Bezier,
     BSpline,
     Cardinal(usize),
     Hermite,
+    Loop(usize),
 }
 
 // Four whole numbers of one axis: the records of a span, or its Bezier controls.

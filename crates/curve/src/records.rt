@@ -1,10 +1,12 @@
 // Which records a span uses, and its Bezier controls, so many times that all are whole.
 ghost use mathlib.Core.Path.{_≡_};
 ghost use Prim.Native.Nat.{_+_, _*_, _^_, _≤_, _<_};
+ghost use lib.IntN.{natAbs};
 ghost use lib.ListN.{length};
 ghost use Rattle.curve.specs.Published.{mostParameter};
 ghost use Rattle.curve.specs.Limits.{Inside, limit, parameterOf};
-ghost use Rattle.curve.specs.Span.{stride, firstRecord, recordsFrom, coordinate, wholeControls};
+ghost use Rattle.curve.specs.Inner.{Holds};
+ghost use Rattle.curve.specs.Span.{stride, firstRecord, roundEnd, recordAt, records, coordinate, wholeControls};
 use crate::Basis;
 use crate::Four;
 
@@ -17,6 +19,7 @@ pub fn stride_of(basis: Basis) -> usize
         Basis::BSpline => 1,
         Basis::Cardinal(_) => 1,
         Basis::Hermite => 2,
+        Basis::Loop(_) => 1,
     }
 }
 
@@ -28,17 +31,48 @@ pub fn first_record(basis: Basis, span: usize) -> usize
     stride_of(basis) * span
 }
 
-// The four records from `first` on, on an axis: 0 is x, 1 is y.
-pub fn four_records(controls: &[i32], first: usize, axis: usize) -> Four
-    requires { ⌜ 2 * first + axis + 6 < length (now controls) ⌝ }
-    ensures { λ r. ⌜ r ≡ recordsFrom first (coordinate (now (controls .entry)) axis) ⌝ }
+// A number counted round the end of `count`: past the last comes the first again.
+pub fn round_end(count: usize, number: usize) -> usize
+    ensures { λ r. ⌜ r ≡ roundEnd count number ⌝ }
 {
-    let at = 2 * first + axis;
+    if number < count {
+        return number;
+    }
+    number - count
+}
+
+// A record as a basis counts its records: those of a loop run round.
+pub fn record_at(basis: Basis, place: usize) -> usize
+    ensures { λ r. ⌜ r ≡ recordAt basis place ⌝ }
+{
+    match basis {
+        Basis::Bezier => place,
+        Basis::BSpline => place,
+        Basis::Cardinal(_) => place,
+        Basis::Hermite => place,
+        Basis::Loop(count) => round_end(count, place),
+    }
+}
+
+// The coordinate of a record, as a basis counts them, on an axis: 0 is x, 1 is y.
+fn coordinate_of(controls: &[i32], basis: Basis, place: usize, axis: usize) -> i64
+    requires { ⌜ (axis < 2) × (2 * recordAt basis place + 2 ≤ length (now controls)) ⌝ }
+    ensures { λ r. ⌜ (r ≡ coordinate (now (controls .entry)) axis (recordAt basis place)) × (natAbs r ≤ 2 ^ 31) ⌝ }
+{
+    controls[2 * record_at(basis, place) + axis] as i64
+}
+
+// The four records of a span on an axis.
+pub fn four_records(controls: &[i32], basis: Basis, span: usize, axis: usize) -> Four
+    requires { ⌜ (span < 2 ^ 62) × (axis < 2) × Holds basis span (length (now controls)) ⌝ }
+    ensures { λ r. ⌜ r ≡ records basis span (coordinate (now (controls .entry)) axis) ⌝ }
+{
+    let first = first_record(basis, span);
     Four {
-        a: controls[at] as i64,
-        b: controls[at + 2] as i64,
-        c: controls[at + 4] as i64,
-        d: controls[at + 6] as i64,
+        a: coordinate_of(controls, basis, first, axis),
+        b: coordinate_of(controls, basis, first + 1, axis),
+        c: coordinate_of(controls, basis, first + 2, axis),
+        d: coordinate_of(controls, basis, first + 3, axis),
     }
 }
 
@@ -52,6 +86,7 @@ pub fn whole_controls(basis: Basis, p: Four) -> Four
         Basis::BSpline => bspline_controls(p),
         Basis::Cardinal(parameter) => cardinal_controls(parameter, p),
         Basis::Hermite => hermite_controls(p),
+        Basis::Loop(_) => bspline_controls(p),
     }
 }
 

@@ -21,6 +21,7 @@ pub fn divisor_bits(basis: Basis, depth: usize) -> u32
         Basis::BSpline => cubed,
         Basis::Cardinal(_) => cubed + 5,
         Basis::Hermite => cubed,
+        Basis::Loop(_) => cubed,
     }
 }
 

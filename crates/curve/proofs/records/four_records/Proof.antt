@@ -1,84 +1,83 @@
--- Record r + n stands 2n numbers after record r; a 32-bit coordinate keeps its value at 64 bits.
-use mathlib.Core.Path.{_≡_, ap, _∙_}
-use Prim.Native.Nat.{ℕ, _+_, _*_}
+-- The four records stand one after another, as the basis counts them, and the list holds each.
+use mathlib.Core.Path.{_≡_, sym, ap, _∙_, subst}
+use Prim.Native.Nat.{ℕ, _+_, _*_, _^_, _≤_, _<_}
+use native.Mathlib.Nat.{add-zero}
 use native.Mathlib.Omega.{arith}
 use borrow.Author.Needs.{needs}
-use lib.IntN.{ℤ, pos}
-use lib.ListN.{getD}
-use Rattle.whole.proofs.Fit.{widened, widened-fits}
-use Rattle.curve.specs.Span.{coordinate, recordsFrom}
+use lib.Dec.{lit<}
+use lib.IntN.{ℤ, natAbs}
+use lib.ListN.{length}
+use mir.Syntax.{w64}
+use Rattle.whole.proofs.Fit.{kept, kept-is, sfits}
+use Rattle.curve.specs.Span.{firstRecord, coordinate, recordAt, recordsFrom}
+use Rattle.curve.proofs.Stride.{first-few}
 use Rattle.curve.proofs.records.four_records.Statement.{statement}
 use Rattle.curve.proofs.records.four_records.Tie as tie
 
-mul-at : tie.Need-mul-at
-mul-at c = search needs
+first-record-requires : tie.Need-first-record-requires
+first-record-requires c κs = search needs
 
-add-at : tie.Need-add-at
-add-at c = search needs
+-- the list holds the record that is r places after the first
+held : (c : tie.After-first-record) (r : ℕ) → r < 4 → 2 * recordAt (c .before .args .basis) (c .first-record .result + r) + 2 ≤ length (c .before .args .controls .now)
+held c r h =
+    let a = c .before .args in
+    subst (λ (n : ℕ). 2 * recordAt (a .basis) (n + r) + 2 ≤ length (a .controls .now)) (sym (c .first-record .ensures)) (c .before .pre .2 r h)
 
-mul-t5 : tie.Need-mul-t5
-mul-t5 c = search needs
+coordinate-of-requires : tie.Need-coordinate-of-requires
+coordinate-of-requires c κs =
+    let a = c .before .args in
+    (c .before .pre .1, subst (λ (n : ℕ). 2 * recordAt (a .basis) n + 2 ≤ length (a .controls .now)) (add-zero (c .first-record .result)) (held c 0 (lit< tt)))
 
-shared-slice-copy-out-t7 : tie.Need-shared-slice-copy-out-t7
-shared-slice-copy-out-t7 c = search needs
+-- no span begins so far on that three more would not fit
+few : (c : tie.After-first-record) → c .first-record .result + 3 < 2 ^ 64
+few c = let a = c .before .args in omega (arith, c .first-record .ensures, first-few (a .basis) (a .span), c .before .pre .0)
 
-cast-t8 : tie.Need-cast-t8
-cast-t8 c = let s = c .before .args in widened-fits (getD (s .controls .now) (2 * s .first + s .axis) (pos 0)) (record { sfits = c .t7 .given })
+add-coordinate-of : tie.Need-add-coordinate-of
+add-coordinate-of c = omega (arith, few (c .before))
 
-add-t9 : tie.Need-add-t9
-add-t9 c = search needs
+coordinate-of-requires-2 : tie.Need-coordinate-of-requires-2
+coordinate-of-requires-2 c κs = (c .before .before .pre .1, held (c .before) 1 (lit< tt))
 
-mul-t10 : tie.Need-mul-t10
-mul-t10 c = search needs
+add-coordinate-of-2 : tie.Need-add-coordinate-of-2
+add-coordinate-of-2 c = omega (arith, few (c .before .before))
 
-shared-slice-copy-out-t12 : tie.Need-shared-slice-copy-out-t12
-shared-slice-copy-out-t12 c = search needs
+coordinate-of-requires-3 : tie.Need-coordinate-of-requires-3
+coordinate-of-requires-3 c κs = (c .before .before .before .pre .1, held (c .before .before) 2 (lit< tt))
 
-cast-t13 : tie.Need-cast-t13
-cast-t13 c = let s = c .before .before .args in widened-fits (getD (s .controls .now) (2 * s .first + s .axis + 2) (pos 0)) (record { sfits = c .t12 .given })
+add-coordinate-of-3 : tie.Need-add-coordinate-of-3
+add-coordinate-of-3 c = omega (arith, few (c .before .before .before))
 
-add-t14 : tie.Need-add-t14
-add-t14 c = search needs
+coordinate-of-requires-4 : tie.Need-coordinate-of-requires-4
+coordinate-of-requires-4 c κs = (c .before .before .before .before .pre .1, held (c .before .before .before) 3 (lit< tt))
 
-mul-t15 : tie.Need-mul-t15
-mul-t15 c = search needs
-
-shared-slice-copy-out-t17 : tie.Need-shared-slice-copy-out-t17
-shared-slice-copy-out-t17 c = search needs
-
-cast-t18 : tie.Need-cast-t18
-cast-t18 c = let s = c .before .before .before .args in widened-fits (getD (s .controls .now) (2 * s .first + s .axis + 4) (pos 0)) (record { sfits = c .t17 .given })
-
-add-t19 : tie.Need-add-t19
-add-t19 c = search needs
-
-mul-t20 : tie.Need-mul-t20
-mul-t20 c = search needs
-
-shared-slice-copy-out-t22 : tie.Need-shared-slice-copy-out-t22
-shared-slice-copy-out-t22 c = search needs
-
-cast-t23 : tie.Need-cast-t23
-cast-t23 c = let s = c .before .before .before .before .args in widened-fits (getD (s .controls .now) (2 * s .first + s .axis + 6) (pos 0)) (record { sfits = c .t22 .given })
+-- a coordinate as the machine keeps it
+same : {z w : ℤ} → (z ≡ w) × (natAbs z ≤ 2 ^ 31) → kept w64 z ≡ w
+same {z} {w} (is, size) = kept-is w64 z (sfits w64 z (2 ^ 31) size tt) ∙ is
 
 returns : tie.Need-returns
-unfolding coordinate recordsFrom
+unfolding recordsFrom
 returns c =
-    let s = c .before .before .before .before in
-    let l = s .args .controls .now in
-    let r = s .args .first in
-    let axis = s .args .axis in
-    let at : ℕ → ℤ = λ i. getD l i (pos 0) in
-    let second : 2 * r + axis + 2 ≡ 2 * (r + 1) + axis = omega arith in
-    let third : 2 * r + axis + 4 ≡ 2 * (r + 2) + axis = omega arith in
-    let fourth : 2 * r + axis + 6 ≡ 2 * (r + 3) + axis = omega arith in
+    let f = c .before .before .before .before in
+    let a = f .before .args in
+    let at : ℕ → ℤ = λ n. coordinate (a .controls .now) (a .axis) (recordAt (a .basis) n) in
     λ k.
     record {
-      a = widened (getD l (2 * r + axis) (pos 0)) (record { sfits = c .before .before .before .t7 .given }) k;
-      b = (widened (getD l (2 * r + axis + 2) (pos 0)) (record { sfits = c .before .before .t12 .given }) ∙ ap at second) k;
-      c = (widened (getD l (2 * r + axis + 4) (pos 0)) (record { sfits = c .before .t17 .given }) ∙ ap at third) k;
-      d = (widened (getD l (2 * r + axis + 6) (pos 0)) (record { sfits = c .t22 .given }) ∙ ap at fourth) k;
+      a = (same (c .before .before .before .coordinate-of .ensures) ∙ ap at (f .first-record .ensures)) k;
+      b = (same (c .before .before .coordinate-of2 .ensures) ∙ ap (λ (n : ℕ). at (n + 1)) (f .first-record .ensures)) k;
+      c = (same (c .before .coordinate-of3 .ensures) ∙ ap (λ (n : ℕ). at (n + 2)) (f .first-record .ensures)) k;
+      d = (same (c .coordinate-of4 .ensures) ∙ ap (λ (n : ℕ). at (n + 3)) (f .first-record .ensures)) k;
     }
 
 pub four-records-spec : {M : Type 1} → statement M
-four-records-spec = tie.close (tie.spec mul-at add-at mul-t5 shared-slice-copy-out-t7 cast-t8 add-t9 mul-t10 shared-slice-copy-out-t12 cast-t13 add-t14 mul-t15 shared-slice-copy-out-t17 cast-t18 add-t19 mul-t20 shared-slice-copy-out-t22 cast-t23 returns)
+four-records-spec =
+    tie.close
+    (tie.spec
+    first-record-requires
+    coordinate-of-requires
+    add-coordinate-of
+    coordinate-of-requires-2
+    add-coordinate-of-2
+    coordinate-of-requires-3
+    add-coordinate-of-3
+    coordinate-of-requires-4
+    returns)

@@ -32,6 +32,12 @@ enum-told-3 c = search needs
 hermite-controls-requires : tie.Need-hermite-controls-requires
 hermite-controls-requires c κs = search needs
 
+enum-told-4 : tie.Need-enum-told-4
+enum-told-4 c = search needs
+
+bspline-controls-requires-2 : tie.Need-bspline-controls-requires-2
+bspline-controls-requires-2 c κs = search needs
+
 returns : tie.Need-returns
 returns c = c .bezier-controls .ensures ∙ sym (ap (λ b. wholeControls b (c .before .before .before .args .p)) (c .before .enum-told .given .1))
 
@@ -44,5 +50,10 @@ returns-3 c = c .cardinal-controls .ensures ∙ sym (ap (λ b. wholeControls b (
 returns-4 : tie.Need-returns-4
 returns-4 c = c .hermite-controls .ensures ∙ sym (ap (λ b. wholeControls b (c .before .before .before .args .p)) (c .before .enum-told3 .given .1))
 
+-- a loop's controls are a B-spline's
+returns-5 : tie.Need-returns-5
+unfolding wholeControls
+returns-5 c = c .bspline-controls2 .ensures ∙ sym (ap (λ b. wholeControls b (c .before .before .before .args .p)) (c .before .enum-told4 .given .1))
+
 pub whole-controls-spec : {M : Type 1} → statement M
-whole-controls-spec = tie.close (tie.spec enum-told bezier-controls-requires enum-told-2 bspline-controls-requires known-basis cardinal-controls-requires enum-told-3 hermite-controls-requires returns returns-2 returns-3 returns-4)
+whole-controls-spec = tie.close (tie.spec enum-told bezier-controls-requires enum-told-2 bspline-controls-requires known-basis cardinal-controls-requires enum-told-3 hermite-controls-requires enum-told-4 bspline-controls-requires-2 returns returns-2 returns-3 returns-4 returns-5)

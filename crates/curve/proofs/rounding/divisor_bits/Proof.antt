@@ -27,6 +27,9 @@ add-result c = search needs
 enum-told-4 : tie.Need-enum-told-4
 enum-told-4 c = search needs
 
+enum-told-5 : tie.Need-enum-told-5
+enum-told-5 c = search needs
+
 returns : tie.Need-returns
 unfolding bitsOf
 returns c = omega (arith, ap foldBits (c .enum-told .given .1))
@@ -43,6 +46,10 @@ returns-4 : tie.Need-returns-4
 unfolding bitsOf
 returns-4 c = omega (arith, ap foldBits (c .enum-told4 .given .1))
 
+returns-5 : tie.Need-returns-5
+unfolding bitsOf
+returns-5 c = omega (arith, ap foldBits (c .enum-told5 .given .1))
+
 pub divisor-bits-spec : {M : Type 1} → statement M
 divisor-bits-spec =
     tie.close
@@ -54,7 +61,9 @@ divisor-bits-spec =
     enum-told-3
     add-result
     enum-told-4
+    enum-told-5
     returns
     returns-2
     returns-3
-    returns-4)
+    returns-4
+    returns-5)
