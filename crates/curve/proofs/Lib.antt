@@ -4,6 +4,7 @@ pub mod Reflect
 pub mod Published
 pub mod BSpline
 pub mod Stride
+pub mod Round
 pub mod Span
 pub mod Bits
 pub mod Bend

@@ -6,7 +6,7 @@ ghost use lib.ListN.{length};
 ghost use Rattle.curve.specs.Published.{mostParameter};
 ghost use Rattle.curve.specs.Limits.{Inside, limit, parameterOf};
 ghost use Rattle.curve.specs.Inner.{Holds};
-ghost use Rattle.curve.specs.Span.{stride, firstRecord, roundEnd, recordAt, records, coordinate, wholeControls};
+ghost use Rattle.curve.specs.Span.{stride, firstRecord, roundEnd, isLoop, recordAt, records, coordinate, wholeControls};
 use crate::Basis;
 use crate::Four;
 
@@ -39,6 +39,19 @@ pub fn round_end(count: usize, number: usize) -> usize
         return number;
     }
     number - count
+}
+
+// Whether the records of a basis run round.
+pub fn is_loop(basis: Basis) -> bool
+    ensures { λ r. ⌜ r ≡ isLoop basis ⌝ }
+{
+    match basis {
+        Basis::Bezier => false,
+        Basis::BSpline => false,
+        Basis::Cardinal(_) => false,
+        Basis::Hermite => false,
+        Basis::Loop(_) => true,
+    }
 }
 
 // A record as a basis counts its records: those of a loop run round.

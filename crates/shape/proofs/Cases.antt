@@ -1,7 +1,7 @@
 -- Which refusal comes first (document 02, request 7): 24 after 2 and before 3, and for basis 3 alone. And what a parameter means: 0 and 32 one half, 64 one.
 use mathlib.Core.Path.{_≡_, refl}
 use Prim.Native.Nat.{ℕ, _-_, _^_}
-use Rattle.curve.specs.declared.Basis.the-variants.{BSpline, Cardinal}
+use Rattle.curve.specs.declared.Basis.the-variants.{BSpline, Cardinal, Loop}
 use Rattle.shape.specs.declared.Shape.{Shape}
 use Rattle.shape.specs.declared.Judged.{Judged}
 use Rattle.shape.specs.declared.Judged.the-variants.{Sound, Unsound}
@@ -39,6 +39,20 @@ pub largest-unseen : judgeShape (shape 2 8 4 (2 ^ 64 - 1)) ≡ Sound (record { b
 unfolding judgeShape judge planOf basisOf spansOf recordsOf allowed
 largest-unseen = refl
 
-pub one-half : (basisOf 3 0 ≡ Cardinal 32) × (basisOf 3 32 ≡ Cardinal 32) × (basisOf 3 64 ≡ Cardinal 64)
+-- ---- document 02, request 8: a loop has from four to 64 records and as many spans, basis 6 is none, and no parameter of a loop is looked at
+
+pub shortest : judgeShape (shape 5 8 4 0) ≡ Sound (record { basis = Loop 4; depth = 8; spans = 4 })
+unfolding judgeShape judge planOf basisOf spansOf recordsOf allowed
+shortest = refl
+
+pub longest : judgeShape (shape 5 8 64 65) ≡ Sound (record { basis = Loop 64; depth = 8; spans = 64 })
+unfolding judgeShape judge planOf basisOf spansOf recordsOf allowed
+longest = refl
+
+pub no-loop : (judgeShape (shape 5 8 3 0) ≡ refused 3) × (judgeShape (shape 5 8 65 0) ≡ refused 3) × (judgeShape (shape 6 8 4 0) ≡ refused 1)
+unfolding judgeShape judge basisOf spansOf recordsOf allowed
+no-loop = (refl, refl, refl)
+
+pub one-half : (basisOf 3 0 4 ≡ Cardinal 32) × (basisOf 3 32 4 ≡ Cardinal 32) × (basisOf 3 64 4 ≡ Cardinal 64)
 unfolding basisOf sixtyFourths
 one-half = (refl, refl, refl)

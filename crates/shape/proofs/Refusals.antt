@@ -5,27 +5,28 @@ use mathlib.Core.Bool.{Bool, true, false, cond, _&&_}
 use mathlib.Core.List.{List, [], _∷_, _++_}
 use mathlib.Core.Logic.{_⊎_, inl, inr, ⊎-elim}
 use Prim.Native.Nat.{ℕ, zero, suc, _+_, _*_, _≤_, _<_}
-use native.Mathlib.Nat.{le-trans}
+use native.Mathlib.Nat.{add-zero, le-trans}
 use native.Mathlib.Omega.{arith}
 use borrow.Author.Tests.{leb-true, ltb-false, not-false, le-ltb, ne-eqb}
-use lib.Dec.{leb, ltb, eqb, lit≤}
+use lib.Dec.{leb, ltb, eqb, lit≤, lit<}
 use lib.IntN.{ℤ, natAbs}
 use lib.ListN.{length}
 use Rattle.curve.specs.Published.{mostParameter}
 use Rattle.curve.specs.Limits.{Inside, beyond, limit, parameterOf}
-use Rattle.curve.specs.Span.{coordinate, firstRecord, recordsFrom}
+use Rattle.curve.specs.Span.{coordinate, firstRecord, recordsFrom, recordAt, records}
 use Rattle.curve.specs.Ways.{deepest}
+use Rattle.curve.specs.declared.Basis.{Basis}
 use Rattle.shape.specs.declared.Shape.{Shape}
 use Rattle.shape.specs.declared.Plan.{Plan}
 use Rattle.shape.specs.declared.Refusal.{Refusal}
 use Rattle.shape.specs.declared.Judged.the-variants.{Sound, Unsound}
 use Rattle.shape.specs.declared.Checked.the-variants.{Fine, Bad}
 use Rattle.shape.specs.Depth.{shapeAt}
-use Rattle.shape.specs.Shape.{lastBasis, cardinal, sixtyFourths, basisOf, basisIn, spansOf, allowed}
+use Rattle.shape.specs.Shape.{lastBasis, cardinal, sixtyFourths, basisOf, basisIn, spansOf, allowed, leastRecords}
 use Rattle.shape.specs.Refusals.{Row, judge, First, NoRow, shapeRows, planOf, judgeShape, outside, firstOutside, limitsRow, controlRows, judgeControls, listRows, judgeLists}
-use Rattle.shape.specs.Inner.{Good, Lent}
+use Rattle.shape.specs.Inner.{RunsRound, Good, Lent}
 use Rattle.shape.proofs.Tests.{passes, and-true, or-false}
-use Rattle.shape.proofs.Spans.{allowed-facts, spans-below, last-record}
+use Rattle.shape.proofs.Spans.{allowed-facts, spans-least, spans-at-most, loop-runs, has-record}
 use Rattle.shape.proofs.Seek.{seek-fails}
 
 -- ---- any table
@@ -161,41 +162,54 @@ pub sound {ℓ} : {A : Type ℓ} (s : Shape) (p : Plan) → judgeShape s ≡ Sou
 sound s p e rest f a = judge-append (shapeRows s) rest f a ∙ judge-none (shapeRows s) f (judge rest f a) (sound-none s p e)
 
 -- a basis whose row 24 fails has a parameter that is offered
-offered : (n c : ℕ) → (eqb n cardinal && ltb mostParameter c) ≡ false → parameterOf (basisOf n c) ≤ mostParameter
+offered : (b c n : ℕ) → (eqb b cardinal && ltb mostParameter c) ≡ false → parameterOf (basisOf b c n) ≤ mostParameter
 unfolding basisOf sixtyFourths
-offered zero c e = lit≤ tt
-offered (suc zero) c e = lit≤ tt
-offered (suc (suc zero)) c e = lit≤ tt
-offered (suc (suc (suc zero))) zero e = lit≤ tt
-offered (suc (suc (suc zero))) (suc c) e = ltb-false mostParameter (suc c) e
-offered (suc (suc (suc (suc n)))) c e = lit≤ tt
+offered zero c n e = lit≤ tt
+offered (suc zero) c n e = lit≤ tt
+offered (suc (suc zero)) c n e = lit≤ tt
+offered (suc (suc (suc zero))) zero n e = lit≤ tt
+offered (suc (suc (suc zero))) (suc c) n e = ltb-false mostParameter (suc c) e
+offered (suc (suc (suc (suc zero)))) c n e = lit≤ tt
+offered (suc (suc (suc (suc (suc b))))) c n e = lit≤ tt
 
 -- and the other way round
-pub offered-row : (n c : ℕ) → parameterOf (basisOf n c) ≤ mostParameter → (eqb n cardinal && ltb mostParameter c) ≡ false
+pub offered-row : (b c n : ℕ) → parameterOf (basisOf b c n) ≤ mostParameter → (eqb b cardinal && ltb mostParameter c) ≡ false
 unfolding basisOf sixtyFourths
-offered-row zero c h = refl
-offered-row (suc zero) c h = refl
-offered-row (suc (suc zero)) c h = refl
-offered-row (suc (suc (suc zero))) zero h = refl
-offered-row (suc (suc (suc zero))) (suc c) h = le-ltb mostParameter (suc c) h
-offered-row (suc (suc (suc (suc n)))) c h = simp (ne-eqb (suc (suc (suc (suc n)))) cardinal (λ e. omega arith))
+offered-row zero c n h = refl
+offered-row (suc zero) c n h = refl
+offered-row (suc (suc zero)) c n h = refl
+offered-row (suc (suc (suc zero))) zero n h = refl
+offered-row (suc (suc (suc zero))) (suc c) n h = le-ltb mostParameter (suc c) h
+offered-row (suc (suc (suc (suc b)))) c n h = simp (ne-eqb (suc (suc (suc (suc b)))) cardinal (λ e. omega arith))
+
+-- a loop of a shape is counted round the shape's own count
+pub runs-round : (b c n : ℕ) → leastRecords ≤ n → RunsRound (basisOf b c n) (spansOf (basisOf b c n) n)
+unfolding basisOf
+runs-round zero c n h = loop-runs n h
+runs-round (suc zero) c n h = tt
+runs-round (suc (suc zero)) c n h = tt
+runs-round (suc (suc (suc zero))) c n h = tt
+runs-round (suc (suc (suc (suc zero)))) c n h = tt
+runs-round (suc (suc (suc (suc (suc b))))) c n h = loop-runs n h
 
 pub good-plan : (s : Shape) → NoRow (shapeRows s) → Good s (planOf s)
 unfolding planOf
 good-plan s h =
     let b = basisIn s in
     let (least, most) = and-true (leb 1 (s .basis)) (leb (s .basis) lastBasis) (not-false (leb 1 (s .basis) && leb (s .basis) lastBasis) (row-fails 1 (shapeRows s) h)) in
-    let (records-most, spans, records) = allowed-facts b (s .count) (not-false (allowed b (s .count)) (row-fails 3 (shapeRows s) h)) in
+    let (records-least, records-most, records) = allowed-facts b (s .count) (not-false (allowed b (s .count)) (row-fails 3 (shapeRows s) h)) in
     record {
       basis = refl;
       basis-least = leb-true 1 (s .basis) least;
       basis-most = leb-true (s .basis) lastBasis most;
       depth = refl;
       depth-most = ltb-false deepest (s .depth) (row-fails 2 (shapeRows s) h);
-      offered = offered (s .basis) (s .parameter) (row-fails 24 (shapeRows s) h);
-      spans-least = spans;
-      spans-most = subst (λ n. spansOf b (s .count) + 3 ≤ n) records (spans-below b (spansOf b (s .count)) spans);
+      offered = offered (s .basis) (s .parameter) (s .count) (row-fails 24 (shapeRows s) h);
+      spans-least = spans-least b (s .count) records-least;
+      spans-most = spans-at-most b (s .count);
+      round = runs-round (s .basis) (s .parameter) (s .count) records-least;
       records = records;
+      records-least = records-least;
       records-most = records-most;
     }
 
@@ -207,8 +221,8 @@ pub none-at : (s : Shape) (k : ℕ) → k ≤ deepest → NoRow (shapeRows s) �
 none-at s k h none = let rows = shapeRows s in (row-fails 1 rows none, (le-ltb deepest k h, (row-fails 24 rows none, (row-fails 3 rows none, tt))))
 
 -- every span of a sound shape has its four records
-pub good-records : (s : Shape) (p : Plan) → Good s p → (t : ℕ) → t < p .spans → firstRecord (p .basis) t + 3 < s .count
-good-records s p g t h = subst (λ n. firstRecord (p .basis) t + 3 < n) (g .records) (last-record (p .basis) (p .spans) t h)
+pub good-records : (s : Shape) (p : Plan) → Good s p → (t i : ℕ) → t < p .spans → i < 4 → recordAt (p .basis) (firstRecord (p .basis) t + i) < s .count
+good-records s p g t i h few = subst (λ n. recordAt (p .basis) (firstRecord (p .basis) t + i) < n) (g .records) (has-record (p .basis) (p .spans) t i (g .round) h few)
 
 -- ---- rows 7, 8, 9
 
@@ -292,11 +306,22 @@ module _ (n : ℕ) (controls : List ℤ) (points len : ℕ) where
   pub fine-facts : judgeLists n controls points len ≡ Fine → Lent n controls points len
   fine-facts e = none-facts (fine-none e)
 
--- the four records from a record on are inside the limits, on either axis
-pub lent-inside : (n : ℕ) (controls : List ℤ) (points len : ℕ) → Lent n controls points len → (axis r : ℕ) → axis < 2 → r + 3 < n → Inside limit (recordsFrom r (coordinate controls axis))
+-- the four records of a span that are among the n are inside the limits, on either axis
+pub lent-inside : (n : ℕ) (controls : List ℤ) (points len : ℕ) → Lent n controls points len → (b : Basis) (s axis : ℕ) → axis < 2
+    → ((i : ℕ) → i < 4 → recordAt b (firstRecord b s + i) < n)
+    → Inside limit (records b s (coordinate controls axis))
 unfolding recordsFrom
-lent-inside n controls points len h zero r a l =
-    record { a = h .x r (omega arith); b = h .x (r + 1) (omega arith); c = h .x (r + 2) (omega arith); d = h .x (r + 3) (omega arith) }
-lent-inside n controls points len h (suc zero) r a l =
-    record { a = h .y r (omega arith); b = h .y (r + 1) (omega arith); c = h .y (r + 2) (omega arith); d = h .y (r + 3) (omega arith) }
-lent-inside n controls points len h (suc (suc axis)) r a l = absurd (omega arith)
+lent-inside n controls points len h b s axis two among =
+    let f = firstRecord b s in
+    let first : recordAt b f < n = subst (λ (r : ℕ). recordAt b r < n) (add-zero f) (among 0 (lit< tt)) in
+    record {
+      a = near axis (recordAt b f) two first;
+      b = near axis (recordAt b (f + 1)) two (among 1 (lit< tt));
+      c = near axis (recordAt b (f + 2)) two (among 2 (lit< tt));
+      d = near axis (recordAt b (f + 3)) two (among 3 (lit< tt));
+    }
+  where
+    near : (axis r : ℕ) → axis < 2 → r < n → natAbs (coordinate controls axis r) ≤ limit
+    near zero r two l = h .x r l
+    near (suc zero) r two l = h .y r l
+    near (suc (suc axis)) r two l = absurd (omega arith)

@@ -9,9 +9,19 @@ use Rattle.curve.specs.Published.{mostParameter}
 use Rattle.curve.specs.Limits.{limit, parameterOf}
 use Rattle.curve.specs.Span.{coordinate}
 use Rattle.curve.specs.Ways.{deepest}
+use Rattle.curve.specs.declared.Basis.{Basis}
+use Rattle.curve.specs.declared.Basis.the-variants.{Bezier, BSpline, Cardinal, Hermite, Loop}
 use Rattle.shape.specs.declared.Shape.{Shape}
 use Rattle.shape.specs.declared.Plan.{Plan}
-use Rattle.shape.specs.Shape.{lastBasis, basisIn, recordsOf, mostRecords}
+use Rattle.shape.specs.Shape.{lastBasis, basisIn, recordsOf, leastRecords, mostRecords}
+
+-- A loop has as many records, round which they are counted, as spans, and four at least.
+abbrev pub RunsRound : Basis → ℕ → Type 0
+RunsRound Bezier m = Unit {0}
+RunsRound BSpline m = Unit {0}
+RunsRound (Cardinal c) m = Unit {0}
+RunsRound Hermite m = Unit {0}
+RunsRound (Loop n) m = (n ≡ m) × (leastRecords ≤ m)
 
 -- A sound shape and its plan.
 pub record Good (s : Shape) (p : Plan) : Type 0 where
@@ -22,8 +32,10 @@ pub record Good (s : Shape) (p : Plan) : Type 0 where
   pub depth-most : p .depth ≤ deepest
   pub offered : parameterOf (p .basis) ≤ mostParameter
   pub spans-least : 1 ≤ p .spans
-  pub spans-most : p .spans + 3 ≤ s .count
+  pub spans-most : p .spans ≤ s .count
+  pub round : RunsRound (p .basis) (p .spans)
   pub records : recordsOf (p .basis) (p .spans) ≡ s .count
+  pub records-least : leastRecords ≤ s .count
   pub records-most : s .count ≤ mostRecords
 
 -- Lent lists that hold what is needed: n records inside the limits, and room for the points.

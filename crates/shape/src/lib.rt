@@ -4,7 +4,7 @@ ghost use mathlib.Core.Path.{_≡_};
 ghost use Prim.Native.Nat.{_*_, _^_, _≤_};
 ghost use lib.ListN.{length};
 ghost use Rattle.curve.specs.Ways.{deepest};
-ghost use Rattle.shape.specs.Shape.{sixtyFourths, basisOf, shared, spansOf, lastUsing, recordsOf, allowed, pointsOf, mostRecords, mostPoints};
+ghost use Rattle.shape.specs.Shape.{sixtyFourths, basisOf, tail, spansOf, lastUsing, recordsOf, allowed, pointsOf, mostRecords, mostPoints};
 ghost use Rattle.shape.specs.Refusals.{judgeNumbers, judgeShape, judgeControls, judgeLists, firstOutside};
 use curve::Basis;
 use curve::DEEPEST;
@@ -12,6 +12,7 @@ use curve::LIMIT;
 use curve::MOST_PARAMETER;
 use curve::bounds::is_beyond;
 use curve::records::first_record;
+use curve::records::is_loop;
 use curve::records::stride_of;
 
 // A shape as a caller passes it: basis, depth, control count and parameter, right or wrong. The parameter is looked at for basis 3 alone, and is handed on as it came.
@@ -65,17 +66,17 @@ impl Plan {
     }
 }
 
-// The bases of document 01 are numbered from 1 to 4.
+// The bases are numbered from 1 to 5: four of document 01, and the loop.
 const FIRST_BASIS: usize = 1;
 
-const LAST_BASIS: usize = 4;
+const LAST_BASIS: usize = 5;
 
 // The number of the one that has a parameter, and the parameter that nought stands for, one half in 64ths.
 const CARDINAL: usize = 3;
 
 const ONE_HALF: usize = 32;
 
-// One span takes four records, whatever the basis; n is at most 64.
+// A span takes four records, whatever the basis, and a loop has four at least; n is at most 64.
 pub const LEAST_RECORDS: usize = 4;
 
 pub const MOST_RECORDS: usize = 64;
@@ -87,38 +88,42 @@ fn sixty_fourths(parameter: usize) -> usize
     if parameter == 0 { ONE_HALF } else { parameter }
 }
 
-// The basis of a number from 1 to 4, the cardinal one with its parameter.
-fn basis_of(number: usize, parameter: usize) -> Basis
-    ensures { λ r. ⌜ r ≡ basisOf number parameter ⌝ }
+// The basis of a number from 1 to 5, the cardinal one with its parameter, the loop with its control count.
+fn basis_of(number: usize, parameter: usize, count: usize) -> Basis
+    ensures { λ r. ⌜ r ≡ basisOf number parameter count ⌝ }
 {
     match number {
         1 => Basis::Bezier,
         2 => Basis::BSpline,
         3 => Basis::Cardinal(sixty_fourths(parameter)),
-        _ => Basis::Hermite,
+        4 => Basis::Hermite,
+        _ => Basis::Loop(count),
     }
 }
 
-// The records that a span shares with the next one.
-fn shared_of(basis: Basis) -> usize
-    ensures { λ r. ⌜ r ≡ shared basis ⌝ }
+// The records past the last span's stride; a loop has none besides its first ones again.
+fn tail_of(basis: Basis) -> usize
+    ensures { λ r. ⌜ r ≡ tail basis ⌝ }
 {
+    if is_loop(basis) {
+        return 0;
+    }
     LEAST_RECORDS - stride_of(basis)
 }
 
-// The spans that have all four of their records among the first `count`.
+// The spans of `count` records: of an open basis, those that have all four of theirs among the first `count`.
 pub fn spans_of(basis: Basis, count: usize) -> usize
     requires { ⌜ count ≤ mostRecords ⌝ }
     ensures { λ r. ⌜ r ≡ spansOf basis count ⌝ }
 {
-    let shared = shared_of(basis);
-    if count < shared {
+    let tail = tail_of(basis);
+    if count < tail {
         return 0;
     }
-    (count - shared) / stride_of(basis)
+    (count - tail) / stride_of(basis)
 }
 
-// The last span that uses record `place`; the first is `spans_of` of the same number.
+// The last span that uses record `place` of an open basis; the first is `spans_of` of the same number.
 pub fn last_using(basis: Basis, place: usize) -> usize
     requires { ⌜ place ≤ mostRecords ⌝ }
     ensures { λ r. ⌜ r ≡ lastUsing basis place ⌝ }
@@ -131,13 +136,16 @@ fn records_of(basis: Basis, spans: usize) -> usize
     requires { ⌜ spans ≤ mostRecords ⌝ }
     ensures { λ r. ⌜ r ≡ recordsOf basis spans ⌝ }
 {
-    first_record(basis, spans) + shared_of(basis)
+    first_record(basis, spans) + tail_of(basis)
 }
 
 // The spans of a number of records that is allowed for the basis, or 0.
 fn allowed_spans(basis: Basis, count: usize) -> usize
     ensures { λ r. ⌜ r ≡ cond (allowed basis count) (spansOf basis count) 0 ⌝ }
 {
+    if count < LEAST_RECORDS {
+        return 0;
+    }
     if MOST_RECORDS < count {
         return 0;
     }
@@ -189,7 +197,7 @@ pub fn check_shape(shape: Shape) -> Judged
     if let Checked::Bad(refusal) = check_numbers(shape) {
         return Judged::Unsound(refusal);
     }
-    let basis = basis_of(shape.basis, shape.parameter);
+    let basis = basis_of(shape.basis, shape.parameter, shape.count);
     let spans = allowed_spans(basis, shape.count);
     if spans == 0 {
         return Judged::Unsound(Refusal {
