@@ -28,6 +28,7 @@ drawable s p good controls k len lent =
     record {
       few = omega (arith, good .spans-most, good .records-most);
       offered = good .offered;
-      held = λ t h. omega (arith, good-records s p good t h, lent .room);
-      inside = λ t axis h a. lent-inside (s .count) controls k len lent axis _ a (good-records s p good t h);
+      round = good .round;
+      held = λ t h i few. omega (arith, good-records s p good t i h few, lent .room);
+      inside = λ t axis h a. lent-inside (s .count) controls k len lent (p .basis) t axis a (λ i few. good-records s p good t i h few);
     }

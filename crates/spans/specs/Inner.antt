@@ -12,12 +12,13 @@ use Rattle.whole.specs.Nearest.{nearest, remainder}
 use Rattle.whole.specs.Outcome.{Outcome, outcome}
 use Rattle.curve.specs.declared.Four.{Four}
 use Rattle.curve.specs.declared.Differences.{Differences}
-use Rattle.curve.specs.Span.{coordinate, records, weighted, firstRecord}
+use Rattle.curve.specs.Span.{coordinate, records, weighted}
 use Rattle.curve.specs.Ways.{advance, deepest, weightTable}
 use Rattle.curve.specs.Published.{mostParameter}
 use Rattle.curve.specs.Limits.{Inside, limit, parameterOf}
-use Rattle.curve.specs.Inner.{Small, widest, farReach}
+use Rattle.curve.specs.Inner.{Small, Holds, widest, farReach}
 use Rattle.shape.specs.declared.Plan.{Plan}
+use Rattle.shape.specs.Inner.{RunsRound}
 use Rattle.shape.specs.Shape.{mostRecords}
 use Rattle.spans.specs.Numbers.{noughts, perSpan}
 use Rattle.spans.specs.declared.run.Way.{Way}
@@ -78,7 +79,8 @@ pub record Steady (k d : ℕ) (s : Differences) : Type 0 where
 pub record Drawable (p : Plan) (controls : List ℤ) : Type 0 where
   pub few : p .spans ≤ mostRecords
   pub offered : parameterOf (p .basis) ≤ mostParameter
-  pub held : (s : ℕ) → s < p .spans → 2 * firstRecord (p .basis) s + 8 ≤ length controls
+  pub round : RunsRound (p .basis) (p .spans)
+  pub held : (s : ℕ) → s < p .spans → Holds (p .basis) s (length controls)
   pub inside : (s axis : ℕ) → s < p .spans → axis < 2 → Inside limit (records (p .basis) s (coordinate controls axis))
 
 -- A run of spans, from one up to, and not with, another, that can be drawn into a list of n numbers.

@@ -17,7 +17,6 @@ use crate::point::put_point;
 use crate::stepping;
 use crate::weights;
 use curve::Four;
-use curve::records::first_record;
 use curve::records::four_records;
 use curve::records::whole_controls;
 use curve::rounding::divisor_bits;
@@ -38,8 +37,7 @@ pub fn span_controls(controls: &[i32], plan: Plan, span: usize, axis: usize) -> 
     ensures { λ r. ⌜ r ≡ wholeControls (plan .basis) (records (plan .basis) span (coordinate (now (controls .entry)) axis)) ⌝ }
 {
     let basis = plan.basis;
-    let first = first_record(basis, span);
-    whole_controls(basis, four_records(controls, first, axis))
+    whole_controls(basis, four_records(controls, basis, span, axis))
 }
 
 // The 2^depth points of a span but its end, by a way, and how many numbers are exact with them.
