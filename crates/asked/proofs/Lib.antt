@@ -1,4 +1,5 @@
 pub mod Controls
 pub mod InPlace
-pub mod Run
+pub mod Runs
+pub mod Fresh
 pub mod Splines

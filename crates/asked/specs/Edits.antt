@@ -1,4 +1,5 @@
--- What an edit asks for and which spans it works afresh (document 01, "Editing an outline"). Spans are those of the new shape, clipped to those that exist.
+-- What an edit asks for and which spans it works afresh (document 01, "Editing an outline"; for loops document 02, request 8). Spans are those of the new shape: of an open outline clipped to
+-- those that exist, of a loop counted round.
 use mathlib.Core.Bool.{Bool, true, false, cond, _&&_, _||_}
 use mathlib.Core.List.{List}
 use Prim.Native.Nat.{ℕ, _+_, _*_, _-_, _/_, _%_, min}
@@ -7,11 +8,12 @@ use lib.IntN.{ℤ, pos}
 use lib.ListN.{getD}
 use Rattle.curve.specs.declared.Basis.{Basis}
 use Rattle.curve.specs.Limits.{beyond, limit}
-use Rattle.curve.specs.Span.{stride}
+use Rattle.curve.specs.Span.{stride, roundEnd, isLoop}
 use Rattle.shape.specs.declared.Plan.{Plan}
-use Rattle.shape.specs.Shape.{leastRecords, mostRecords, firstUsing, lastUsing}
-use Rattle.spans.specs.Numbers.{number, exactIn, perSpan}
+use Rattle.shape.specs.Shape.{leastRecords, mostRecords, firstUsing, lastUsing, pointsOf}
+use Rattle.spans.specs.Numbers.{number, remainderOf, perSpan, nought, total}
 use Rattle.spans.specs.Filled.{filled}
+use Rattle.asked.specs.declared.Run.{Run}
 use Rattle.asked.specs.declared.Edit.{Edit}
 use Rattle.asked.specs.declared.Edit.the-variants.{Move, Insert, Remove}
 
@@ -29,7 +31,7 @@ spansAfter (Move x y) m = m
 spansAfter (Insert x y) m = m + 1
 spansAfter Remove m = m - 1
 
--- Insert and remove exist where each span begins a record after the one before: for bases 2 and 3, the splines.
+-- Insert and remove exist where each span begins a record after the one before: for bases 2, 3 and 5, the splines.
 abbrev pub isSpline : Basis → Bool
 isSpline b = eqb (stride b) 1
 
@@ -71,15 +73,10 @@ controlAt Remove j old q = cond (ltb (q / 2) j) (getD old q (pos 0)) (getD old (
 unfoldable pub asked : Edit → ℕ → List ℤ → ℕ → List ℤ
 asked e j old n = filled (controlAt e j old) 0 (2 * n) old
 
--- ---- the run: the spans worked afresh. What an edit answers, and which points it makes fresh, keeps or carries, are all read from it.
+-- ---- the run: the spans worked afresh, from the first that the call answers on, as many as it answers. What an edit makes fresh, keeps or carries is read from it.
 
--- The first of them, and how many.
-pub record Run : Type 0 where
-  pub first : ℕ
-  pub count : ℕ
-
--- Move: every span that uses record j. Insert: spans j-3 to j. Remove: spans j-3 to j-1. The first of them, and the one past the last, clipped to the spans of the new
--- shape, whose plan is p.
+-- In an open outline. Move: every span that uses record j. Insert: spans j-3 to j. Remove: spans j-3 to j-1. The first of them, and the one past the last, clipped to the spans of the
+-- new shape, whose plan is p.
 abbrev pub firstFresh : Edit → Plan → ℕ → ℕ
 firstFresh (Move x y) p j = firstUsing (p .basis) j
 firstFresh (Insert x y) p j = j - 3
@@ -90,12 +87,25 @@ pastFresh (Move x y) p j = min (lastUsing (p .basis) j + 1) (p .spans)
 pastFresh (Insert x y) p j = min (j + 1) (p .spans)
 pastFresh Remove p j = min j (p .spans)
 
--- The run of an edit: from the one up to, and not with, the other; where there are none, both numbers are 0.
+-- From one span up to, and not with, another; where there are none, both numbers are 0.
+abbrev pub clipped : ℕ → ℕ → Run
+clipped a z = record { first = cond (ltb a z) a 0; count = z - a }
+
+-- In a loop of m spans they are counted round. Move and insert: spans j-3 to j. Remove: spans j-3 to j-1.
+abbrev pub countRound : Edit → ℕ
+countRound (Move x y) = 4
+countRound (Insert x y) = 4
+countRound Remove = 3
+
+abbrev pub runRound : Edit → ℕ → ℕ → Run
+runRound e m j = record { first = roundEnd m (j + m - 3); count = countRound e }
+
 unfoldable pub runOf : Edit → Plan → ℕ → Run
-runOf e p j =
-    let a = firstFresh e p j in
-    let z = pastFresh e p j in
-    record { first = cond (ltb a z) a 0; count = z - a }
+runOf e p j = cond (isLoop (p .basis)) (runRound e (p .spans) j) (clipped (firstFresh e p j) (pastFresh e p j))
+
+-- Span s of m is in a run where it is below the count, counted round from the run's first. In an open outline no run goes round.
+unfoldable pub inRun : Run → ℕ → ℕ → Bool
+inRun run m s = ltb (roundEnd m (s + m - run .first)) (run .count)
 
 -- ---- the points
 
@@ -105,23 +115,30 @@ carriedFrom (Move x y) w q = q
 carriedFrom (Insert x y) w q = q - w
 carriedFrom Remove w q = q + w
 
--- Number q is fresh from the start of the run's first span to the end of its last, both included.
-unfoldable pub isFresh : Run → ℕ → ℕ → Bool
-isFresh run k q = ltb 0 (run .count) && (leb (run .first * perSpan k) q && ltb q ((run .first + run .count) * perSpan k + 2))
+-- The spans that have a number among their points, where t spans' numbers come before it. The one that it is in: span t; the last point, where t is m, is the end of the last span, and in a loop
+-- the start of the first again.
+abbrev pub spanIn : Plan → ℕ → ℕ
+spanIn p t = cond (isLoop (p .basis)) (roundEnd (p .spans) t) (min t (p .spans - 1))
 
--- How many numbers are fresh: those of the run's spans and the two of its end, and none where it has no span.
-abbrev pub freshNumbers : Run → ℕ → ℕ
-freshNumbers run k = cond (ltb 0 (run .count)) (run .count * perSpan k + 2) 0
+-- And of a number of span t's start, the one that ends there: the one before it; before the first there is none, but in a loop the last.
+abbrev pub spanBefore : Plan → ℕ → ℕ
+spanBefore p t = cond (isLoop (p .basis)) (roundEnd (p .spans) (t + p .spans - 1)) (t - 1)
 
--- How many of them are exact, of the controls as they then stand (document 02, request 9).
+-- Number q is fresh where one of them is in the run. A span's start is two numbers, x and y.
+unfoldable pub isFresh : Run → Plan → ℕ → Bool
+isFresh run p q =
+    let w = perSpan (p .depth) in
+    inRun run (p .spans) (spanIn p (q / w)) || (ltb (q % w) 2 && inRun run (p .spans) (spanBefore p (q / w)))
+
+-- How many of the fresh numbers are exact, of the controls as they then stand (document 02, request 9): each counted once, and in a loop those of its first and of its last point both.
 unfoldable pub exactFresh : Run → Plan → List ℤ → ℕ
-exactFresh run p controls = exactIn p controls (run .first * perSpan (p .depth)) (freshNumbers run (p .depth))
+exactFresh run p controls = total (λ q. cond (isFresh run p q) (nought (remainderOf p controls q)) 0) 0 (2 * pointsOf (p .depth) (p .spans))
 
 -- Number q of the new points, for any contents of the lent ones: fresh; or of a span before the place, which stays; or of a later one, which is carried. The last point
 -- is its last span's.
 unfoldable pub pointAt : Edit → Plan → ℕ → List ℤ → List ℤ → ℕ → ℤ
 pointAt e p j controls lent q =
     let w = perSpan (p .depth) in
-    cond (isFresh (runOf e p j) (p .depth) q)
+    cond (isFresh (runOf e p j) p q)
     (number p controls q)
     (cond (ltb (min (q / w) (p .spans - 1)) j) (getD lent q (pos 0)) (getD lent (carriedFrom e w q) (pos 0)))

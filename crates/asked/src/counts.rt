@@ -1,12 +1,16 @@
 // What an edit may do, and which spans it works afresh.
 ghost use mathlib.Core.Path.{_≡_};
 ghost use Prim.Native.Nat.{_-_, _≤_, _<_, max, min};
+ghost use Rattle.shape.specs.Inner.{RunsRound};
 ghost use Rattle.shape.specs.Shape.{mostRecords};
-ghost use Rattle.asked.specs.Edits.{atTheEnd, countAfter, firstFresh, inRange, newOutside, offered, pastFresh, spansAfter};
+ghost use Rattle.asked.specs.Edits.{atTheEnd, clipped, countAfter, countRound, firstFresh, inRange, newOutside, offered, pastFresh, runOf, runRound, spansAfter};
 use crate::Edit;
+use crate::Run;
 use curve::Basis;
 use curve::LIMIT;
 use curve::bounds::is_beyond;
+use curve::records::is_loop;
+use curve::records::round_end;
 use curve::records::stride_of;
 use shape::LEAST_RECORDS;
 use shape::MOST_RECORDS;
@@ -38,7 +42,7 @@ pub fn spans_after(edit: Edit, spans: usize) -> usize
     }
 }
 
-// Insert and remove exist for bases 2 and 3: the splines, whose spans begin a record apart.
+// Insert and remove exist for bases 2, 3 and 5: the splines, whose spans begin a record apart.
 pub fn is_offered(edit: Edit, basis: Basis) -> bool
     ensures { λ r. ⌜ r ≡ offered edit basis ⌝ }
 {
@@ -119,8 +123,8 @@ fn least(a: usize, b: usize) -> usize
     b
 }
 
-// The first span worked afresh, of the plan of the new shape.
-pub fn first_fresh(edit: Edit, plan: Plan, place: usize) -> usize
+// The first span of an open outline that is worked afresh, of the plan of the new shape.
+fn first_fresh(edit: Edit, plan: Plan, place: usize) -> usize
     requires { ⌜ place ≤ mostRecords ⌝ }
     ensures { λ r. ⌜ r ≡ firstFresh edit plan place ⌝ }
 {
@@ -132,7 +136,7 @@ pub fn first_fresh(edit: Edit, plan: Plan, place: usize) -> usize
     }
 }
 
-// One past the last span worked afresh.
+// One past the last span of an open outline that is worked afresh. From there on the spans are carried, in a loop too.
 pub fn past_fresh(edit: Edit, plan: Plan, place: usize) -> usize
     requires { ⌜ place ≤ mostRecords ⌝ }
     ensures { λ r. ⌜ r ≡ pastFresh edit plan place ⌝ }
@@ -143,4 +147,54 @@ pub fn past_fresh(edit: Edit, plan: Plan, place: usize) -> usize
         Edit::Insert(_, _) => least(place + 1, plan.spans),
         Edit::Remove => least(place, plan.spans),
     }
+}
+
+// The run from one span up to, and not with, another; where there is none, both numbers are 0.
+fn clip(first: usize, past: usize) -> Run
+    ensures { λ r. ⌜ r ≡ clipped first past ⌝ }
+{
+    if first < past {
+        return Run {
+            first,
+            count: past - first,
+        };
+    }
+    Run { first: 0, count: 0 }
+}
+
+// How many spans of a loop are worked afresh.
+fn count_round(edit: Edit) -> usize
+    ensures { λ r. ⌜ r ≡ countRound edit ⌝ }
+{
+    match edit {
+        Edit::Move(_, _) => 4,
+        Edit::Insert(_, _) => 4,
+        Edit::Remove => 3,
+    }
+}
+
+// The run of a loop, counted round its spans from three before the place on.
+fn run_round(edit: Edit, spans: usize, place: usize) -> Run
+    requires { ⌜ (3 ≤ spans) × (spans ≤ mostRecords) × (place ≤ mostRecords) ⌝ }
+    ensures { λ r. ⌜ r ≡ runRound edit spans place ⌝ }
+{
+    Run {
+        first: round_end(spans, place + spans - 3),
+        count: count_round(edit),
+    }
+}
+
+// The spans that an edit works afresh, of the plan of the new shape.
+pub fn run_of(edit: Edit, plan: Plan, place: usize) -> Run
+    requires { ⌜ (place ≤ mostRecords) × (plan .spans ≤ mostRecords) × RunsRound (plan .basis) (plan .spans) ⌝ }
+    ensures { λ r. ⌜ r ≡ runOf edit plan place ⌝ }
+{
+    let basis = plan.basis;
+    if is_loop(basis) {
+        return run_round(edit, plan.spans, place);
+    }
+    clip(
+        first_fresh(edit, plan, place),
+        past_fresh(edit, plan, place),
+    )
 }

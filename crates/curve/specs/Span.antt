@@ -52,6 +52,14 @@ recordAt (Cardinal c) r = r
 recordAt Hermite r = r
 recordAt (Loop n) r = roundEnd n r
 
+-- The same basis with m records: a loop alone says how many it has.
+abbrev pub recount : ℕ → Basis → Basis
+recount m Bezier = Bezier
+recount m BSpline = BSpline
+recount m (Cardinal c) = Cardinal c
+recount m Hermite = Hermite
+recount m (Loop n) = Loop m
+
 -- The four records of span s.
 abbrev pub records : Basis → ℕ → (ℕ → ℤ) → Four
 records b s at = recordsFrom (firstRecord b s) (λ r. at (recordAt b r))

@@ -6,7 +6,7 @@ ghost use lib.ListN.{length};
 ghost use Rattle.curve.specs.Published.{mostParameter};
 ghost use Rattle.curve.specs.Limits.{Inside, limit, parameterOf};
 ghost use Rattle.curve.specs.Inner.{Holds};
-ghost use Rattle.curve.specs.Span.{stride, firstRecord, roundEnd, isLoop, recordAt, records, coordinate, wholeControls};
+ghost use Rattle.curve.specs.Span.{stride, firstRecord, roundEnd, isLoop, recordAt, recount, records, coordinate, wholeControls};
 use crate::Basis;
 use crate::Four;
 
@@ -64,6 +64,19 @@ pub fn record_at(basis: Basis, place: usize) -> usize
         Basis::Cardinal(_) => place,
         Basis::Hermite => place,
         Basis::Loop(count) => round_end(count, place),
+    }
+}
+
+// The same basis with another number of records: a loop alone says how many it has.
+pub fn recounted(count: usize, basis: Basis) -> Basis
+    ensures { λ r. ⌜ r ≡ recount count basis ⌝ }
+{
+    match basis {
+        Basis::Bezier => Basis::Bezier,
+        Basis::BSpline => Basis::BSpline,
+        Basis::Cardinal(parameter) => Basis::Cardinal(parameter),
+        Basis::Hermite => Basis::Hermite,
+        Basis::Loop(_) => Basis::Loop(count),
     }
 }
 

@@ -11,6 +11,7 @@ use Rattle.shape.specs.declared.Plan.{Plan}
 use Rattle.shape.specs.declared.Checked.{Checked}
 use Rattle.shape.specs.declared.Checked.the-variants.{Fine, Bad}
 use Rattle.curve.specs.declared.Basis.{Basis}
+use Rattle.curve.specs.Span.{recount}
 use Rattle.shape.specs.Refusals.{Row, row, judge, shapeRows, controlRows, pointRows, planOf}
 use Rattle.shape.specs.Exactly.{Told, Refuses, Accepts}
 use Rattle.spans.specs.Filled.{filled}
@@ -25,9 +26,9 @@ use Rattle.asked.specs.Edits.{countAfter, spansAfter, offered, inRange, atTheEn
 abbrev pub shapeAfter : Edit → Shape → Shape
 shapeAfter e s = record { basis = s .basis; depth = s .depth; count = countAfter e (s .count); parameter = s .parameter }
 
--- And the plan.
+-- And the plan: a loop has as many records as spans.
 abbrev pub planAfter : Edit → Plan → Plan
-planAfter e p = record { basis = p .basis; depth = p .depth; spans = spansAfter e (p .spans) }
+planAfter e p = let m = spansAfter e (p .spans) in record { basis = recount m (p .basis); depth = p .depth; spans = m }
 
 -- Rows 4, 5, 6: what is asked.
 abbrev pub askRows : Edit → Basis → ℕ → ℕ → List Row

@@ -13,6 +13,7 @@ use asked::counts::is_new_outside;
 use asked::counts::is_offered;
 use asked::counts::spans_after;
 use curve::Basis;
+use curve::records::recounted;
 use shape::Checked;
 use shape::Judged;
 use shape::Plan;
@@ -84,10 +85,11 @@ pub(crate) fn check_edit(
         Checked::Bad(refusal) => return Judged::Unsound(refusal),
         Checked::Fine => {}
     }
+    let spans = spans_after(edit, plan.spans);
     let next = Plan {
-        basis,
+        basis: recounted(spans, basis),
         depth: plan.depth,
-        spans: spans_after(edit, plan.spans),
+        spans,
     };
     let most = greatest(plan.points(), next.points());
     match check_room(edit, shape.count, controls, most, points.len()) {

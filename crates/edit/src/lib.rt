@@ -5,20 +5,17 @@ mod checks;
 mod working;
 
 pub use asked::Edit;
-ghost use mathlib.Core.Bool.{cond};
 ghost use mathlib.Core.Path.{_≡_};
 ghost use Prim.Native.Nat.{_≤_};
-ghost use lib.Dec.{ltb};
 ghost use lib.ListN.{length};
 ghost use Rattle.whole.specs.Outcome.{outcome};
+ghost use Rattle.shape.specs.Inner.{RunsRound};
 ghost use Rattle.shape.specs.Shape.{mostRecords};
 ghost use Rattle.edit.specs.Reading.{accepts, change, edits};
 ghost use Rattle.edit.specs.Inner.{Workable};
 use asked::asking::ask;
 use asked::counts::count_after;
-use asked::counts::first_fresh;
-use asked::counts::less;
-use asked::counts::past_fresh;
+use asked::counts::run_of;
 use checks::check_edit;
 use shape::Judged;
 use shape::Plan;
@@ -54,7 +51,7 @@ pub fn move_record(
     edit_shape(Edit::Move(x, y), shape, place, controls, points)
 }
 
-// A new record (x, y) stands before record `place`, or last; for bases 2 and 3. The spans after the fresh ones are carried on by one span.
+// A new record (x, y) stands before record `place`, or last; for bases 2, 3 and 5. The spans after the fresh ones are carried on by one span.
 pub fn insert_record(
     shape: Shape,
     place: usize,
@@ -68,7 +65,7 @@ pub fn insert_record(
     edit_shape(Edit::Insert(x, y), shape, place, controls, points)
 }
 
-// Record `place` is taken out, for bases 2 and 3. The spans after the fresh ones are carried back by one span.
+// Record `place` is taken out, for bases 2, 3 and 5. The spans after the fresh ones are carried back by one span.
 pub fn remove_record(shape: Shape, place: usize, controls: &mut [i32], points: &mut [i32]) -> Edited
     ensures { λ r. ⌜ outcome r (now (controls .exit), now (points .exit)) ≡ edits Edit.Remove shape place (now (controls .entry)) (now (points .entry)) ⌝ }
 {
@@ -110,11 +107,11 @@ fn edit_lists(
 
 // The answer of an accepted edit: `plan` is that of the new shape, and `exact` what working it counted.
 fn change_of(edit: Edit, shape: Shape, plan: Plan, place: usize, exact: usize) -> Change
-    requires { ⌜ (1 ≤ shape .count) × (shape .count ≤ mostRecords) × (place ≤ mostRecords) ⌝ }
+    requires { ⌜ (1 ≤ shape .count) × (shape .count ≤ mostRecords) ⌝ }
+    requires { ⌜ (place ≤ mostRecords) × (plan .spans ≤ mostRecords) × RunsRound (plan .basis) (plan .spans) ⌝ }
     ensures { λ r. ⌜ r ≡ change edit shape plan place exact ⌝ }
 {
-    let first = first_fresh(edit, plan, place);
-    let past = past_fresh(edit, plan, place);
+    let run = run_of(edit, plan, place);
     Change {
         shape: Shape {
             basis: shape.basis,
@@ -122,18 +119,8 @@ fn change_of(edit: Edit, shape: Shape, plan: Plan, place: usize, exact: usize) -
             count: count_after(edit, shape.count),
             parameter: shape.parameter,
         },
-        first: named_first(first, past),
-        fresh: less(past, first),
+        first: run.first,
+        fresh: run.count,
         exact,
     }
-}
-
-// The first span worked afresh, or 0 where there is none.
-fn named_first(first: usize, past: usize) -> usize
-    ensures { λ r. ⌜ r ≡ cond (ltb first past) first 0 ⌝ }
-{
-    if first < past {
-        return first;
-    }
-    0
 }

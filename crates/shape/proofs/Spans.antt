@@ -16,7 +16,7 @@ use Rattle.curve.proofs.Stride.{stride-bounds}
 use Rattle.curve.proofs.Round.{open-or-loop, record-open, round-within, loop-first}
 use Rattle.shape.specs.Shape.{tail, recordsOf, spansOf, firstUsing, lastUsing, allowed, pointsOf, leastRecords, mostRecords, mostPoints}
 use Rattle.shape.specs.Inner.{RunsRound}
-use Rattle.shape.proofs.Tests.{passes, and-true}
+use Rattle.shape.proofs.Tests.{passes, true-is-not-false, and-true}
 
 -- ---- records of a span
 
@@ -95,6 +95,10 @@ loop-spans n m = ap (spansOf (Loop n)) (sym (loop-records n m)) ∙ spans-record
 
 pub loop-runs : (n : ℕ) → leastRecords ≤ n → RunsRound (Loop n) (spansOf (Loop n) n)
 loop-runs n h = (sym (loop-spans n n), omega (arith, loop-spans n n))
+
+-- what runs round is a loop, of four spans at least
+pub runs-least : (b : Basis) (m : ℕ) → RunsRound b m → isLoop b ≡ true → leastRecords ≤ m
+runs-least b m = open-or-loop (λ b. RunsRound b m → isLoop b ≡ true → leastRecords ≤ m) (λ b ends _ loop. absurd (true-is-not-false loop ends)) (λ n (is, least) _. least) b
 
 -- ---- allowed counts
 

@@ -4,6 +4,8 @@ pub mod Pairs
 pub mod Halves
 pub mod Steps
 pub mod Numbers
+pub mod Totals
+pub mod Joint
 pub mod Alone
 pub mod Drawables
 pub mod Filled

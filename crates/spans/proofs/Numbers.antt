@@ -109,7 +109,7 @@ span-sums p controls t h =
     tab-same (sumOf p controls) f (t * perSpan (p .depth)) 0 (perSpan (p .depth))
     (λ j below. span-sum p controls t j h (omega arith) ∙ axis-sum (p .basis) (p .depth) t (j / 2) controls j ∙ ap f (sym (zero-add j)))
 
-end-sum : (p : Plan) (controls : List ℤ) (t r : ℕ) → t < p .spans → r < 2
+pub end-sum : (p : Plan) (controls : List ℤ) (t r : ℕ) → t < p .spans → r < 2
     → sumOf p controls ((t + 1) * perSpan (p .depth) + r) ≡ sumAt (p .basis) (p .depth) (records (p .basis) t (coordinate controls r)) (2 ^ p .depth)
 end-sum p controls t r there below =
     let w = perSpan (p .depth) in

@@ -1,7 +1,8 @@
 -- For contracts inside the project alone: no public contract uses what is here.
 -- One span by each of the three ways, and the controls that it can be drawn from.
 use mathlib.Core.Path.{_≡_}
-use mathlib.Core.Bool.{cond}
+use mathlib.Core.Bool.{true, cond}
+use mathlib.Core.Logic.{_⊎_}
 use mathlib.Core.List.{List, [], _∷_, map}
 use Prim.Native.Nat.{ℕ, zero, suc, _*_, _-_, _/_, _%_, _^_, _+_, _≤_, _<_}
 use lib.Dec.{eqb}
@@ -12,7 +13,7 @@ use Rattle.whole.specs.Nearest.{nearest, remainder}
 use Rattle.whole.specs.Outcome.{Outcome, outcome}
 use Rattle.curve.specs.declared.Four.{Four}
 use Rattle.curve.specs.declared.Differences.{Differences}
-use Rattle.curve.specs.Span.{coordinate, records, weighted}
+use Rattle.curve.specs.Span.{coordinate, isLoop, records, weighted}
 use Rattle.curve.specs.Ways.{advance, deepest, weightTable}
 use Rattle.curve.specs.Published.{mostParameter}
 use Rattle.curve.specs.Limits.{Inside, limit, parameterOf}
@@ -90,6 +91,10 @@ pub record Fillable (p : Plan) (from to : ℕ) (controls : List ℤ) (n : ℕ) :
   pub there : to ≤ p .spans
   pub drawable : Drawable p controls
   pub room : to * perSpan (p .depth) + 2 ≤ n
+
+-- A place of the point where the first and the last span of a loop meet: the list's start, and again past its last span.
+abbrev pub Joint : Plan → ℕ → Type 0
+Joint p at = (isLoop (p .basis) ≡ true) × ((at ≡ 0) ⊎ (at ≡ p .spans * perSpan (p .depth)))
 
 -- What a way has lent to it beside its lists: the weights' way the table, the others anything.
 abbrev pub TableFor : Way → List ℤ → Type 0

@@ -37,6 +37,11 @@ unfoldable pub noughts : List ℤ → ℕ
 noughts [] = 0
 noughts (z ∷ l) = nought z + noughts l
 
+-- What a rule gives for n numbers from q on, added up.
+unfoldable pub total : (ℕ → ℕ) → ℕ → ℕ → ℕ
+total f q zero = 0
+total f q (suc n) = f q + total f (suc q) n
+
 -- Of n numbers of a plan's outline, from number q on.
 abbrev pub exactIn : Plan → List ℤ → ℕ → ℕ → ℕ
 exactIn p controls q n = noughts (tab (remainderOf p controls) q n)

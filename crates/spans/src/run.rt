@@ -10,8 +10,8 @@ ghost use Rattle.curve.specs.Tab.{tab};
 ghost use Rattle.curve.specs.Span.{coordinate, records, wholeControls, weighted};
 ghost use Rattle.curve.specs.Ways.{deepest};
 ghost use Rattle.spans.specs.Numbers.{perSpan};
-ghost use Rattle.spans.specs.Filled.{fillsRun};
-ghost use Rattle.spans.specs.Inner.{ending, paired, rounds, Drawable, Fillable, Ready, TableFor};
+ghost use Rattle.spans.specs.Filled.{fills, fillsRun};
+ghost use Rattle.spans.specs.Inner.{ending, paired, rounds, Drawable, Fillable, Joint, Ready, TableFor};
 use crate::halving;
 use crate::point::put_point;
 use crate::stepping;
@@ -147,6 +147,21 @@ pub fn fill_by_weights(
 {
     let table = weight_table();
     fill_run(Way::Weights, &table, points, controls, plan, from, to)
+}
+
+// The point where the first and the last span of a loop meet, which is the end of the last one, at one of its two places. It answers how many of its numbers are exact.
+pub fn put_joint(points: &mut [i32], controls: &[i32], plan: Plan, at: usize) -> usize
+    requires { ⌜ (plan .depth ≤ deepest) × (1 ≤ plan .spans) × Drawable plan (now controls) ⌝ }
+    requires { ⌜ Joint plan at × (at + 2 ≤ length (now points)) ⌝ }
+    ensures { λ r. ⌜ outcome r (now (points .exit)) ≡ fills plan (now (controls .entry)) at 2 (now (points .entry)) ⌝ }
+{
+    let basis = plan.basis;
+    let depth = plan.depth;
+    let bits = divisor_bits(basis, depth);
+    let last = plan.spans - 1;
+    let x = span_controls(controls, plan, last, 0);
+    let y = span_controls(controls, plan, last, 1);
+    put_end(points, at, depth, bits, x, y, 0)
 }
 
 // The same by any way. Halving and differences read no table.

@@ -1,0 +1,92 @@
+-- The run of an edit. In an open outline, where its first span is before its end it is from the one to the other, else both of its numbers are 0; it lies among the spans of the new shape,
+-- around the place. In a loop it is counted round.
+use mathlib.Core.Path.{_≡_, refl, ap, _∙_}
+use mathlib.Core.Bool.{Bool, true, false, cond}
+use mathlib.Core.Logic.{⊎-elim, _↔_}
+use Prim.Native.Nat.{ℕ, _+_, _-_, _≤_, _<_}
+use native.Mathlib.Nat.{min-le-right}
+use native.Mathlib.Omega.{arith}
+use borrow.Author.Tests.{lt-ltb, le-ltb}
+use lib.Dec.{ltb}
+use Rattle.curve.specs.Span.{roundEnd, isLoop}
+use Rattle.curve.proofs.Round.{by-round}
+use Rattle.shape.specs.declared.Plan.{Plan}
+use Rattle.shape.specs.Shape.{lastUsing}
+use Rattle.shape.proofs.Spans.{first-below}
+use Rattle.shape.proofs.Tests.{either}
+use Rattle.asked.specs.declared.Run.{Run}
+use Rattle.asked.specs.declared.Edit.{Edit}
+use Rattle.asked.specs.declared.Edit.the-variants.{Move, Insert, Remove}
+use Rattle.asked.specs.Edits.{firstFresh, pastFresh, clipped, runRound, runOf, inRun, carriedFrom}
+
+cond-same : {A : Type 0} (t : Bool) (z : A) → cond t z z ≡ z
+cond-same true z = refl
+cond-same false z = refl
+
+-- ---- which run it is
+
+pub run-open : (e : Edit) (p : Plan) (j : ℕ) → isLoop (p .basis) ≡ false → runOf e p j ≡ clipped (firstFresh e p j) (pastFresh e p j)
+unfolding runOf
+run-open e p j ends = ap (λ t. cond t (runRound e (p .spans) j) (clipped (firstFresh e p j) (pastFresh e p j))) ends
+
+pub run-loop : (e : Edit) (p : Plan) (j : ℕ) → isLoop (p .basis) ≡ true → runOf e p j ≡ runRound e (p .spans) j
+unfolding runOf
+run-loop e p j loop = ap (λ t. cond t (runRound e (p .spans) j) (clipped (firstFresh e p j) (pastFresh e p j))) loop
+
+-- ---- its two numbers in an open outline
+
+module _ (a z : ℕ) where
+  pub clipped-first : a < z → clipped a z .first ≡ a
+  clipped-first h = ap (λ t. cond t a 0) (lt-ltb a z h)
+
+  pub clipped-none : z ≤ a → clipped a z .first ≡ 0
+  clipped-none h = ap (λ t. cond t a 0) (le-ltb a z h)
+
+  -- it ends where its spans do
+  pub clipped-most : (m : ℕ) → z ≤ m → clipped a z .first + clipped a z .count ≤ m
+  clipped-most m h = ⊎-elim (λ some. omega (arith, clipped-first some)) (λ none. omega (arith, clipped-none none)) (either a z)
+
+  -- and its spans are those from the one bound up to the other
+  pub clipped-spans : (t : ℕ) → ((clipped a z .first ≤ t) × (t < clipped a z .first + clipped a z .count)) ↔ ((a ≤ t) × (t < z))
+  clipped-spans t =
+      ⊎-elim (λ h. ((λ (low, high). (omega (arith, clipped-first h), omega (arith, clipped-first h))), (λ (low, high). (omega (arith, clipped-first h), omega (arith, clipped-first h)))))
+      (λ h. ((λ (low, high). absurd (omega arith)), (λ (low, high). absurd (omega arith))))
+      (either a z)
+
+-- ---- a span in a run, counted round from its first
+
+module _ (run : Run) (m s : ℕ) where
+  pub runs : (s + m - run .first < m → s + m - run .first < run .count) → (m ≤ s + m - run .first → s + m - run .first - m < run .count) → inRun run m s ≡ true
+  unfolding inRun
+  runs below past = lt-ltb (roundEnd m (s + m - run .first)) (run .count) (by-round (λ v. v < run .count) m (s + m - run .first) below past)
+
+  pub stops : (s + m - run .first < m → run .count ≤ s + m - run .first) → (m ≤ s + m - run .first → run .count ≤ s + m - run .first - m) → inRun run m s ≡ false
+  unfolding inRun
+  stops below past = le-ltb (roundEnd m (s + m - run .first)) (run .count) (by-round (λ v. run .count ≤ v) m (s + m - run .first) below past)
+
+-- ---- where it lies
+
+-- it ends with the spans of the new shape
+pub past-most : (e : Edit) (p : Plan) (j : ℕ) → pastFresh e p j ≤ p .spans
+past-most (Move x y) p j = min-le-right (lastUsing (p .basis) j + 1) (p .spans)
+past-most (Insert x y) p j = min-le-right (j + 1) (p .spans)
+past-most Remove p j = min-le-right j (p .spans)
+
+-- its first span is not past the place
+pub first-place : (e : Edit) (p : Plan) (j : ℕ) → firstFresh e p j ≤ j
+first-place (Move x y) p j = omega (arith, first-below (p .basis) j .0, first-below (p .basis) j .1)
+first-place (Insert x y) p j = omega arith
+first-place Remove p j = omega arith
+
+-- where it is empty and some spans are past it, none is before it
+pub none-first : (e : Edit) (p : Plan) (j : ℕ) → pastFresh e p j ≤ firstFresh e p j → pastFresh e p j < p .spans → firstFresh e p j ≡ 0
+none-first (Move x y) p j h k = absurd (omega (arith, first-below (p .basis) j .0))
+none-first (Insert x y) p j h k = absurd (omega arith)
+none-first Remove p j h k = omega arith
+
+-- a span past it is not before the place, or the edit is a move, which carries nothing
+pub later-carried : {A : Type 0} (e : Edit) (p : Plan) (j t w q : ℕ) (f : ℕ → A) → t < p .spans → pastFresh e p j ≤ t
+    → cond (ltb t j) (f q) (f (carriedFrom e w q)) ≡ f (carriedFrom e w q)
+later-carried (Move x y) p j t w q f h past = cond-same (ltb t j) (f q)
+later-carried (Insert x y) p j t w q f h past = ap (λ v. cond v (f q) (f (q - w))) (le-ltb t j (omega arith))
+later-carried Remove p j t w q f h past = ap (λ v. cond v (f q) (f (q + w))) (le-ltb t j (omega arith))
