@@ -10,7 +10,7 @@ use lib.ListN.{getD, length}
 use lib.Pow.{pow-pos}
 use Rattle.whole.specs.Outcome.{outcome}
 use Rattle.curve.specs.Limits.{reach}
-use Rattle.curve.specs.Span.{firstRecord, coordinate, records, point}
+use Rattle.curve.specs.Span.{coordinate, records, point}
 use Rattle.curve.proofs.Limits.{point-size}
 use Rattle.shape.specs.declared.Shape.{Shape}
 use Rattle.shape.specs.declared.Plan.{Plan}
@@ -52,7 +52,7 @@ module _ (s : Shape) (p : Plan) (good : Good s p) (controls : List ℤ) (k len :
       point-size (p .basis) (p .depth) (g - t * d) (records (p .basis) t (coordinate controls (q % 2)))
       (step-within g (p .spans) d (pow-pos (p .depth)) (good .spans-least) (omega arith))
       (good .offered)
-      (lent-inside (s .count) controls k len lent (q % 2) (firstRecord (p .basis) t) (omega arith) (good-records s p good t exists))
+      (lent-inside (s .count) controls k len lent (p .basis) t (q % 2) (omega arith) (λ i few. good-records s p good t i exists few))
 
 -- After a drawing call that is done, each number of its points, as it stands in the lent list.
 pub drawn-within : (s : Shape) (controls lent : List ℤ) (fs : Figures) (held : List ℤ) → draws s controls lent ≡ outcome (Done fs) held → (q : ℕ) → q < 2 * fs .points → natAbs (getD held q (pos 0)) ≤ reach (planOf s .basis)
