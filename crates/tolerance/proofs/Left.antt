@@ -34,7 +34,7 @@ module _ (p : Plan) (tolerance : ℕ) (controls : List ℤ) (w : Walkable p tole
   ready : (k axis : ℕ) → axis < 2 → Ready k (divisor (p .basis) k) (controlsOf p controls s axis)
   ready k axis a =
       let d = w .drawable in
-      span-ready (planAt k p) controls (record { few = d .few; offered = d .offered; held = d .held; inside = d .inside }) s axis h a
+      span-ready (planAt k p) controls (record { few = d .few; offered = d .offered; round = d .round; held = d .held; inside = d .inside }) s axis h a
 
   pub span-walkable : pieces.Walkable (p .basis) 0 (controlsOf p controls s 0) (controlsOf p controls s 1)
   span-walkable =
