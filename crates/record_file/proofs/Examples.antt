@@ -38,11 +38,11 @@ unfolding reading judge recordRows number word signed tab coordinate sixtyFourth
 zeros-first = refl
 
 -- document 02, request 7: the parameter is read; a record of another one is unlike record 0; and byte 2 of a record whose own basis is not 3 is refused as a zero byte is, before that
-abbrev cardinalRecord : ℕ → ℕ → List ℕ
-cardinalRecord basis c = basis ∷ 1 ∷ c ∷ 0 ∷ 0 ∷ 0 ∷ 0 ∷ 0 ∷ 0 ∷ 0 ∷ 0 ∷ 0 ∷ []
+abbrev originOf : ℕ → ℕ → List ℕ
+originOf basis c = basis ∷ 1 ∷ c ∷ 0 ∷ 0 ∷ 0 ∷ 0 ∷ 0 ∷ 0 ∷ 0 ∷ 0 ∷ 0 ∷ []
 
 abbrev cardinals : ℕ → ℕ → List ℕ
-cardinals basis c = cardinalRecord 3 48 ++ (cardinalRecord 3 48 ++ (cardinalRecord 3 48 ++ cardinalRecord basis c))
+cardinals basis c = originOf 3 48 ++ (originOf 3 48 ++ (originOf 3 48 ++ originOf basis c))
 
 pub parameter-read : reading (cardinals 3 48) (replicate 8 (negsuc 4)) ≡ outcome (Read (record { basis = 3; depth = 1; count = 4; parameter = 48 })) (replicate 8 (pos 0))
 unfolding reading judge recordRows number word signed tab coordinate sixtyFourths basisOf spansOf recordsOf allowed outside seek
@@ -55,6 +55,22 @@ parameter-unlike = refl
 pub own-basis : reading (cardinals 2 48) lent ≡ refuses Refused lent (record { number = 14; place = 3 })
 unfolding reading judge recordRows number word signed tab coordinate sixtyFourths basisOf spansOf recordsOf allowed outside seek
 own-basis = refl
+
+-- document 02, request 8: four records of basis 5 are read as others are, its byte 2 is a zero byte, and there is no basis 6
+abbrev fourOf : ℕ → ℕ → List ℕ
+fourOf basis c = originOf basis c ++ (originOf basis c ++ (originOf basis c ++ originOf basis c))
+
+pub loop-read : reading (fourOf 5 0) (replicate 8 (negsuc 4)) ≡ outcome (Read (record { basis = 5; depth = 1; count = 4; parameter = 0 })) (replicate 8 (pos 0))
+unfolding reading judge recordRows number word signed tab coordinate sixtyFourths basisOf spansOf recordsOf allowed outside seek
+loop-read = refl
+
+pub loop-no-parameter : reading (fourOf 5 48) lent ≡ refuses Refused lent (record { number = 14; place = 0 })
+unfolding reading judge recordRows number word signed tab coordinate sixtyFourths basisOf spansOf recordsOf allowed outside seek
+loop-no-parameter = refl
+
+pub no-sixth : reading (fourOf 6 0) lent ≡ refuses Refused lent (record { number = 1; place = 0 })
+unfolding reading judge recordRows number word signed tab coordinate sixtyFourths basisOf spansOf recordsOf allowed outside seek
+no-sixth = refl
 
 -- 255 255 255 255 is -1, and 0 0 0 128 the least number
 pub minus-one : signed (word (255 ∷ 255 ∷ 255 ∷ 255 ∷ []) 0) ≡ negsuc 0

@@ -125,7 +125,7 @@ module _ (basis depth parameter n : ℕ) (records controls : List ℤ) (even : l
       let lists = controlsRow n controls ∷ limitsRow n records ∷ [] in
       let good = good-plan given (none-earlier (shapeRows given) lists h) in
       let lent = lent-facts n records 0 0 (omega arith) (row-fails 8 (shapeRows given ++ lists) h) (omega arith) in
-      let some : 4 ≤ n = omega (arith, good .spans-least, good .spans-most) in
+      let some : 4 ≤ n = good .records-least in
       let few : n ≤ mostRecords = good .records-most in
       let long = length-encoded basis depth parameter records n even in
       let count : recordCount file ≡ n = omega (arith, long) in
