@@ -23,9 +23,9 @@ use Rattle.drawing.proofs.Tables.{reached-facts}
 use Rattle.drawing.proofs.Sequences.{sound}
 
 -- the counts that are reached, from 4 on, are those allowed for basis 1
-spans-there : (n c : ℕ) → 4 ≤ n → n ≤ mostRecords → n % 3 ≡ 1 → allowed (basisOf 1 c) n ≡ true
+spans-there : (n c : ℕ) → 4 ≤ n → n ≤ mostRecords → n % 3 ≡ 1 → allowed (basisOf 1 c n) n ≡ true
 unfolding basisOf spansOf recordsOf
-spans-there n c h m e = let whole : 3 * ((n - 1) / 3) + 1 ≡ n = omega arith in allowed-between (basisOf 1 c) n h m ∙ eq-eqb (3 * ((n - 1) / 3) + 1) n whole
+spans-there n c h m e = let whole : 3 * ((n - 1) / 3) + 1 ≡ n = omega arith in allowed-between (basisOf 1 c n) n h m ∙ eq-eqb (3 * ((n - 1) / 3) + 1) n whole
 
 not-outside : (l : List ℤ) (r : ℕ) → Inside (recordAt l r) → outside l r ≡ false
 unfolding outside recordAt

@@ -63,10 +63,10 @@ module _ (s : Shape) (p : Plan) (controls : List ℤ) (points : List Float) wher
   module _ (good : Good s p) (e : s .basis ≡ 1) where
     pub bezier-count : firstRecord Bezier (p .spans) + 1 ≡ s .count
     unfolding basisOf
-    bezier-count = sym (records-first Bezier (p .spans)) ∙ ap (λ (n : ℕ). recordsOf (basisOf n (s .parameter)) (p .spans)) (sym e) ∙ ap (λ b. recordsOf b (p .spans)) (sym (good .basis)) ∙ good .records
+    bezier-count = sym (records-first Bezier (p .spans)) ∙ ap (λ (n : ℕ). recordsOf (basisOf n (s .parameter) (s .count)) (p .spans)) (sym e) ∙ ap (λ b. recordsOf b (p .spans)) (sym (good .basis)) ∙ good .records
 
     pub bezier-inside : (n len : ℕ) → Lent (s .count) controls n len → (t axis : ℕ) → t < p .spans → axis < 2 → Inside limit (plain (p .depth) (p .spans) controls t axis)
-    bezier-inside n len lent t axis h a = lent-inside (s .count) controls n len lent axis (firstRecord Bezier t) a (omega (arith, bezier-count, records-before t (p .spans) h))
+    bezier-inside n len lent t axis h a = lent-inside (s .count) controls n len lent Bezier t axis a (λ i few. omega (arith, bezier-count, records-before t (p .spans) h))
 
     pub drawn-is : (n len : ℕ) → Lent (s .count) controls n len → (r : ℕ) → r ≡ count → (l : List Float) → l ≡ sets points 0 (halved controls (p .depth) 0 (p .spans)) → outcome (Drawn r) l ≡ accepts p controls points
     drawn-is n len lent r c l f =

@@ -3,6 +3,7 @@ use mathlib.Core.Path.{sym, _∙_, subst}
 use Prim.Native.Nat.{ℕ, _≤_}
 use native.Mathlib.Omega.{arith}
 use lib.ListN.{length}
+use Rattle.curve.specs.Span.{firstRecord}
 use Rattle.shape.specs.Shape.{mostPoints}
 use Rattle.shape.specs.Inner.{Lent}
 use Rattle.shape.proofs.Refusals.{fine-facts}
@@ -39,13 +40,14 @@ enum-told : tie.Need-enum-told
 enum-told c = search needs
 
 fill-spans-requires : tie.Need-fill-spans-requires
+unfolding firstRecord
 fill-spans-requires c κs =
     let s = c .before .before .before .before .before .before .before in
     let a = s .args in
     let g = s .pre in
     let l = lent (c .before) in
     let n = bezier-count (a .shape) (a .plan) (a .controls .now) (a .points .now) g (c .before .before .before .before .before .if1 .left) in
-    ((g .depth-most, omega (arith, g .spans-most, g .records-most)), (omega (arith, n, l .room), omega (arith, l .points-room, c .before .before .before .before .points .ensures)))
+    ((g .depth-most, omega (arith, n, g .records-most)), (omega (arith, n, l .room), omega (arith, l .points-room, c .before .before .before .before .points .ensures)))
 
 returns-2 : tie.Need-returns-2
 returns-2 c =
