@@ -10,9 +10,9 @@ use borrow.Author.Tests.{lt-ltb, le-ltb}
 use lib.Dec.{ltb}
 use lib.Pow.{pow-pos}
 use Rattle.curve.specs.Span.{roundEnd, isLoop}
-use Rattle.curve.proofs.Round.{by-round}
+use Rattle.curve.proofs.Round.{round-below, round-past, by-round}
 use Rattle.shape.specs.declared.Plan.{Plan}
-use Rattle.shape.proofs.Tests.{passes, either}
+use Rattle.shape.proofs.Tests.{passes, either, or-false}
 use Rattle.spans.specs.Numbers.{perSpan}
 use Rattle.asked.specs.declared.Run.{Run}
 use Rattle.asked.specs.Edits.{inRun, spanIn, spanBefore, isFresh}
@@ -255,8 +255,8 @@ module _ (run : Run) (p : Plan) (loop : isLoop (p .basis) ≡ true) (some : 0 < 
             λ t r low high end later. (
               stale-in t (λ g. (omega arith, omega arith)) (λ g. (omega arith, omega arith)),
               (λ two.
-              let past-end : run .first + run .count < t = ⊎-elim (λ (h : run .first + run .count < t). h) (λ (h : t ≤ run .first + run .count). absurd (omega (arith, later (omega arith)))) (either (run .first + run .count) t) in
-              stale-before t (λ g. (omega arith, omega arith)) (λ g. (omega arith, omega arith))),
+                  let past-end : run .first + run .count < t = ⊎-elim (λ (h : run .first + run .count < t). h) (λ (h : t ≤ run .first + run .count). absurd (omega (arith, later (omega arith)))) (either (run .first + run .count) t) in
+                  stale-before t (λ g. (omega arith, omega arith)) (λ g. (omega arith, omega arith))),
             );
       }
 
@@ -277,8 +277,8 @@ module _ (run : Run) (p : Plan) (loop : isLoop (p .basis) ≡ true) (some : 0 < 
             λ t r low high later. (
               stale-in t (λ g. (omega arith, omega arith)) (λ g. absurd (omega arith)),
               (λ two.
-              let past-end : run .first + run .count - n < t = ⊎-elim (λ (h : run .first + run .count - n < t). h) (λ (h : t ≤ run .first + run .count - n). absurd (omega (arith, later (omega arith)))) (either (run .first + run .count - n) t) in
-              stale-before t (λ g. absurd (omega arith)) (λ g. (omega arith, omega arith))),
+                  let past-end : run .first + run .count - n < t = ⊎-elim (λ (h : run .first + run .count - n < t). h) (λ (h : t ≤ run .first + run .count - n). absurd (omega (arith, later (omega arith)))) (either (run .first + run .count - n) t) in
+                  stale-before t (λ g. absurd (omega arith)) (λ g. (omega arith, omega arith))),
             );
       }
 
@@ -295,7 +295,35 @@ module _ (run : Run) (p : Plan) (loop : isLoop (p .basis) ≡ true) (some : 0 < 
             λ t r low high later. (
               stale-in t (λ g. (omega arith, omega arith)) (λ g. absurd (omega arith)),
               (λ two.
-              let past-end : run .count < t = ⊎-elim (λ (h : run .count < t). h) (λ (h : t ≤ run .count). absurd (omega (arith, later (omega arith)))) (either (run .count) t) in
-              stale-before t (λ g. absurd (omega arith)) (λ g. (omega arith, omega arith))),
+                  let past-end : run .count < t = ⊎-elim (λ (h : run .count < t). h) (λ (h : t ≤ run .count). absurd (omega (arith, later (omega arith)))) (either (run .count) t) in
+                  stale-before t (λ g. absurd (omega arith)) (λ g. (omega arith, omega arith))),
             );
       }
+
+-- ---- a number that is not fresh: its own span, which for the last point is the last one, is not in the run
+
+pub stale-own : (run : Run) (p : Plan) (q : ℕ) → q < p .spans * perSpan (p .depth) + 2 → 1 ≤ p .spans → isFresh run p q ≡ false → inRun run (p .spans) (min (t p q) (p .spans - 1)) ≡ false
+unfolding isFresh
+stale-own run p q high some stale =
+    let (here, start) = or-false (inRun run (p .spans) (spanIn p (t p q))) (ltb (r p q) 2 && inRun run (p .spans) (spanBefore p (t p q))) stale in
+    ⊎-elim (λ loop. round loop here start) (λ ends. ap (inRun run (p .spans)) (sym (ap (λ v. cond v (roundEnd (p .spans) (t p q)) (min (t p q) (p .spans - 1))) ends)) ∙ here) (passes (isLoop (p .basis)))
+  where
+    round : isLoop (p .basis) ≡ true → inRun run (p .spans) (spanIn p (t p q)) ≡ false → (ltb (r p q) 2 && inRun run (p .spans) (spanBefore p (t p q))) ≡ false → inRun run (p .spans) (min (t p q) (p .spans - 1)) ≡ false
+    round loop here start =
+        ⊎-elim
+        (λ (early : t p q < p .spans).
+        let own : spanIn p (t p q) ≡ min (t p q) (p .spans - 1) = ap (λ v. cond v (roundEnd (p .spans) (t p q)) (min (t p q) (p .spans - 1))) loop ∙ round-below (p .spans) (t p q) early ∙ omega arith in
+        ap (inRun run (p .spans)) (sym own) ∙ here)
+        (λ (late : p .spans ≤ t p q).
+        let same : t p q ≡ p .spans = omega (arith, last p q high .0) in
+        let own : spanBefore p (t p q) ≡ min (t p q) (p .spans - 1) =
+        ap (λ v. cond v (roundEnd (p .spans) (t p q + p .spans - 1)) (t p q - 1)) loop ∙ round-past (p .spans) (t p q + p .spans - 1) (omega arith) ∙ omega (arith, same) in
+        ap (inRun run (p .spans)) (sym own) ∙ sym (ap (λ v. v && inRun run (p .spans) (spanBefore p (t p q))) (lt-ltb (r p q) 2 (last p q high .1 same))) ∙ start)
+        (either (t p q) (p .spans))
+
+-- no span is in a run of none
+pub none-in : (run : Run) (m s : ℕ) → run .count ≡ 0 → inRun run m s ≡ false
+none-in run m s none = stops run m s (λ h. omega (arith, none)) (λ h. omega (arith, none))
+
+pub none-fresh : (run : Run) (p : Plan) (q : ℕ) → run .count ≡ 0 → isFresh run p q ≡ false
+none-fresh run p q none = stale-by run p q (none-in run (p .spans) (spanIn p (t p q)) none, (λ two. none-in run (p .spans) (spanBefore p (t p q)) none))

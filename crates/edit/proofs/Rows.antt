@@ -3,7 +3,7 @@ use mathlib.Core.Path.{_≡_, refl, sym, ap, _∙_, subst}
 use mathlib.Core.Bool.{Bool, true, false, cond, _||_}
 use mathlib.Core.Logic.{⊎-elim}
 use mathlib.Core.List.{List, _++_}
-use Prim.Native.Nat.{ℕ, suc, _+_, _*_, _-_, _/_, _%_, _≤_, _<_, max}
+use Prim.Native.Nat.{ℕ, zero, suc, _+_, _*_, _-_, _/_, _%_, _≤_, _<_, max}
 use native.Mathlib.Nat.{le-max-left, le-max-right, suc-mul}
 use native.Mathlib.Omega.{arith}
 use borrow.Author.Tests.{not-false, ltb-true, ltb-false, leb-true, leb-false, eqb-true, eqb-false}
@@ -12,20 +12,23 @@ use lib.IntN.{ℤ, pos, natAbs}
 use lib.ListN.{getD, length}
 use Rattle.whole.specs.Outcome.{refuses}
 use Rattle.curve.specs.declared.Basis.{Basis}
-use Rattle.curve.specs.Limits.{beyond, limit}
-use Rattle.curve.specs.Span.{coordinate}
+use Rattle.curve.specs.declared.Basis.the-variants.{Bezier, BSpline, Cardinal, Hermite, Loop}
+use Rattle.curve.specs.Published.{mostParameter}
+use Rattle.curve.specs.Limits.{beyond, limit, parameterOf}
+use Rattle.curve.specs.Span.{coordinate, isLoop, recount}
+use Rattle.curve.proofs.Stride.{stride-bounds}
 use Rattle.shape.specs.declared.Shape.{Shape}
 use Rattle.shape.specs.declared.Plan.{Plan}
 use Rattle.shape.specs.declared.Refusal.{Refusal}
 use Rattle.shape.specs.declared.Judged.the-variants.{Sound, Unsound}
 use Rattle.shape.specs.declared.Checked.{Checked}
 use Rattle.shape.specs.declared.Checked.the-variants.{Fine, Bad}
-use Rattle.shape.specs.Inner.{Good, Lent}
-use Rattle.shape.specs.Shape.{spansOf, recordsOf, leastRecords, mostRecords}
+use Rattle.shape.specs.Inner.{RunsRound, Good, Lent}
+use Rattle.shape.specs.Shape.{basisOf, basisIn, spansOf, recordsOf, leastRecords, mostRecords}
 use Rattle.shape.specs.Refusals.{Row, NoRow, judge, judgeShape, planOf, controlRows, pointRows}
 use Rattle.shape.proofs.Tests.{passes, or-false, either}
 use Rattle.shape.proofs.Refusals.{judge-first, judge-none, sound, unsound, sound-plan, sound-facts, rows-first, rows-none, rows-bad, rows-fine, none-later, row-fails, lent-facts}
-use Rattle.shape.proofs.Spans.{spans-records, spans-below}
+use Rattle.shape.proofs.Spans.{tail-few, spans-records, spans-below, runs-least, round-records, recount-records, recount-spans, recount-round}
 use Rattle.spans.specs.Numbers.{perSpan}
 use Rattle.spans.specs.Filled.{filled}
 use Rattle.spans.proofs.Filled.{length-filled, in-filled}
@@ -34,11 +37,12 @@ use Rattle.spans.proofs.Drawables.{drawable}
 use Rattle.outline.proofs.Draws.{all-numbers}
 use Rattle.asked.specs.declared.Edit.{Edit}
 use Rattle.asked.specs.declared.Edit.the-variants.{Move, Insert, Remove}
-use Rattle.asked.specs.Edits.{countAfter, spansAfter, offered, inRange, atTheEnd, newOutside, choose, controlAt, asked, pastFresh}
+use Rattle.asked.specs.Edits.{countAfter, spansAfter, offered, inRange, atTheEnd, newOutside, choose, controlAt, asked, pastFresh, runOf}
 use Rattle.asked.specs.Inner.{Askable}
 use Rattle.edit.specs.declared.Edited.the-variants.{Refused}
+use Rattle.asked.proofs.Runs.{round-first, round-few, open-most}
 use Rattle.asked.proofs.Splines.{spline-records}
-use Rattle.edit.specs.Inner.{Carriable, Editable, Workable, Vetted}
+use Rattle.edit.specs.Inner.{Carriable, Runnable, Editable, Workable, Vetted}
 use Rattle.edit.specs.Reading.{shapeAfter, planAfter, askRows, judgeAsk, newRows, roomRows, judgeRoom, editRows, accepts, edits}
 
 -- ---- the new shape
@@ -55,7 +59,12 @@ spans-then e b m o h = ap (spansOf b) (sym (records-then e b m o h)) ∙ spans-r
 spans-left : (e : Edit) (b : Basis) (m : ℕ) → offered e b ≡ true → 1 ≤ m → atTheEnd e (recordsOf b m) ≡ false → 1 ≤ spansAfter e m
 spans-left (Move x y) b m o h t = h
 spans-left (Insert x y) b m o h t = omega arith
-spans-left Remove b m o h t = omega (arith, spline-records b o m, leb-false (recordsOf b m) leastRecords t)
+spans-left Remove b m o h t = omega (arith, spline-records b o m, tail-few b, stride-bounds b .0, leb-false (recordsOf b m) leastRecords t)
+
+count-least : (e : Edit) (n : ℕ) → leastRecords ≤ n → atTheEnd e n ≡ false → leastRecords ≤ countAfter e n
+count-least (Move x y) n h t = h
+count-least (Insert x y) n h t = omega arith
+count-least Remove n h t = omega (arith, leb-false n leastRecords t)
 
 count-most : (e : Edit) (n : ℕ) → n ≤ mostRecords → atTheEnd e n ≡ false → countAfter e n ≤ mostRecords
 count-most (Move x y) n h t = h
@@ -72,6 +81,42 @@ place-most (Move x y) j n h t = omega (arith, ltb-true j n t)
 place-most (Insert x y) j n h t = omega (arith, leb-true j n t)
 place-most Remove j n h t = omega (arith, ltb-true j n t)
 
+-- no place is past the new count
+pub place-after : (e : Edit) (j n : ℕ) → inRange e j n ≡ true → j ≤ countAfter e n
+place-after (Move x y) j n t = omega (arith, ltb-true j n t)
+place-after (Insert x y) j n t = omega (arith, leb-true j n t)
+place-after Remove j n t = omega (arith, ltb-true j n t)
+
+-- counts of records and of spans change alike
+counts-alike : (e : Edit) (n : ℕ) → spansAfter e n ≡ countAfter e n
+counts-alike (Move x y) n = refl
+counts-alike (Insert x y) n = refl
+counts-alike Remove n = refl
+
+-- the basis of the new shape: a loop is counted round its new count
+basis-after : (e : Edit) (b c n m : ℕ) → RunsRound (basisOf b c n) m → recount (spansAfter e m) (basisOf b c n) ≡ basisOf b c (countAfter e n)
+unfolding basisOf
+basis-after e b c n m = go b
+  where
+    loop : RunsRound (Loop n) m → Loop (spansAfter e m) ≡ Loop (countAfter e n)
+    loop (is, least) = ap Loop (ap (spansAfter e) (sym is) ∙ counts-alike e n)
+
+    go : (b : ℕ) → RunsRound (basisOf b c n) m → recount (spansAfter e m) (basisOf b c n) ≡ basisOf b c (countAfter e n)
+    go zero round = loop round
+    go (suc zero) round = refl
+    go (suc (suc zero)) round = refl
+    go (suc (suc (suc zero))) round = refl
+    go (suc (suc (suc (suc zero)))) round = refl
+    go (suc (suc (suc (suc (suc b))))) round = loop round
+
+-- its parameter stays
+parameter-after : (m : ℕ) (b : Basis) → parameterOf (recount m b) ≡ parameterOf b
+parameter-after m Bezier = refl
+parameter-after m BSpline = refl
+parameter-after m (Cardinal c) = refl
+parameter-after m Hermite = refl
+parameter-after m (Loop n) = refl
+
 module _ (e : Edit) (s : Shape) (p : Plan) (j : ℕ) (ok : Editable e s p j) where
   abbrev good : Good s p
   good = ok .good
@@ -79,22 +124,32 @@ module _ (e : Edit) (s : Shape) (p : Plan) (j : ℕ) (ok : Editable e s p j) whe
   at-end : atTheEnd e (recordsOf (p .basis) (p .spans)) ≡ false
   at-end = ap (atTheEnd e) (good .records) ∙ ok .notAtTheEnd
 
+  basis-is : recount (spansAfter e (p .spans)) (p .basis) ≡ basisIn (shapeAfter e s)
+  basis-is =
+      let is = good .basis in
+      ap (recount (spansAfter e (p .spans))) is
+      ∙ basis-after e (s .basis) (s .parameter) (s .count) (p .spans) (subst (λ b. RunsRound b (p .spans)) is (good .round))
+
   pub good-after : Good (shapeAfter e s) (planAfter e p)
   good-after =
       let b = p .basis in
       let m = p .spans in
       let left = spans-left e b m (ok .offered) (good .spans-least) at-end in
-      let records = records-then e b m (ok .offered) (good .spans-least) ∙ ap (countAfter e) (good .records) in
+      let counted = records-then e b m (ok .offered) (good .spans-least) ∙ ap (countAfter e) (good .records) in
+      let records = recount-records (spansAfter e m) b (spansAfter e m) ∙ counted in
+      let least = count-least e (s .count) (good .records-least) (ok .notAtTheEnd) in
       record {
-        basis = good .basis;
+        basis = basis-is;
         basis-least = good .basis-least;
         basis-most = good .basis-most;
         depth = good .depth;
-        offered = good .offered;
+        offered = subst (λ (n : ℕ). n ≤ mostParameter) (sym (parameter-after (spansAfter e m) b)) (good .offered);
         depth-most = good .depth-most;
         spans-least = left;
-        spans-most = subst (λ n. spansAfter e m + 3 ≤ n) records (spans-below b (spansAfter e m) left);
+        spans-most = subst (λ n. spansAfter e m ≤ n) counted (spans-below b (spansAfter e m));
+        round = recount-round b (spansAfter e m) (subst (λ n. leastRecords ≤ n) (sym counted) least);
         records = records;
+        records-least = least;
         records-most = count-most e (s .count) (good .records-most) (ok .notAtTheEnd);
       }
 
@@ -102,11 +157,14 @@ module _ (e : Edit) (s : Shape) (p : Plan) (j : ℕ) (ok : Editable e s p j) whe
   unfolding planOf
   plan-after =
       let m = p .spans in
-      let spans : spansOf (p .basis) (countAfter e (s .count)) ≡ spansAfter e m =
-      ap (λ (n : ℕ). spansOf (p .basis) (countAfter e n)) (sym (good .records)) ∙ spans-then e (p .basis) m (ok .offered) (good .spans-least) in
-      ap (λ b. plan b (s .depth) (spansOf b (countAfter e (s .count)))) (sym (good .basis))
-      ∙ ap (λ (k : ℕ). plan (p .basis) k (spansOf (p .basis) (countAfter e (s .count)))) (sym (good .depth))
-      ∙ ap (plan (p .basis) (p .depth)) spans
+      let new = recount (spansAfter e m) (p .basis) in
+      let spans : spansOf new (countAfter e (s .count)) ≡ spansAfter e m =
+      recount-spans (spansAfter e m) (p .basis) (countAfter e (s .count))
+      ∙ ap (λ (n : ℕ). spansOf (p .basis) (countAfter e n)) (sym (good .records))
+      ∙ spans-then e (p .basis) m (ok .offered) (good .spans-least) in
+      ap (λ b. plan b (s .depth) (spansOf b (countAfter e (s .count)))) (sym basis-is)
+      ∙ ap (λ (k : ℕ). plan new k (spansOf new (countAfter e (s .count)))) (sym (good .depth))
+      ∙ ap (plan new (p .depth)) spans
     where
       plan : Basis → ℕ → ℕ → Plan
       plan b k m = record { basis = b; depth = k; spans = m }
@@ -226,15 +284,28 @@ module _ (e : Edit) (s : Shape) (p : Plan) (j : ℕ) (ok : Editable e s p j) (co
   new-fits : spansAfter e (p .spans) * perSpan (p .depth) + 2 ≤ len
   new-fits = omega (arith, all-numbers (p .depth) (spansAfter e (p .spans)), points-fit, le-max-right (points p) (points q))
 
+  -- the run is among the new spans
+  runnable-by : Runnable (runOf e q j) q
+  runnable-by =
+      let after = good-after e s p j ok in
+      let in-loop : isLoop (q .basis) ≡ true → (runOf e q j .first < q .spans) × (runOf e q j .count ≤ q .spans) =
+      λ loop.
+      let least = runs-least (q .basis) (q .spans) (after .round) loop in
+      (round-first e q j loop least (omega (arith, place-after e j n (ok .inRange), after .records, round-records (q .basis) (q .spans) loop)), round-few e q j loop least) in
+      ⊎-elim (λ loop. subst (λ t. cond t ((runOf e q j .first < q .spans) × (runOf e q j .count ≤ q .spans)) (runOf e q j .first + runOf e q j .count ≤ q .spans)) (sym loop) (in-loop loop))
+      (λ ends. subst (λ t. cond t ((runOf e q j .first < q .spans) × (runOf e q j .count ≤ q .spans)) (runOf e q j .first + runOf e q j .count ≤ q .spans)) (sym ends) (open-most e q j ends))
+      (passes (isLoop (q .basis)))
+
   pub workable : Workable e s q j controls len
   workable =
       record {
         good = good-after e s p j ok;
-        least = omega (arith, ok .good .spans-most);
+        least = omega (arith, ok .good .records-least);
         most = ok .good .records-most;
         place = place-most e j n (ok .good .records-most) (ok .inRange);
         askable = askable-by e j n (length controls) (ok .inRange) room;
         drawable = drawable (shapeAfter e s) q (good-after e s p j ok) (asked e j controls (countAfter e n)) 0 len new-lent;
+        runnable = runnable-by;
         points-room = new-fits;
         carriable = carriable-by e p j (perSpan (p .depth)) len (ok .good .spans-least) (good-after e s p j ok .spans-least) old-fits new-fits;
       }

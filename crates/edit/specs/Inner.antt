@@ -18,7 +18,7 @@ use Rattle.shape.specs.declared.Judged.the-variants.{Sound, Unsound}
 use Rattle.shape.specs.Inner.{Good}
 use Rattle.shape.specs.Shape.{mostRecords}
 use Rattle.spans.specs.Numbers.{number, perSpan}
-use Rattle.spans.specs.Filled.{filled}
+use Rattle.spans.specs.Filled.{filled, fills}
 use Rattle.spans.specs.Inner.{Drawable, Joint}
 use Rattle.asked.specs.declared.Run.{Run}
 use Rattle.asked.specs.Edits.{countAfter, offered, inRange, atTheEnd, pastFresh, asked, runOf, isFresh, exactFresh}
@@ -34,6 +34,14 @@ Runnable run p = cond (isLoop (p .basis)) ((run .first < p .spans) × (run .coun
 unfoldable pub refreshes : Run → Plan → List ℤ → List ℤ → Outcome ℕ (List ℤ)
 refreshes run p controls l =
     outcome (exactFresh run p controls) (filled (λ q. cond (isFresh run p q) (number p controls q) (getD l q (pos 0))) 0 (p .spans * perSpan (p .depth) + 2) l)
+
+-- Drawing a loop's spans from one to the list's end, and then those from its start up to, and not with, another.
+unfoldable pub fillsEnds : Plan → List ℤ → ℕ → ℕ → List ℤ → Outcome ℕ (List ℤ)
+fillsEnds p controls from to l =
+    let w = perSpan (p .depth) in
+    let last = fills p controls (from * w) ((p .spans - from) * w + 2) l in
+    let first = fills p controls (0 * w) ((to - 0) * w + 2) (last .held) in
+    outcome (last .answer + first .answer) (first .held)
 
 -- A stretch of a loop's spans in a list of `len` numbers: some spans, or none at one of the places of the joint.
 pub record StretchOf (p : Plan) (from to len : ℕ) : Type 0 where

@@ -8,10 +8,10 @@ use native.Mathlib.Omega.{arith}
 use borrow.Author.Tests.{leb-true, eqb-true, le-leb, eq-eqb}
 use lib.Dec.{leb, eqb, lit≤}
 use lib.Pow.{pow-mono}
-use Rattle.curve.specs.Span.{stride, firstRecord, isLoop, recordAt}
+use Rattle.curve.specs.Span.{stride, firstRecord, isLoop, recordAt, recount}
 use Rattle.curve.specs.Ways.{deepest}
 use Rattle.curve.specs.declared.Basis.{Basis}
-use Rattle.curve.specs.declared.Basis.the-variants.{Loop}
+use Rattle.curve.specs.declared.Basis.the-variants.{Bezier, BSpline, Cardinal, Hermite, Loop}
 use Rattle.curve.proofs.Stride.{stride-bounds}
 use Rattle.curve.proofs.Round.{open-or-loop, record-open, round-within, loop-first}
 use Rattle.shape.specs.Shape.{tail, recordsOf, spansOf, firstUsing, lastUsing, allowed, pointsOf, leastRecords, mostRecords, mostPoints}
@@ -99,6 +99,33 @@ loop-runs n h = (sym (loop-spans n n), omega (arith, loop-spans n n))
 -- what runs round is a loop, of four spans at least
 pub runs-least : (b : Basis) (m : ℕ) → RunsRound b m → isLoop b ≡ true → leastRecords ≤ m
 runs-least b m = open-or-loop (λ b. RunsRound b m → isLoop b ≡ true → leastRecords ≤ m) (λ b ends _ loop. absurd (true-is-not-false loop ends)) (λ n (is, least) _. least) b
+
+pub round-records : (b : Basis) (m : ℕ) → isLoop b ≡ true → recordsOf b m ≡ m
+round-records b m = open-or-loop (λ b. isLoop b ≡ true → recordsOf b m ≡ m) (λ b ends loop. absurd (true-is-not-false loop ends)) (λ n _. loop-records n m) b
+
+-- counting round another number changes neither, and a loop then runs round that number
+pub recount-records : (n : ℕ) (b : Basis) (m : ℕ) → recordsOf (recount n b) m ≡ recordsOf b m
+unfolding recordsOf
+recount-records n Bezier m = refl
+recount-records n BSpline m = refl
+recount-records n (Cardinal c) m = refl
+recount-records n Hermite m = refl
+recount-records n (Loop l) m = refl
+
+pub recount-spans : (n : ℕ) (b : Basis) (m : ℕ) → spansOf (recount n b) m ≡ spansOf b m
+unfolding spansOf
+recount-spans n Bezier m = refl
+recount-spans n BSpline m = refl
+recount-spans n (Cardinal c) m = refl
+recount-spans n Hermite m = refl
+recount-spans n (Loop l) m = refl
+
+pub recount-round : (b : Basis) (m : ℕ) → leastRecords ≤ recordsOf b m → RunsRound (recount m b) m
+recount-round Bezier m h = tt
+recount-round BSpline m h = tt
+recount-round (Cardinal c) m h = tt
+recount-round Hermite m h = tt
+recount-round (Loop n) m h = (refl, omega (arith, loop-records n m))
 
 -- ---- allowed counts
 

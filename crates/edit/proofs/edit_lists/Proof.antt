@@ -23,7 +23,7 @@ work-requires c κs =
     let t = c .before .before .before in
     let s = t .before .before in
     let w = s .pre in
-    ((w .good .depth-most, w .place, w .good .spans-least), (subst (Drawable (s .args .plan)) (sym (t .ask .ensures)) (w .drawable), (w .points-room, w .carriable)))
+    ((w .good .depth-most, w .place, w .good .spans-least), ((subst (Drawable (s .args .plan)) (sym (t .ask .ensures)) (w .drawable), w .runnable), (w .points-room, w .carriable)))
 
 change-of-requires : tie.Need-change-of-requires
 change-of-requires c κs = search needs

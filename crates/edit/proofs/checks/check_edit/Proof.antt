@@ -5,6 +5,7 @@ use native.Mathlib.Nat.{max-le}
 use native.Mathlib.Omega.{arith}
 use borrow.Author.Needs.{needs}
 use lib.ListN.{length}
+use Rattle.curve.specs.Span.{recount}
 use Rattle.shape.specs.declared.Plan.{Plan}
 use Rattle.shape.specs.declared.Judged.the-variants.{Sound}
 use Rattle.shape.specs.declared.Checked.the-variants.{Fine}
@@ -69,8 +70,11 @@ enum-told c = search needs
 spans-after-requires : tie.Need-spans-after-requires
 spans-after-requires c κs = let g = good (c .before .before .before) in (g .spans-least, omega (arith, g .spans-most, g .records-most))
 
+recounted-requires : tie.Need-recounted-requires
+recounted-requires c κs = search needs
+
 points-requires : tie.Need-points-requires
-points-requires c κs = let g = good (c .before .before .before .before) in (g .depth-most, omega (arith, g .spans-most, g .records-most))
+points-requires c κs = let g = good (c .before .before .before .before .before) in (g .depth-most, omega (arith, g .spans-most, g .records-most))
 
 -- what is asked may be done
 module _ (u : tie.After-enum-told) where
@@ -92,26 +96,26 @@ module _ (u : tie.After-enum-told) where
 
 points-requires-2 : tie.Need-points-requires-2
 points-requires-2 c κs =
-    let u = c .before .before in
-    (good (k u) .depth-most, subst (λ (n : ℕ). n ≤ mostRecords) (sym (c .before .spans-after .ensures)) (few u))
+    let u = c .before .before .before in
+    (good (k u) .depth-most, subst (λ (n : ℕ). n ≤ mostRecords) (sym (c .before .before .spans-after .ensures)) (few u))
 
 greatest-requires : tie.Need-greatest-requires
 greatest-requires c κs = search needs
 
 -- the greater of the two numbers of points
-most-is : (c : tie.After-greatest) → c .greatest .result ≡ most (c .before .before .before .before)
+most-is : (c : tie.After-greatest) → c .greatest .result ≡ most (c .before .before .before .before .before)
 most-is c =
-    let plan = p (k (c .before .before .before .before)) in
+    let plan = p (k (c .before .before .before .before .before)) in
     c .greatest .ensures
     ∙ ap (λ (n : ℕ). max n (c .before .points2 .result)) (c .before .before .points .ensures)
-    ∙ ap (max (points plan)) (c .before .points2 .ensures ∙ ap (pointsOf (plan .depth)) (c .before .before .before .spans-after .ensures))
+    ∙ ap (max (points plan)) (c .before .points2 .ensures ∙ ap (pointsOf (plan .depth)) (c .before .before .before .before .spans-after .ensures))
 
 check-room-requires : tie.Need-check-room-requires
 check-room-requires c κs =
-    let u = c .before .before .before .before in
+    let u = c .before .before .before .before .before in
     let plan = p (k u) in
     let g = good (k u) in (
-      omega (arith, g .spans-most),
+      omega (arith, g .records-least),
       g .records-most,
       subst (λ (n : ℕ). n ≤ mostPoints) (sym (most-is c))
           (max-le (points-at-most (plan .depth) (plan .spans) (g .depth-most) (omega (arith, g .spans-most, g .records-most)))
@@ -127,7 +131,7 @@ enum-told-2 c = search needs
 -- what the last check found
 module _ (c : tie.After-check-room) where
   abbrev u : tie.After-enum-told
-  u = c .before .before .before .before .before
+  u = c .before .before .before .before .before .before
 
   found : c .check-room .result ≡ judgeRoom (s (k u) .args .edit) (s (k u) .args .shape .count) (s (k u) .args .controls .now) (most u) (length (s (k u) .args .points .now))
   found =
@@ -145,8 +149,11 @@ returns-4 c =
     let t = c .before .before in
     let a = s (k (u t)) .args in
     let plan = p (k (u t)) in
-    subst (λ (m : ℕ). Vetted (a .edit) (a .shape) (a .place) (a .controls .now) (a .points .now) (Sound (record { basis = plan .basis; depth = plan .depth; spans = m })))
-    (sym (t .before .before .before .before .spans-after .ensures))
+    let r = t .before .before .before .before in
+    let spans = r .before .spans-after .ensures in
+    let basis = r .recounted .ensures ∙ ap (λ (m : ℕ). recount m (plan .basis)) spans in
+    subst (λ (q : Plan). Vetted (a .edit) (a .shape) (a .place) (a .controls .now) (a .points .now) (Sound q))
+    (sym (λ i. record { basis = basis i; depth = plan .depth; spans = spans i }))
     (room-fine (a .edit) (a .shape) (a .place) (a .controls .now) (a .points .now) plan (is-sound (k (u t))) (fine (u t)) (sym (found t) ∙ c .enum-told2 .given .1))
 
 pub check-edit-spec : {M : Type 1} → statement M
@@ -162,6 +169,7 @@ check-edit-spec =
     returns-2
     enum-told
     spans-after-requires
+    recounted-requires
     points-requires
     points-requires-2
     greatest-requires
