@@ -6,13 +6,13 @@ use Prim.Native.Nat.{ℕ, _+_, _*_, _-_, _/_, _%_, min, _≤_, _<_}
 use native.Mathlib.Nat.{div-add-mod', mod-lt, mul-le-mul-right, suc-mul}
 use native.Mathlib.Numerals.{add-one}
 use native.Mathlib.Omega.{arith}
-use borrow.Author.Tests.{lt-ltb, le-ltb}
+use borrow.Author.Tests.{ltb-true, lt-ltb, le-ltb}
 use lib.Dec.{ltb}
 use lib.Pow.{pow-pos}
 use Rattle.curve.specs.Span.{roundEnd, isLoop}
 use Rattle.curve.proofs.Round.{round-below, round-past, by-round}
 use Rattle.shape.specs.declared.Plan.{Plan}
-use Rattle.shape.proofs.Tests.{passes, either, or-false}
+use Rattle.shape.proofs.Tests.{passes, either, and-true, or-false}
 use Rattle.spans.specs.Numbers.{perSpan}
 use Rattle.asked.specs.declared.Run.{Run}
 use Rattle.asked.specs.Edits.{inRun, spanIn, spanBefore, isFresh}
@@ -61,6 +61,15 @@ fresh-by run p q (inl here) = ap (λ v. v || (ltb (r p q) 2 && inRun run (p .spa
 fresh-by run p q (inr (start, before)) =
     (λ i. inRun run (p .spans) (spanIn p (t p q)) || (lt-ltb (r p q) 2 start i && before i)) ∙ or-true (inRun run (p .spans) (spanIn p (t p q)))
 
+pub by-fresh : (run : Run) (p : Plan) (q : ℕ) → isFresh run p q ≡ true → FreshAt run p (t p q) (r p q)
+unfolding isFresh
+by-fresh run p q fresh =
+    ⊎-elim (λ here. inl here)
+    (λ other.
+    let (start, before) = and-true (ltb (r p q) 2) (inRun run (p .spans) (spanBefore p (t p q))) (ap (λ v. v || (ltb (r p q) 2 && inRun run (p .spans) (spanBefore p (t p q)))) (sym other) ∙ fresh) in
+    inr (ltb-true (r p q) 2 start, before))
+    (passes (inRun run (p .spans) (spanIn p (t p q))))
+
 pub stale-by : (run : Run) (p : Plan) (q : ℕ) → StaleAt run p (t p q) (r p q) → isFresh run p q ≡ false
 unfolding isFresh
 stale-by run p q (here, before) =
@@ -86,7 +95,7 @@ ends t z r w wide h =
     (either t z)
 
 -- no number is past the last point
-last : (p : Plan) (q : ℕ) → q < p .spans * perSpan (p .depth) + 2 → (t p q ≤ p .spans) × (t p q ≡ p .spans → r p q < 2)
+pub last : (p : Plan) (q : ℕ) → q < p .spans * perSpan (p .depth) + 2 → (t p q ≤ p .spans) × (t p q ≡ p .spans → r p q < 2)
 last p q high =
     ⊎-elim (λ (early : t p q < p .spans). (omega arith, (λ same. absurd (omega (arith, same))))) (λ (same, two). (omega (arith, same), (λ _. two)))
     (ends (t p q) (p .spans) (r p q) (w p q) (wide p q) (omega (arith, placed p q)))

@@ -100,6 +100,10 @@ loop-runs n h = (sym (loop-spans n n), omega (arith, loop-spans n n))
 pub runs-least : (b : Basis) (m : ℕ) → RunsRound b m → isLoop b ≡ true → leastRecords ≤ m
 runs-least b m = open-or-loop (λ b. RunsRound b m → isLoop b ≡ true → leastRecords ≤ m) (λ b ends _ loop. absurd (true-is-not-false loop ends)) (λ n (is, least) _. least) b
 
+-- and the loop is of as many records
+pub loop-is : (b : Basis) (m : ℕ) → RunsRound b m → isLoop b ≡ true → b ≡ Loop m
+loop-is b m = open-or-loop (λ b. RunsRound b m → isLoop b ≡ true → b ≡ Loop m) (λ b ends _ loop. absurd (true-is-not-false loop ends)) (λ n (is, least) _. ap Loop is) b
+
 pub round-records : (b : Basis) (m : ℕ) → isLoop b ≡ true → recordsOf b m ≡ m
 round-records b m = open-or-loop (λ b. isLoop b ≡ true → recordsOf b m ≡ m) (λ b ends loop. absurd (true-is-not-false loop ends)) (λ n _. loop-records n m) b
 
