@@ -1,24 +1,22 @@
 -- Which part a number names, and the text of a span by what drawing its four records came to.
-use mathlib.Core.Bool.{Bool, cond, true, false, false≢true}
+use mathlib.Core.Bool.{Bool, cond}
 use mathlib.Core.List.{List, []}
 use mathlib.Core.Logic.{⊎-elim}
 use mathlib.Core.Path.{_≡_, refl, sym, ap, _∙_}
 use Prim.Native.Nat.{ℕ, zero, suc, _+_, _-_, _*_, _^_, _≤_, _<_}
 use native.Mathlib.Nat.{mul-le-mul, pow-le-pow-right}
 use native.Mathlib.Omega.{arith}
-use borrow.Author.Tests.{le-leb, le-ltb, lt-ltb, eq-eqb, ne-eqb, eqb-true, eqb-false}
+use borrow.Author.Tests.{le-leb, le-ltb, lt-ltb, eq-eqb, ne-eqb, eqb-true, eqb-false, ltb-false}
 use lib.Dec.{eqb}
 use lib.IntN.{ℤ}
-use lib.ListN.{length, take, drop, drop-of-length-le, length-drop}
-use lib.Seq.{take-all}
+use lib.ListN.{length}
 use Rattle.whole.specs.Outcome.{Outcome, outcome, refuses}
-use Rattle.curve.specs.Span.{firstRecord}
 use Rattle.curve.specs.Ways.{deepest}
 use Rattle.shape.specs.declared.Shape.{Shape}
 use Rattle.shape.specs.declared.Plan.{Plan}
 use Rattle.shape.specs.declared.Refusal.{Refusal}
 use Rattle.shape.specs.Inner.{Good}
-use Rattle.shape.specs.Shape.{mostRecords}
+use Rattle.shape.specs.Shape.{leastRecords, mostRecords}
 use Rattle.shape.specs.Refusals.{First, NoRow, planOf}
 use Rattle.shape.proofs.Tests.{passes}
 use Rattle.shape.proofs.Refusals.{judge-first, row-fails, verdict}
@@ -31,6 +29,7 @@ use Rattle.listing.specs.declared.Put.the-variants.{End}
 use Rattle.listing.specs.Listing.{pointLines, listedBy}
 use Rattle.listing.specs.Written.{written}
 use Rattle.listing.proofs.Listed.{in-full}
+use Rattle.file_list.specs.Inner.{ownNumbers}
 use Rattle.file_list.specs.Parts.{oneSpan, spanPoints, spanRoom, ownPoints, spanLines, recordsText, spanText, outlinePart, onlyPart}
 
 -- no text at all is written anywhere
@@ -40,10 +39,6 @@ nothing lent = rw (le-leb (0 + 0) (length lent) (omega arith))
 
 pub no-text : (lent text : List ℕ) → text ≡ [] → outcome (End 0) lent ≡ written lent 0 text
 no-text lent text e = nothing lent ∙ ap (written lent 0) (sym e)
-
--- a part of a list from a place on, as a call is lent it
-pub from-there : (l : List ℤ) (n : ℕ) → take (length l - n) (drop n l) ≡ drop n l
-from-there l n = take-all (length l - n) (drop n l) (omega (arith, length-drop n l))
 
 -- ---- which part
 
@@ -107,14 +102,11 @@ module _ (s : Shape) (p : Plan) (i : ℕ) where
       let room : 2 * ownPoints p i ≤ length held = omega (arith, own-few p i shallow, drawn-keeps (oneSpan s) records spanRoom fs held e .long) in
       sym (in-full text held (ownPoints p i) (pointLines (i * 2 ^ p .depth)) room) ∙ ap (written text 0) (sym (records-then records (outcome (Done fs) held) e))
 
-  -- a list with no records
-  no-records : recordsText s p [] i ≡ []
+  -- a list with fewer than four records
+  pub too-few : (records : List ℤ) → length records < ownNumbers → recordsText s p records i ≡ []
   unfolding draws
-  no-records =
-      let rows = drawRows (oneSpan s) [] spanRoom in
-      ⊎-elim (λ (v : (r : Refusal) × First rows r). records-then [] (refuses Refused spanRoom (v .0)) (judge-first rows (refuses Refused spanRoom) (accepts (planOf (oneSpan s)) [] spanRoom) (v .0) (v .1)))
-      (λ (none : NoRow rows). absurd (false≢true (sym (row-fails 7 rows none))))
+  too-few records few =
+      let rows = drawRows (oneSpan s) records spanRoom in
+      ⊎-elim (λ (v : (r : Refusal) × First rows r). records-then records (refuses Refused spanRoom (v .0)) (judge-first rows (refuses Refused spanRoom) (accepts (planOf (oneSpan s)) records spanRoom) (v .0) (v .1)))
+      (λ (none : NoRow rows). absurd (omega (arith, ltb-false (length records) (2 * leastRecords) (row-fails 7 rows none))))
       (verdict rows)
-
-  pub too-short : (held : List ℤ) → length held < 2 * firstRecord (p .basis) i → spanText s p held i ≡ []
-  too-short held short = ap (λ (l : List ℤ). recordsText s p l i) (drop-of-length-le held {i = 2 * firstRecord (p .basis) i} (omega arith)) ∙ no-records

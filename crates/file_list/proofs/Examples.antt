@@ -1,4 +1,4 @@
--- Document 01's own file and its listing, by computation alone.
+-- Document 01's own file and its listing, and a loop's, by computation alone.
 use mathlib.Core.Path.{_≡_, refl}
 use mathlib.Core.List.{List, [], _∷_}
 use Prim.Native.Nat.{ℕ}
@@ -6,7 +6,7 @@ use Rattle.whole.specs.Nearest.{halfUp, nearest}
 use Rattle.curve.specs.Tab.{tab}
 use Rattle.curve.specs.Four.{dot}
 use Rattle.curve.specs.Published.{weights}
-use Rattle.curve.specs.Span.{coordinate, firstRecord, recordsFrom, wholeControls, weighted, point}
+use Rattle.curve.specs.Span.{coordinate, firstRecord, roundEnd, recordsFrom, wholeControls, weighted, point}
 use Rattle.shape.specs.Shape.{sixtyFourths, basisOf, spansOf, recordsOf, allowed, pointsOf}
 use Rattle.shape.specs.Refusals.{judge, outside, seek, planOf}
 use Rattle.spans.specs.Numbers.{sumOf, number}
@@ -57,3 +57,25 @@ pub paper-cut :
     × (cutFileText 5 0 file ≡ 114 ∷ 101 ∷ 102 ∷ 117 ∷ 115 ∷ 101 ∷ 100 ∷ 32 ∷ 50 ∷ 50 ∷ 32 ∷ 48 ∷ 10 ∷ [])
 unfolding textBy reading judge recordRows format.number word signed tab coordinate sixtyFourths basisOf spansOf recordsOf allowed outside seek planOf byTolerance chooses treeOf tree isFlat bend leftHalf rightHalf cuts allCuts starts allStarts walk walkAll firstRecord recordsFrom wholeControls nearest halfUp chosenText natural naturalIn
 paper-cut = (refl, refl, refl)
+
+-- A loop's file (document 02, request 8): basis 5, depth 0 and records (0,0), (12,0), (12,12), (0,12). It has as many spans as records, and ends where it starts.
+abbrev ring : List ℕ
+ring =
+    5 ∷ 0 ∷ 0 ∷ 0 ∷ 0 ∷ 0 ∷ 0 ∷ 0 ∷ 0 ∷ 0 ∷ 0 ∷ 0
+    ∷ 5 ∷ 0 ∷ 0 ∷ 0 ∷ 12 ∷ 0 ∷ 0 ∷ 0 ∷ 0 ∷ 0 ∷ 0 ∷ 0
+    ∷ 5 ∷ 0 ∷ 0 ∷ 0 ∷ 12 ∷ 0 ∷ 0 ∷ 0 ∷ 12 ∷ 0 ∷ 0 ∷ 0
+    ∷ 5 ∷ 0 ∷ 0 ∷ 0 ∷ 0 ∷ 0 ∷ 0 ∷ 0 ∷ 12 ∷ 0 ∷ 0 ∷ 0
+    ∷ []
+
+-- "5 0 4 5", and "0 10 2", "1 10 10", "2 2 10", "3 2 2", "4 10 2", a line each
+pub loop-listed :
+    fileText ring
+    ≡ 53 ∷ 32 ∷ 48 ∷ 32 ∷ 52 ∷ 32 ∷ 53 ∷ 10
+    ∷ 48 ∷ 32 ∷ 49 ∷ 48 ∷ 32 ∷ 50 ∷ 10
+    ∷ 49 ∷ 32 ∷ 49 ∷ 48 ∷ 32 ∷ 49 ∷ 48 ∷ 10
+    ∷ 50 ∷ 32 ∷ 50 ∷ 32 ∷ 49 ∷ 48 ∷ 10
+    ∷ 51 ∷ 32 ∷ 50 ∷ 32 ∷ 50 ∷ 10
+    ∷ 52 ∷ 32 ∷ 49 ∷ 48 ∷ 32 ∷ 50 ∷ 10
+    ∷ []
+unfolding textBy reading judge recordRows format.number sumOf number word signed tab coordinate sixtyFourths basisOf spansOf recordsOf allowed outside seek planOf pointsOf evenText draws firstRecord roundEnd recordsFrom wholeControls weighted weights dot nearest halfUp point outlineText natural naturalIn
+loop-listed = refl

@@ -159,12 +159,12 @@ joined-next part (suc n) i =
       ap (λ (k : ℕ). length (part k)) there,
     )
 
--- there are no more parts than records
-pub parts-few : (r : Reading) → partsOf r ≤ mostRecords
+-- there are no more parts than records, and the first line
+pub parts-few : (r : Reading) → partsOf r ≤ mostRecords + 1
 parts-few (read.Refused r) = omega arith
 parts-few (read.Read s) =
-    ⊎-elim (λ (v : (r : Refusal) × First (shapeRows s) r). subst (λ (j : Judged). shapeParts j ≤ mostRecords) (sym (first-unsound s (v .0) (v .1))) (omega arith))
+    ⊎-elim (λ (v : (r : Refusal) × First (shapeRows s) r). subst (λ (j : Judged). shapeParts j ≤ mostRecords + 1) (sym (first-unsound s (v .0) (v .1))) (omega arith))
     (λ (none : NoRow (shapeRows s)).
     let ok = good-plan s none in
-    subst (λ (j : Judged). shapeParts j ≤ mostRecords) (sym (none-sound s none)) (omega (arith, ok .spans-most, ok .records-most)))
+    subst (λ (j : Judged). shapeParts j ≤ mostRecords + 1) (sym (none-sound s none)) (omega (arith, ok .spans-most, ok .records-most)))
     (verdict (shapeRows s))

@@ -1,6 +1,7 @@
 pub mod Examples
 pub mod Texts
 pub mod EachPart
+pub mod OwnRecords
 pub mod OneSpan
 pub mod Cases
 pub mod Joined

@@ -1,55 +1,75 @@
 -- A span of a sound outline whose records are inside the limits: its own four records are drawn, and the lines of its own points are those of the outline's points.
-use mathlib.Core.Bool.{true, false, not}
+use mathlib.Core.Bool.{true, false, not, _&&_}
 use mathlib.Core.List.{List}
+use mathlib.Core.Logic.{⊎-elim}
 use mathlib.Core.Path.{_≡_, refl, sym, ap, _∙_}
-use Prim.Native.Nat.{ℕ, _+_, _*_, _^_, _≤_, _<_}
+use Prim.Native.Nat.{ℕ, zero, suc, _+_, _*_, _/_, _^_, _≤_, _<_}
 use native.Mathlib.Omega.{arith}
 use borrow.Author.Tests.{le-ltb}
-use lib.Dec.{ltb}
+use lib.Dec.{leb, ltb, eqb}
 use lib.IntN.{ℤ, pos, natAbs}
-use lib.ListN.{length, take, drop, length-drop}
+use lib.ListN.{length, take}
 use lib.Seq.{ext-getD, getD-take, length-take-le}
 use Rattle.curve.specs.declared.Basis.{Basis}
-use Rattle.curve.specs.declared.Basis.the-variants.{Bezier, BSpline, Cardinal, Hermite}
+use Rattle.curve.specs.declared.Basis.the-variants.{Bezier, BSpline, Cardinal, Hermite, Loop}
+use Rattle.curve.specs.Published.{mostParameter}
 use Rattle.curve.specs.Limits.{limit, beyond}
-use Rattle.curve.specs.Span.{coordinate, firstRecord}
+use Rattle.curve.specs.Span.{coordinate}
 use Rattle.curve.specs.Tab.{tab}
 use Rattle.curve.proofs.Tab.{length-tab, getD-tab}
 use Rattle.shape.specs.declared.Shape.{Shape}
 use Rattle.shape.specs.declared.Plan.{Plan}
 use Rattle.shape.specs.Inner.{Good, Lent}
-use Rattle.shape.specs.Shape.{leastRecords, basisIn, spansOf, recordsOf, allowed, pointsOf}
+use Rattle.shape.specs.Shape.{lastBasis, cardinal, leastRecords, basisOf, basisIn, spansOf, recordsOf, allowed, pointsOf}
 use Rattle.shape.specs.Refusals.{NoRow, shapeRows, listRows, outside, planOf}
 use Rattle.shape.proofs.Refusals.{none-both, row-fails, good-plan, good-records}
 use Rattle.shape.proofs.Seek.{seek-none}
+use Rattle.shape.proofs.Tests.{passes}
 use Rattle.spans.specs.Numbers.{number, perSpan}
-use Rattle.spans.proofs.Alone.{coordinate-from, alone, number-alone}
+use Rattle.spans.proofs.Alone.{byItself, alone, number-alone}
 use Rattle.outline.specs.Outline as outline
 use Rattle.outline.specs.Outline.{draws, accepts, figuresOf, drawn}
 use Rattle.outline.proofs.Exactly.{none-drawn}
 use Rattle.outline.proofs.Held.{held-number, held-room}
 use Rattle.listing.specs.Listing.{pointLines}
-use Rattle.file_list.specs.Parts.{oneSpan, spanRoom, ownPoints, spanText}
+use Rattle.file_list.specs.Parts.{loop, aloneBasis, oneSpan, spanRoom, ownPoints, ownRecords, spanText}
+use Rattle.file_list.specs.Inner.{ownNumbers}
 use Rattle.file_list.proofs.EachPart.{steps-few, own-most, records-then}
+use Rattle.file_list.proofs.OwnRecords.{among, place, own-length, own-coordinate}
 
--- four records are allowed for every basis, and are one span
-one-allowed : (b : Basis) → allowed b leastRecords ≡ true
+-- four records are allowed for a span of every basis by itself, and are one span
+one-allowed : (b : Basis) → allowed (byItself b) leastRecords ≡ true
 unfolding allowed spansOf recordsOf
 one-allowed Bezier = refl
 one-allowed BSpline = refl
 one-allowed (Cardinal c) = refl
 one-allowed Hermite = refl
+one-allowed (Loop n) = refl
 
-one-span : (b : Basis) → spansOf b leastRecords ≡ 1
+one-span : (b : Basis) → spansOf (byItself b) leastRecords ≡ 1
 unfolding spansOf
 one-span Bezier = refl
 one-span BSpline = refl
 one-span (Cardinal c) = refl
 one-span Hermite = refl
+one-span (Loop n) = refl
 
-pub plan-alone : (s : Shape) → planOf (oneSpan s) ≡ alone (planOf s)
-unfolding planOf
-plan-alone s = ap (λ (m : ℕ). record { basis = basisIn s; depth = s .depth; spans = m }) (one-span (basisIn s))
+-- the number that a span's basis has by itself is the number of that basis
+number-alone-is : (b c n m : ℕ) → 1 ≤ b → b ≤ lastBasis → basisOf (aloneBasis b) c m ≡ byItself (basisOf b c n)
+unfolding basisOf
+number-alone-is zero c n m least most = absurd (omega arith)
+number-alone-is (suc zero) c n m least most = refl
+number-alone-is (suc (suc zero)) c n m least most = refl
+number-alone-is (suc (suc (suc zero))) c n m least most = refl
+number-alone-is (suc (suc (suc (suc zero)))) c n m least most = refl
+number-alone-is (suc (suc (suc (suc (suc zero))))) c n m least most = refl
+number-alone-is (suc (suc (suc (suc (suc (suc b)))))) c n m least most = absurd (omega arith)
+
+-- rows 1 and 24 pass for it where they do for the shape
+alone-rows : (b c : ℕ) → not (leb 1 b && leb b lastBasis) ≡ false → (eqb b cardinal && ltb mostParameter c) ≡ false
+    → (not (leb 1 (aloneBasis b) && leb (aloneBasis b) lastBasis) ≡ false) × ((eqb (aloneBasis b) cardinal && ltb mostParameter c) ≡ false)
+alone-rows b c known offered =
+    ⊎-elim (λ (t : eqb b loop ≡ true). (rw t refl, rw t refl)) (λ (f : eqb b loop ≡ false). (rw f known, rw f offered)) (passes (eqb b loop))
 
 module _ (s : Shape) (sound : NoRow (shapeRows s)) (c : List ℤ) (m len : ℕ) (lent : Lent (s .count) c m len) (t : ℕ) (there : t < planOf s .spans) where
   abbrev p : Plan
@@ -58,35 +78,50 @@ module _ (s : Shape) (sound : NoRow (shapeRows s)) (c : List ℤ) (m len : ℕ) 
   ok : Good s p
   ok = good-plan s sound
 
-  -- the records from its first on
-  abbrev own : List ℤ
-  own = drop (2 * firstRecord (p .basis) t) c
+  basis-alone : basisIn (oneSpan s) ≡ byItself (basisIn s)
+  basis-alone = number-alone-is (s .basis) (s .parameter) (s .count) leastRecords (ok .basis-least) (ok .basis-most)
 
-  -- four of them are there, inside the limits
-  last : firstRecord (p .basis) t + 3 < s .count
-  last = good-records s p ok t there
+  plan-alone : planOf (oneSpan s) ≡ alone p
+  unfolding planOf
+  plan-alone = (λ k. record { basis = basis-alone k; depth = s .depth; spans = spansOf (basis-alone k) leastRecords }) ∙ ap (λ (m : ℕ). record { basis = byItself (basisIn s); depth = s .depth; spans = m }) (one-span (basisIn s))
+
+  -- its own records
+  abbrev own : List ℤ
+  own = ownRecords (p .basis) c t
+
+  -- the four of them are in the list, inside the limits
+  abbrev at : ℕ → ℕ
+  at j = among (p .basis) c t j
+
+  last : (j : ℕ) → j < leastRecords → at j < s .count
+  last j few = good-records s p ok t j there few
+
+  all-there : (q : ℕ) → q < ownNumbers → place (p .basis) c t q < length c
+  all-there q few = omega (arith, last (q / 2) (omega arith), lent .room)
 
   inside : (j : ℕ) → j < leastRecords → outside own j ≡ false
   unfolding outside
   inside j h =
-      let first = firstRecord (p .basis) t in
-      let near : (axis : ℕ) (z : ℤ) → coordinate c axis (first + j) ≡ z → natAbs z ≤ limit → beyond limit (coordinate own axis j) ≡ false =
-      λ axis z is size. ap (beyond limit) (coordinate-from c first axis j ∙ is) ∙ le-ltb limit (natAbs z) size in
-      rw (near 0 (coordinate c 0 (first + j)) refl (lent .x (first + j) (omega (arith, last))), near 1 (coordinate c 1 (first + j)) refl (lent .y (first + j) (omega (arith, last))))
+      let near : (axis : ℕ) (z : ℤ) → axis < 2 → coordinate c axis (at j) ≡ z → natAbs z ≤ limit → beyond limit (coordinate own axis j) ≡ false =
+      λ axis z two is size. ap (beyond limit) (own-coordinate (p .basis) c t all-there axis j two h ∙ is) ∙ le-ltb limit (natAbs z) size in
+      rw (near 0 (coordinate c 0 (at j)) (omega arith) refl (lent .x (at j) (last j h)), near 1 (coordinate c 1 (at j)) (omega arith) refl (lent .y (at j) (last j h)))
 
   shape-rows : NoRow (shapeRows (oneSpan s))
-  shape-rows = let rows = shapeRows s in (row-fails 1 rows sound, (row-fails 2 rows sound, (row-fails 24 rows sound, (ap not (one-allowed (basisIn s)), tt))))
+  shape-rows =
+      let rows = shapeRows s in
+      let passed = alone-rows (s .basis) (s .parameter) (row-fails 1 rows sound) (row-fails 24 rows sound) in
+      (passed .0, (row-fails 2 rows sound, (passed .1, (ap (λ b. not (allowed b leastRecords)) basis-alone ∙ ap not (one-allowed (basisIn s)), tt))))
 
   all-points : outline.points (planOf (oneSpan s)) ≡ 2 ^ p .depth + 1
   unfolding pointsOf
-  all-points = ap outline.points (plan-alone s) ∙ omega arith
+  all-points = ap outline.points plan-alone ∙ omega arith
 
   room : 2 * outline.points (planOf (oneSpan s)) ≤ length spanRoom
   room = omega (arith, all-points, steps-few p (ok .depth-most))
 
   rows : NoRow (listRows leastRecords own (outline.points (planOf (oneSpan s))) (length spanRoom))
   rows = (
-    le-ltb (length own) (2 * leastRecords) (omega (arith, length-drop (2 * firstRecord (p .basis) t) c, lent .room, last)),
+    le-ltb (length own) (2 * leastRecords) (omega (arith, own-length (p .basis) c t all-there)),
     (
       ap (λ (r : ℕ). ltb r leastRecords) (seek-none (outside own) 0 leastRecords (λ j _ h. inside j h)),
       (le-ltb (length spanRoom) (2 * outline.points (planOf (oneSpan s))) room, tt),
@@ -111,6 +146,6 @@ module _ (s : Shape) (sound : NoRow (shapeRows s)) (c : List ℤ) (m len : ℕ) 
       let below : j < n = omega (arith, long) in
       getD-take n held j (pos 0) below
       ∙ held-number (oneSpan s) own spanRoom (figuresOf one own) held alone-drawn j (omega (arith, own-most p t, all-points))
-      ∙ ap (λ (q : Plan). number q own j) (plan-alone s)
-      ∙ number-alone p c t j there (omega (arith, own-most p t))
+      ∙ ap (λ (q : Plan). number q own j) plan-alone
+      ∙ number-alone p c own t j there (omega (arith, own-most p t)) (λ axis i two few. own-coordinate (p .basis) c t all-there axis i two few)
       ∙ sym (getD-tab (number p c) w n j below (pos 0))))

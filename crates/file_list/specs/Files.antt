@@ -2,7 +2,7 @@
 -- record file, the outline of its shape and records is drawn, with even steps or with steps chosen by tolerance, and its points are listed; a refusal on the way is one line.
 -- Definitions only.
 use mathlib.Core.List.{List}
-use Prim.Native.Nat.{ℕ, _+_, _*_, _-_, _^_}
+use Prim.Native.Nat.{ℕ, _+_, _*_, _^_}
 use lib.IntN.{ℤ, pos}
 use lib.ListN.{replicate, take}
 use Rattle.whole.specs.Outcome.{Outcome, outcome}
@@ -26,9 +26,9 @@ use Rattle.listing.specs.declared.Put.the-variants.{End, Full}
 use Rattle.listing.specs.Listing.{outlineText, chosenText, refusalText}
 use Rattle.listing.specs.Written.{written}
 
--- The most spans of an outline: of a B-spline or a cardinal, each record but three starts one.
+-- The most spans of an outline: of a loop, each record starts one.
 abbrev pub mostSpans : ℕ
-mostSpans = mostRecords - 3
+mostSpans = mostRecords
 
 -- And its points at a depth.
 abbrev pub mostListed : ℕ → ℕ

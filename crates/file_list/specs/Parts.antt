@@ -6,7 +6,8 @@ use Prim.Native.Nat.{ℕ, zero, suc, _+_, _*_, _^_}
 use lib.Dec.{ltb, eqb}
 use lib.IntN.{ℤ, pos}
 use lib.ListN.{replicate, take, drop}
-use Rattle.curve.specs.Span.{firstRecord}
+use Rattle.curve.specs.declared.Basis.{Basis}
+use Rattle.curve.specs.Span.{firstRecord, recordAt}
 use Rattle.curve.specs.Ways.{deepest}
 use Rattle.shape.specs.declared.Shape.{Shape}
 use Rattle.shape.specs.declared.Plan.{Plan}
@@ -23,9 +24,19 @@ use Rattle.record_file.specs.declared.Reading.the-variants as read
 use Rattle.listing.specs.Listing.{headingText, pointLines}
 use Rattle.file_list.specs.Files.{mostLine, refusedText}
 
--- One span by itself: a shape of the same basis, depth and parameter with a span's four records, and room for its points at the deepest.
+-- The number of the basis that a span has by itself: a loop's span is a B-spline's (document 02, request 8), and every other basis has its own.
+abbrev pub bSpline : ℕ
+bSpline = 2
+
+abbrev pub loop : ℕ
+loop = 5
+
+abbrev pub aloneBasis : ℕ → ℕ
+aloneBasis b = cond (eqb b loop) bSpline b
+
+-- One span by itself: a shape of that basis and the same depth and parameter with a span's four records, and room for its points at the deepest.
 abbrev pub oneSpan : Shape → Shape
-oneSpan s = record { basis = s .basis; depth = s .depth; count = leastRecords; parameter = s .parameter }
+oneSpan s = record { basis = aloneBasis (s .basis); depth = s .depth; count = leastRecords; parameter = s .parameter }
 
 abbrev pub spanPoints : ℕ
 spanPoints = 2 ^ deepest + 1
@@ -46,9 +57,17 @@ spanLines p i held (Refused r) = []
 unfoldable pub recordsText : Shape → Plan → List ℤ → ℕ → List ℕ
 recordsText s p records i = let o = draws (oneSpan s) records spanRoom in spanLines p i (o .held) (o .answer)
 
+-- Record j of span i, as its basis counts them: x and y, or fewer where the list ends before.
+abbrev pub ownRecord : Basis → List ℤ → ℕ → ℕ → List ℤ
+ownRecord b held i j = take 2 (drop (2 * recordAt b (firstRecord b i + j)) held)
+
+-- Its four records. Where the list lacks one, they are too few to be drawn, and the span has no lines.
+unfoldable pub ownRecords : Basis → List ℤ → ℕ → List ℤ
+ownRecords b held i = ownRecord b held i 0 ++ (ownRecord b held i 1 ++ (ownRecord b held i 2 ++ ownRecord b held i 3))
+
 -- The text of span i of an outline.
 abbrev pub spanText : Shape → Plan → List ℤ → ℕ → List ℕ
-spanText s p held i = recordsText s p (drop (2 * firstRecord (p .basis) i) held) i
+spanText s p held i = recordsText s p (ownRecords (p .basis) held i) i
 
 -- The parts of an outline: part 0 is the first line, and part i + 1 is span i's.
 abbrev pub outlinePart : Shape → Plan → List ℤ → ℕ → List ℕ

@@ -22,8 +22,8 @@ pub use parts::parts_of;
 // What of a file is read: one byte more than the longest has, so that a longer one is seen.
 pub const MOST_READ: usize = MOST_BYTES + 1;
 
-// The most spans, where each record but three starts one.
-const MOST_SPANS: usize = MOST_RECORDS - 3;
+// The most spans: in a loop each record starts one.
+const MOST_SPANS: usize = MOST_RECORDS;
 
 // The line of a point has at most 30 characters.
 const LINE: usize = 30;

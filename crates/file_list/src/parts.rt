@@ -1,18 +1,23 @@
 // The listing of a file in parts: the first line, and then the lines of one span after another, so that no more than one span's points and text is ever held. A refusal is the only part.
 ghost use mathlib.Core.Path.{_≡_};
 ghost use Prim.Native.Nat.{_≤_, _<_};
+ghost use lib.ListN.{length};
 ghost use Rattle.whole.specs.Outcome.{outcome};
 ghost use Rattle.curve.specs.Ways.{deepest};
 ghost use Rattle.shape.specs.Inner.{Good};
+ghost use Rattle.shape.specs.Shape.{mostRecords};
 ghost use Rattle.shape.specs.Refusals.{judgeShape};
 ghost use Rattle.listing.specs.Written.{Within, written};
 ghost use Rattle.file_list.specs.Files.{refusedText, writes};
-ghost use Rattle.file_list.specs.Parts.{ownPoints, recordsText, spanText, outlinePart, onlyPart, shapePart, partText, partsOf};
+ghost use Rattle.file_list.specs.Inner.{ownNumbers, Copied};
+ghost use Rattle.file_list.specs.Parts.{aloneBasis, ownPoints, recordsText, spanText, outlinePart, onlyPart, shapePart, partText, partsOf};
 use crate::LINE;
 use crate::count_of;
 use crate::put_refusal;
+use curve::Basis;
 use curve::MOST_STEPS;
 use curve::records::first_record;
+use curve::records::record_at;
 use listing::Put;
 use listing::list_heading;
 use listing::list_points;
@@ -30,6 +35,14 @@ use shape::check_shape;
 const SPAN_POINTS: usize = MOST_STEPS + 1;
 
 const SPAN_NUMBERS: usize = 2 * SPAN_POINTS;
+
+// The numbers of a span's four records.
+const OWN_NUMBERS: usize = 2 * LEAST_RECORDS;
+
+// The bases that a loop's span has in the outline and by itself.
+const LOOP: usize = 5;
+
+const BSPLINE: usize = 2;
 
 // Room for the longest part.
 pub const MOST_PART: usize = LINE * SPAN_POINTS;
@@ -103,18 +116,44 @@ fn put_outline_part(shape: Shape, plan: Plan, part: usize, controls: &[i32], tex
     }
 }
 
-// The lines of a span, from its first record on; none where the list ends before that.
+// The lines of a span, drawn from a copy of its four records; none where the list lacks one of them.
 fn put_span(shape: Shape, plan: Plan, span: usize, controls: &[i32], text: &mut [u8]) -> Put
     requires { ⌜ Good shape plan ⌝ }
     requires { ⌜ span < plan .spans ⌝ }
     ensures { λ r. ⌜ outcome r (now (text .exit)) ≡ written (now (text .entry)) 0 (spanText shape plan (now (controls .entry)) span) ⌝ }
 {
     let basis = plan.basis;
-    let at = 2 * first_record(basis, span);
-    if controls.len() < at {
-        return Put::End(0);
+    let mut own = [0i32; OWN_NUMBERS];
+    if copy_span(controls, basis, span, &mut own) {
+        put_lines(shape, plan, span, &own, text)
+    } else {
+        Put::End(0)
     }
-    put_lines(shape, plan, span, &controls[at..], text)
+}
+
+// Copies the four records of a span, as its basis counts them, into a list of their length. It answers false where the list that has them ends before one.
+fn copy_span(controls: &[i32], basis: Basis, span: usize, own: &mut [i32]) -> bool
+    requires { ⌜ (span < mostRecords) × (length (now own) ≡ ownNumbers) ⌝ }
+    ensures { λ r. ⌜ Copied basis (now (controls .entry)) span (now (own .exit)) r ⌝ }
+{
+    let first = first_record(basis, span);
+    let mut q = 0;
+    while q < own.len() {
+        let at = 2 * record_at(basis, first + q / 2) + q % 2;
+        if controls.len() <= at {
+            return false;
+        }
+        own[q] = controls[at];
+        q += 1;
+    }
+    true
+}
+
+// The number of the basis that a span has by itself: a loop's span is a B-spline's.
+fn alone_basis(number: usize) -> usize
+    ensures { λ r. ⌜ r ≡ aloneBasis number ⌝ }
+{
+    if number == LOOP { BSPLINE } else { number }
 }
 
 // The span drawn by itself, and the lines of its own points, numbered as in the outline; none where it is refused.
@@ -125,7 +164,7 @@ fn put_lines(shape: Shape, plan: Plan, span: usize, records: &[i32], text: &mut 
 {
     let mut points = [0i32; SPAN_NUMBERS];
     let one = Shape {
-        basis: shape.basis,
+        basis: alone_basis(shape.basis),
         depth: shape.depth,
         count: LEAST_RECORDS,
         parameter: shape.parameter,
