@@ -1,7 +1,7 @@
 -- Each turn hands on the next part, which is counted.
 use mathlib.Core.List.{List}
 use mathlib.Core.Path.{_≡_, refl, ap, _∙_}
-use Prim.Native.Nat.{ℕ, _+_, _-_, _*_, _≤_, _<_}
+use Prim.Native.Nat.{ℕ, _+_, _-_, _*_, _≤_}
 use native.Mathlib.Omega.{arith}
 use lib.ListN.{length}
 use borrow.Author.Needs.{needs}
@@ -31,7 +31,7 @@ part-length c =
     (ap (λ (o : Outcome ℕ (List ℕ)). o .answer) (c .list-part .ensures .1) ∙ stands (l .text) part (omega (arith, fits, l .inv .0)) .counts, fits)
 
 -- and there are few
-count-small : (c : tie.In-loop Inv-loop μ-loop) → c .before .loop .part < mostRecords
+count-small : (c : tie.In-loop Inv-loop μ-loop) → c .before .loop .part ≤ mostRecords
 count-small c = omega (arith, c .loop-test .taken, c .before .before .parts-of .ensures, parts-few (c .before .before .before .args .reading))
 
 parts-of-requires : tie.Need-parts-of-requires Inv-loop μ-loop
