@@ -1,4 +1,4 @@
--- Edges of the call, computed: Bezier spans on the x axis, as the even outlines' cases are. Answer and lent list, which held -1.
+-- Edges of the call, computed: Bezier spans on the x axis, as the even outlines' cases are, and a loop. Answer and lent list, which held -1.
 use mathlib.Core.Path.{_≡_, refl}
 use mathlib.Core.List.{List, [], _∷_, _++_}
 use Prim.Native.Nat.{ℕ, _*_, _-_}
@@ -8,7 +8,7 @@ use Rattle.whole.specs.Nearest.{halfUp, nearest, remainder}
 use Rattle.whole.specs.Outcome.{Outcome, outcome}
 use Rattle.curve.specs.Bend.{bend}
 use Rattle.curve.specs.Numbers.{neg}
-use Rattle.curve.specs.Span.{firstRecord, coordinate, recordsFrom, wholeControls}
+use Rattle.curve.specs.Span.{firstRecord, coordinate, roundEnd, recordsFrom, wholeControls}
 use Rattle.curve.specs.Tab.{tab}
 use Rattle.curve.specs.Ways.{leftHalf, rightHalf}
 use Rattle.shape.specs.Refusals.{judge, seek, planOf, outside}
@@ -48,3 +48,13 @@ pub edges :
     × (spanAt 10001 0 (pos 0 ∷ pos 0 ∷ pos 0 ∷ pos 4 ∷ []) ≡ refused 20)
 unfolding chooses judge planOf sixtyFourths basisOf spansOf recordsOf allowed outside seek coordinate onX treeOf tab tree isFlat bend leftHalf rightHalf cuts allCuts starts allStarts walk walkAll firstRecord recordsFrom wholeControls nearest halfUp remainder noughts
 edges = (refl, refl, refl, refl, refl, refl, refl, refl, refl)
+
+-- A loop (document 02, request 8): four records at the corners of a square, from (0,0) to (12,12), are four spans, whose second differences are 2, so that each is flat at tolerance 2; the last one ends where the first starts.
+abbrev square : List ℤ
+square = pos 0 ∷ pos 0 ∷ pos 12 ∷ pos 0 ∷ pos 12 ∷ pos 12 ∷ pos 0 ∷ pos 12 ∷ []
+
+pub loop-closed :
+    chooses (record { basis = 5; depth = 0; count = 4; parameter = 0 }) 2 0 square (replicate 12 (neg 1))
+    ≡ outcome (Done (record { points = 5; cuts = 0; exact = 10 })) (pos 10 ∷ pos 2 ∷ pos 10 ∷ pos 10 ∷ pos 2 ∷ pos 10 ∷ pos 2 ∷ pos 2 ∷ pos 10 ∷ pos 2 ∷ neg 1 ∷ neg 1 ∷ [])
+unfolding chooses judge planOf sixtyFourths basisOf spansOf recordsOf allowed outside seek coordinate onX treeOf tab tree isFlat bend leftHalf rightHalf cuts allCuts starts allStarts walk walkAll firstRecord roundEnd recordsFrom wholeControls nearest halfUp remainder noughts
+loop-closed = refl
