@@ -9,7 +9,7 @@ use Rattle.whole.specs.Nearest.{halfUp, nearest, remainder}
 use Rattle.whole.specs.Outcome.{outcome}
 use Rattle.curve.specs.declared.Four.{Four}
 use Rattle.curve.specs.declared.Basis.{Basis}
-use Rattle.curve.specs.declared.Basis.the-variants.{Bezier, BSpline, Cardinal, Hermite}
+use Rattle.curve.specs.declared.Basis.the-variants.{Bezier, BSpline, Cardinal, Hermite, Loop}
 use Rattle.curve.specs.Bend.{bend}
 use Rattle.curve.specs.Four.{four, dot}
 use Rattle.curve.specs.Numbers.{neg}
@@ -72,11 +72,12 @@ meeting =
     ∷ case (Cardinal 32) (four (pos 0) (pos 1) (pos 4) (pos 9)) 2 0 1 1
     ∷ case (Cardinal 64) (four (pos 1) (pos 0) (pos 1) (pos 2)) 2 1 1 1
     ∷ case Hermite (four (pos 0) (pos 0) (pos 1) (pos 2)) 2 2 1 1
+    ∷ case (Loop 5) (four (pos 0) (pos 1) (pos 4) (pos 9)) 2 0 1 1
     ∷ []
 
 pub bound-met : AllMeet meeting
 unfolding published cubic dot wholeControls bend
-bound-met = (refl, (refl, (refl, (refl, (refl, (refl, (refl, (refl, tt))))))))
+bound-met = (refl, (refl, (refl, (refl, (refl, (refl, (refl, (refl, (refl, tt)))))))))
 
 -- Where one second difference is nought the other one counts.
 pub larger-counts : let c = case Bezier (four (pos 0) (pos 0) (pos 0) (pos 8)) 0 0 1 1 in Within (bound c) (off c) (under c)
