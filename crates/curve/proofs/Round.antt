@@ -13,7 +13,7 @@ use Rattle.curve.specs.declared.Four.{Four}
 use Rattle.curve.specs.declared.Basis.{Basis}
 use Rattle.curve.specs.declared.Basis.the-variants.{Bezier, BSpline, Cardinal, Hermite, Loop}
 use Rattle.curve.specs.Four.{four}
-use Rattle.curve.specs.Span.{stride, firstRecord, recordsFrom, roundEnd, isLoop, recordAt, records}
+use Rattle.curve.specs.Span.{firstRecord, recordsFrom, roundEnd, isLoop, recordAt, recount, records, wholeControls, point}
 
 -- ---- counting round
 
@@ -67,6 +67,15 @@ unfolding recordsFrom
 same-records r u f g same =
     let first : f r ≡ g u = ap f (omega arith) ∙ same 0 (omega arith) ∙ ap g (omega arith) in
     λ k. four (first k) (same 1 (omega arith) k) (same 2 (omega arith) k) (same 3 (omega arith) k)
+
+-- counting round another number of records changes no curve
+pub recount-point : (m : ℕ) (b : Basis) (k : ℕ) (q : Four) (i : ℕ) → point (recount m b) k q i ≡ point b k q i
+unfolding point wholeControls
+recount-point m Bezier k q i = refl
+recount-point m BSpline k q i = refl
+recount-point m (Cardinal c) k q i = refl
+recount-point m Hermite k q i = refl
+recount-point m (Loop n) k q i = refl
 
 -- ---- a loop is closed: past its last span comes its first again
 

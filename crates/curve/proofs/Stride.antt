@@ -19,6 +19,11 @@ pub first-few : (b : Basis) (s : ℕ) → firstRecord b s ≤ 3 * s
 unfolding firstRecord
 first-few b s = mul-le-mul-right {m = stride b} {n = 3} s (stride-bounds b .1)
 
+-- nor before the record of its number
+pub first-least : (b : Basis) (s : ℕ) → s ≤ firstRecord b s
+unfolding firstRecord
+first-least b s = omega (arith, one-mul s, mul-le-mul-right {m = 1} {n = stride b} s (stride-bounds b .0))
+
 -- the next span's first record is a stride on
 pub next-first : (b : Basis) (s : ℕ) → firstRecord b (suc s) ≡ firstRecord b s + stride b
 unfolding firstRecord

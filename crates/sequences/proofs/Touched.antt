@@ -40,7 +40,7 @@ not-below {a} {b} {c} {d} (to, from) = (
 )
 
 -- a span is not before the run exactly when the place is not past its last record
-first-bound : (e : Edit) (p : Plan) (j t : ℕ) → isLoop (p .basis) ≡ false → offered e (p .basis) ≡ true → (firstFresh e p j ≤ t) ↔ (j ≤ firstRecord (p .basis) t + 3)
+pub first-bound : (e : Edit) (p : Plan) (j t : ℕ) → isLoop (p .basis) ≡ false → offered e (p .basis) ≡ true → (firstFresh e p j ≤ t) ↔ (j ≤ firstRecord (p .basis) t + 3)
 first-bound (Move x y) p j t ends o = not-below (among-first (p .basis) ends j t)
 first-bound (Insert x y) p j t ends o = (omega (arith, spline-first (p .basis) o t), omega (arith, spline-first (p .basis) o t))
 first-bound Remove p j t ends o = (omega (arith, spline-first (p .basis) o t), omega (arith, spline-first (p .basis) o t))
@@ -54,7 +54,7 @@ past-bound (Insert x y) p j t o h = (omega (arith, spline-first (p .basis) o t),
 past-bound Remove p j t o h = (omega (arith, spline-first (p .basis) o t), omega (arith, spline-first (p .basis) o t))
 
 -- a span is touched where its first record is not past the place, nor the place past its last
-not-past : (e : Edit) (b : Basis) (j t : ℕ) → isLoop b ≡ false → (Beyond e j (firstRecord b t) → ⊥) → j ≤ firstRecord b t + 3 → Touched e b j t
+pub not-past : (e : Edit) (b : Basis) (j t : ℕ) → isLoop b ≡ false → (Beyond e j (firstRecord b t) → ⊥) → j ≤ firstRecord b t + 3 → Touched e b j t
 not-past (Move x y) b j t ends not high =
     let low : firstRecord b t ≤ j = ⊎-elim (λ past. absurd (not past)) (λ low. low) (either j (firstRecord b t)) in
     (j - firstRecord b t, omega arith, record-open b ends (firstRecord b t + (j - firstRecord b t)) ∙ omega arith)
@@ -120,7 +120,7 @@ AtPlace (Move x y) j n = j < n
 AtPlace (Insert x y) j n = j < n
 AtPlace Remove j n = j ≤ n
 
-place-most : (e : Edit) (j n : ℕ) → AtPlace e j n → j ≤ n
+pub place-most : (e : Edit) (j n : ℕ) → AtPlace e j n → j ≤ n
 place-most (Move x y) j n h = omega arith
 place-most (Insert x y) j n h = omega arith
 place-most Remove j n h = h
@@ -143,6 +143,12 @@ round-touched Remove m j t least here range = (
   (λ near. let d = distance m j t least here range in (2 - d, omega (arith, near), ap (λ (n : ℕ). roundEnd m (n + (2 - d + 1))) (loop-first m t) ∙ ap (λ (n : ℕ). roundEnd m (t + n)) (omega (arith, near)) ∙ distance-record m j t least here range (omega (arith, near)))),
   (λ (i, few, is). omega (arith, record-distance m j t least here range (i + 1) (omega arith) (ap (λ (n : ℕ). roundEnd m (n + (i + 1))) (sym (loop-first m t)) ∙ is))),
 )
+
+-- a loop's run is never empty
+count-some : (e : Edit) → 0 < countRound e
+count-some (Move x y) = omega arith
+count-some (Insert x y) = omega arith
+count-some Remove = omega arith
 
 -- ---- the run
 
@@ -218,11 +224,6 @@ module _ (e : Edit) (p : Plan) (j : ℕ) (o : offered e (p .basis) ≡ true) (ro
           let here : first < m = round-within m (j + m - 3) (omega (arith, place-most e j m (at loop))) in
           let own : roundEnd m (first + m - first) < countRound e = by-round (λ v. v < countRound e) m (first + m - first) (λ below. absurd (omega (arith, below))) (λ past. omega (arith, count-some e)) in
           none first here (loop-touched loop first .0 (here, own) .1)
-
-      count-some : (e : Edit) → 0 < countRound e
-      count-some (Move x y) = omega arith
-      count-some (Insert x y) = omega arith
-      count-some Remove = omega arith
 
 -- ---- the numbers of its points
 

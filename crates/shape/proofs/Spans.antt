@@ -8,12 +8,12 @@ use native.Mathlib.Omega.{arith}
 use borrow.Author.Tests.{leb-true, eqb-true, le-leb, eq-eqb}
 use lib.Dec.{leb, eqb, lit≤}
 use lib.Pow.{pow-mono}
-use Rattle.curve.specs.Span.{stride, firstRecord, isLoop, recordAt, recount}
+use Rattle.curve.specs.Span.{stride, firstRecord, roundEnd, isLoop, recordAt, recount}
 use Rattle.curve.specs.Ways.{deepest}
 use Rattle.curve.specs.declared.Basis.{Basis}
 use Rattle.curve.specs.declared.Basis.the-variants.{Bezier, BSpline, Cardinal, Hermite, Loop}
 use Rattle.curve.proofs.Stride.{stride-bounds}
-use Rattle.curve.proofs.Round.{open-or-loop, record-open, round-within, loop-first}
+use Rattle.curve.proofs.Round.{round-below, open-or-loop, record-open, round-within, loop-first}
 use Rattle.shape.specs.Shape.{tail, recordsOf, spansOf, firstUsing, lastUsing, allowed, pointsOf, leastRecords, mostRecords, mostPoints}
 use Rattle.shape.specs.Inner.{RunsRound}
 use Rattle.shape.proofs.Tests.{passes, true-is-not-false, and-true}
@@ -103,6 +103,41 @@ runs-least b m = open-or-loop (λ b. RunsRound b m → isLoop b ≡ true → lea
 -- and the loop is of as many records
 pub loop-is : (b : Basis) (m : ℕ) → RunsRound b m → isLoop b ≡ true → b ≡ Loop m
 loop-is b m = open-or-loop (λ b. RunsRound b m → isLoop b ≡ true → b ≡ Loop m) (λ b ends _ loop. absurd (true-is-not-false loop ends)) (λ n (is, least) _. ap Loop is) b
+
+-- its spans begin a record apart, and it counts its records round
+pub first-loop : (b : Basis) → isLoop b ≡ true → (s : ℕ) → firstRecord b s ≡ s
+first-loop b loop s = open-or-loop (λ b. isLoop b ≡ true → firstRecord b s ≡ s) (λ b ends loop. absurd (true-is-not-false loop ends)) (λ n _. loop-first n s) b loop
+
+pub record-loop : (b : Basis) (m : ℕ) → RunsRound b m → isLoop b ≡ true → (x : ℕ) → recordAt b x ≡ roundEnd m x
+record-loop b m round loop x = ap (λ b. recordAt b x) (loop-is b m round loop)
+
+-- a record below the end of a loop stands for itself, and so does every one of an open basis
+pub record-below : (b : Basis) (m : ℕ) → RunsRound b m → (x : ℕ) → (isLoop b ≡ true → x < m) → recordAt b x ≡ x
+record-below b m round x below =
+    ⊎-elim (λ loop. record-loop b m round loop x ∙ round-below m x (below loop)) (λ ends. record-open b ends x) (passes (isLoop b))
+
+-- counting round another number changes no first record, and a loop stays one
+pub recount-first : (n : ℕ) (b : Basis) (s : ℕ) → firstRecord (recount n b) s ≡ firstRecord b s
+unfolding firstRecord
+recount-first n Bezier s = refl
+recount-first n BSpline s = refl
+recount-first n (Cardinal c) s = refl
+recount-first n Hermite s = refl
+recount-first n (Loop l) s = refl
+
+pub recount-loop : (n : ℕ) (b : Basis) → isLoop (recount n b) ≡ isLoop b
+recount-loop n Bezier = refl
+recount-loop n BSpline = refl
+recount-loop n (Cardinal c) = refl
+recount-loop n Hermite = refl
+recount-loop n (Loop l) = refl
+
+pub recount-stride : (n : ℕ) (b : Basis) → stride (recount n b) ≡ stride b
+recount-stride n Bezier = refl
+recount-stride n BSpline = refl
+recount-stride n (Cardinal c) = refl
+recount-stride n Hermite = refl
+recount-stride n (Loop l) = refl
 
 pub round-records : (b : Basis) (m : ℕ) → isLoop b ≡ true → recordsOf b m ≡ m
 round-records b m = open-or-loop (λ b. isLoop b ≡ true → recordsOf b m ≡ m) (λ b ends loop. absurd (true-is-not-false loop ends)) (λ n _. loop-records n m) b
