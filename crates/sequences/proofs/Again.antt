@@ -48,12 +48,11 @@ good-none s p good =
     let b = basisIn s in
     let n = s .count in
     let records : recordsOf b (p .spans) ≡ n = subst (λ x. recordsOf x (p .spans) ≡ n) (good .basis) (good .records) in
-    let spans : spansOf b n ≡ p .spans = ap (spansOf b) (sym records) ∙ spans-records b (p .spans) in
-    let some : 1 ≤ spansOf b n = omega (arith, spans, good .spans-least) in (
+    let spans : spansOf b n ≡ p .spans = ap (spansOf b) (sym records) ∙ spans-records b (p .spans) in (
       simp (le-leb 1 (s .basis) (good .basis-least), le-leb (s .basis) lastBasis (good .basis-most)),
       (
         le-ltb deepest (s .depth) (omega (arith, good .depth, good .depth-most)),
-        (offered-row (s .basis) (s .parameter) (subst (λ x. parameterOf x ≤ mostParameter) (good .basis) (good .offered)), (ap not (facts-allowed b n (good .records-most) some (ap (recordsOf b) spans ∙ records)), tt)),
+        (offered-row (s .basis) (s .parameter) n (subst (λ x. parameterOf x ≤ mostParameter) (good .basis) (good .offered)), (ap not (facts-allowed b n (good .records-least) (good .records-most) (ap (recordsOf b) spans ∙ records)), tt)),
       ),
     )
 

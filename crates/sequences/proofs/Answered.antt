@@ -1,23 +1,24 @@
 -- An edit in terms of its answer: from an outcome that is done, for any contents of the lent points. The reading of an edit that no row refuses has each fact, and what was
 -- answered is that reading.
 use mathlib.Core.Path.{_≡_, refl, sym, ap, _∙_, subst}
-use mathlib.Core.Bool.{false}
-use mathlib.Core.Logic.{⊎-elim, _↔_, _⊎_, inl, inr}
+use mathlib.Core.Bool.{true, false}
+use mathlib.Core.Logic.{⊎-elim, _↔_}
 use mathlib.Core.List.{List}
 use Prim.Native.Nat.{ℕ, _+_, _*_, _^_, _≤_, _<_}
 use native.Mathlib.Nat.{mul-le-mul-right}
 use native.Mathlib.Omega.{arith}
+use lib.Dec.{eqb}
 use lib.IntN.{ℤ, pos}
 use lib.ListN.{getD, length}
 use Rattle.whole.specs.Outcome.{Outcome, outcome}
 use Rattle.curve.specs.declared.Basis.{Basis}
-use Rattle.curve.specs.Span.{coordinate, records}
+use Rattle.curve.specs.Span.{coordinate, isLoop, records}
 use Rattle.shape.specs.declared.Shape.{Shape}
 use Rattle.shape.specs.declared.Plan.{Plan}
 use Rattle.shape.specs.Shape.{recordsOf}
 use Rattle.shape.specs.Refusals.{NoRow, planOf}
-use Rattle.shape.proofs.Spans.{last-record}
-use Rattle.shape.proofs.Tests.{passes, either}
+use Rattle.shape.proofs.Spans.{has-record, recount-loop, recount-stride}
+use Rattle.shape.proofs.Tests.{passes}
 use Rattle.spans.specs.Numbers.{number, perSpan}
 use Rattle.spans.proofs.Filled.{length-filled, in-filled, past-filled}
 use Rattle.spans.proofs.Numbers.{per-span}
@@ -25,9 +26,8 @@ use Rattle.outline.specs.Outline.{points}
 use Rattle.outline.proofs.Draws.{all-numbers}
 use Rattle.asked.specs.declared.Edit.{Edit}
 use Rattle.asked.specs.declared.Edit.the-variants.{Move, Insert, Remove}
-use Rattle.asked.specs.Edits.{exactFresh, countAfter, controlAt, asked, firstFresh, pastFresh, runOf, isFresh, pointAt}
+use Rattle.asked.specs.Edits.{exactFresh, countAfter, spansAfter, isSpline, offered, inRange, controlAt, asked, runOf, isFresh, pointAt}
 use Rattle.asked.specs.Inner.{Askable}
-use Rattle.asked.proofs.Run.{run-spans}
 use Rattle.edit.specs.declared.Change.{Change}
 use Rattle.edit.specs.declared.Edited.{Edited}
 use Rattle.edit.specs.declared.Edited.the-variants.{Done}
@@ -37,10 +37,10 @@ use Rattle.edit.proofs.Exactly.{callRows, done-none, none-done}
 use Rattle.edit.proofs.Passed.{may-edit, same-plan, room-fine}
 use Rattle.edit.proofs.Rows.{new-room, workable}
 use Rattle.edit.proofs.Worked.{fresh-at}
-use Rattle.sequences.specs.Touched.{Touched, InRun, Fresh, oldSpan}
-use Rattle.sequences.proofs.Touched.{run-touched, nought-touched, held-fresh, next-span}
+use Rattle.sequences.specs.Touched.{recordIn, Touched, InRun, Fresh, oldSpan}
+use Rattle.sequences.proofs.Touched.{AtPlace, run-touched, nought-touched, held-fresh, next-span}
 use Rattle.sequences.proofs.OldSpans.{in-some-span, stale-at}
-use Rattle.sequences.proofs.Kept.{old-records}
+use Rattle.sequences.proofs.Kept.{at, old-records}
 use Rattle.sequences.proofs.Needed.{touched-needs}
 
 -- ---- from an outcome that is done
@@ -96,13 +96,37 @@ module _ (e : Edit) (s : Shape) (j : ℕ) (controls lent : List ℤ) (c : Change
   pub answered-controls : new ≡ asked e j controls (c .shape .count)
   answered-controls = by-answer (λ d _ l _. l ≡ asked e j controls (d .shape .count)) refl
 
+  -- what the new plan is offered, and where the place is in a new loop
+  offered-after : offered e (after .basis) ≡ true
+  offered-after = go e (allowed .offered)
+    where
+      spline : isSpline (before .basis) ≡ true → isSpline (after .basis) ≡ true
+      spline t = ap (λ (d : ℕ). eqb d 1) (recount-stride (after .spans) (before .basis)) ∙ t
+
+      go : (e : Edit) → offered e (before .basis) ≡ true → offered e (after .basis) ≡ true
+      go (Move x y) t = refl
+      go (Insert x y) t = spline t
+      go Remove t = spline t
+
+  range : inRange e j (recordsOf (before .basis) (before .spans)) ≡ true
+  range = subst (λ (n : ℕ). inRange e j n ≡ true) (sym (allowed .good .records)) (allowed .inRange)
+
+  fits : 2 * countAfter e (recordsOf (before .basis) (before .spans)) ≤ length controls
+  fits = subst (λ (n : ℕ). 2 * countAfter e n ≤ length controls) (sym (allowed .good .records)) (new-room e s before j allowed controls (length lent) (room-fine e s j controls lent none))
+
+  at-place : isLoop (after .basis) ≡ true → AtPlace e j (after .spans)
+  at-place = at e before j controls (allowed .offered) (allowed .good .spans-least) (allowed .good .round) (ready .good .round) range fits
+
+  touched-by : (t : ℕ) → InRun answer (after .spans) t ↔ ((t < after .spans) × Touched e (after .basis) j t)
+  touched-by = run-touched e after j offered-after (ready .good .round) at-place
+
   -- the run is of the spans of the new shape that are touched
-  pub answered-run : (t : ℕ) → InRun c t ↔ ((t < planOf (c .shape) .spans) × Touched e (planOf (c .shape) .basis) j t)
-  answered-run = by-answer (λ d p _ _. (t : ℕ) → InRun d t ↔ ((t < p .spans) × Touched e (p .basis) j t)) (run-touched e after j (allowed .offered))
+  pub answered-run : (t : ℕ) → InRun c (planOf (c .shape) .spans) t ↔ ((t < planOf (c .shape) .spans) × Touched e (planOf (c .shape) .basis) j t)
+  answered-run = by-answer (λ d p _ _. (t : ℕ) → InRun d (p .spans) t ↔ ((t < p .spans) × Touched e (p .basis) j t)) touched-by
 
   pub answered-nought : ((c .first ≡ 0) × (c .fresh ≡ 0)) ↔ ((t : ℕ) → t < planOf (c .shape) .spans → Touched e (planOf (c .shape) .basis) j t → ⊥)
   answered-nought =
-      by-answer (λ d p _ _. ((d .first ≡ 0) × (d .fresh ≡ 0)) ↔ ((t : ℕ) → t < p .spans → Touched e (p .basis) j t → ⊥)) (nought-touched e after j (allowed .offered))
+      by-answer (λ d p _ _. ((d .first ≡ 0) × (d .fresh ≡ 0)) ↔ ((t : ℕ) → t < p .spans → Touched e (p .basis) j t → ⊥)) (nought-touched e after j offered-after (ready .good .round) at-place)
 
   -- how many coordinates of the fresh points are exact, by the run that was answered
   pub answered-exact : c .exact ≡ exactFresh (record { first = c .first; count = c .fresh }) (planOf (c .shape)) new
@@ -128,21 +152,22 @@ module _ (e : Edit) (s : Shape) (j : ℕ) (controls lent : List ℤ) (c : Change
   left-at : (q : ℕ) → q < m * perSpan k + 2 → getD left q (pos 0) ≡ pointAt e after j asks lent q
   left-at q h = in-filled (pointAt e after j asks lent) 0 (2 * points after) lent q (omega arith) (omega (arith, all-numbers k m)) (omega (arith, all-numbers k m, ready .points-room))
 
-  left-fresh : (q : ℕ) → Fresh answer k q → getD left q (pos 0) ≡ number after asks q
-  left-fresh q fresh =
-      let t = fresh .0 in
-      let here = run-touched e after j (allowed .offered) t .0 (fresh .1) .0 in
-      let within : q < m * perSpan k + 2 = omega (arith, fresh .2 .1, per-span m k, mul-le-mul-right {m = t + 1} {n = m} (2 ^ k) (omega (arith, here))) in
-      left-at q within ∙ fresh-at e after j asks lent (ready .good .spans-least) (ready .points-room) q (held-fresh (runOf e after j) k q .0 fresh)
+  left-fresh : (q : ℕ) → Fresh answer after q → getD left q (pos 0) ≡ number after asks q
+  left-fresh q (t, (here, near), among) =
+      let within : q < m * perSpan k + 2 =
+      ⊎-elim (λ (low, high). omega (arith, high, per-span m k, mul-le-mul-right {m = t + 1} {n = m} (2 ^ k) (omega (arith, here))))
+      (λ (loop, joint). ⊎-elim (λ (first, end). omega (arith, first)) (λ (end, first). omega (arith, end, per-span m k)) joint)
+      among in
+      left-at q within ∙ fresh-at e after j asks lent (ready .good .round) (ready .good .spans-least) (ready .points-room) q (held-fresh after q (ready .good .spans-least) within (runOf e after j) .0 (t, (here, near), among))
 
-  left-other : (t i : ℕ) → t < m → i < perSpan k + 2 → (Fresh answer k (t * perSpan k + i) → ⊥)
+  left-other : (t i : ℕ) → t < m → i < perSpan k + 2 → (Fresh answer after (t * perSpan k + i) → ⊥)
       → getD left (t * perSpan k + i) (pos 0) ≡ getD lent (oldSpan e j t * perSpan k + i) (pos 0)
   left-other t i h few other =
       let q = t * perSpan k + i in
-      let stale : isFresh (runOf e after j) k q ≡ false =
-      ⊎-elim (λ fresh. absurd (other (held-fresh (runOf e after j) k q .1 fresh))) (λ stale. stale) (passes (isFresh (runOf e after j) k q)) in
-      left-at q (omega (arith, next-span t (perSpan k), mul-le-mul-right {m = t + 1} {n = m} (perSpan k) (omega arith)))
-      ∙ stale-at e after j asks lent (ready .good .spans-least) (ready .points-room) t i h few stale
+      let within : q < m * perSpan k + 2 = omega (arith, next-span t (perSpan k), mul-le-mul-right {m = t + 1} {n = m} (perSpan k) (omega arith)) in
+      let stale : isFresh (runOf e after j) after q ≡ false =
+      ⊎-elim (λ fresh. absurd (other (held-fresh after q (ready .good .spans-least) within (runOf e after j) .1 fresh))) (λ stale. stale) (passes (isFresh (runOf e after j) after q)) in
+      left-at q within ∙ stale-at after j (ready .good .round) asks lent (ready .good .spans-least) (ready .points-room) t i h few e offered-after at-place stale
 
   -- every number of the outline is of some span
   pub answered-every : (q : ℕ) → q < 2 * points (planOf (c .shape))
@@ -152,16 +177,16 @@ module _ (e : Edit) (s : Shape) (j : ℕ) (controls lent : List ℤ) (c : Change
       (λ q h. in-some-span k m q (ready .good .spans-least) (omega (arith, all-numbers k m)))
 
   -- a number that a span of the run has among its points is the outline's of the new controls
-  pub answered-fresh : (q : ℕ) → Fresh c (planOf (c .shape) .depth) q → getD held q (pos 0) ≡ number (planOf (c .shape)) new q
-  answered-fresh = by-answer (λ d p l points. (q : ℕ) → Fresh d (p .depth) q → getD points q (pos 0) ≡ number p l q) left-fresh
+  pub answered-fresh : (q : ℕ) → Fresh c (planOf (c .shape)) q → getD held q (pos 0) ≡ number (planOf (c .shape)) new q
+  answered-fresh = by-answer (λ d p l points. (q : ℕ) → Fresh d p q → getD points q (pos 0) ≡ number p l q) left-fresh
 
   -- every other one is the lent one of the old span
-  pub answered-other : (t i : ℕ) → t < planOf (c .shape) .spans → i < perSpan (planOf (c .shape) .depth) + 2 → (Fresh c (planOf (c .shape) .depth) (t * perSpan (planOf (c .shape) .depth) + i) → ⊥)
+  pub answered-other : (t i : ℕ) → t < planOf (c .shape) .spans → i < perSpan (planOf (c .shape) .depth) + 2 → (Fresh c (planOf (c .shape)) (t * perSpan (planOf (c .shape) .depth) + i) → ⊥)
       → getD held (t * perSpan (planOf (c .shape) .depth) + i) (pos 0) ≡ getD lent (oldSpan e j t * perSpan (planOf (c .shape) .depth) + i) (pos 0)
   answered-other =
       by-answer
       (λ d p _ l.
-      (t i : ℕ) → t < p .spans → i < perSpan (p .depth) + 2 → (Fresh d (p .depth) (t * perSpan (p .depth) + i) → ⊥)
+      (t i : ℕ) → t < p .spans → i < perSpan (p .depth) + 2 → (Fresh d p (t * perSpan (p .depth) + i) → ⊥)
       → getD l (t * perSpan (p .depth) + i) (pos 0) ≡ getD lent (oldSpan e j t * perSpan (p .depth) + i) (pos 0))
       left-other
 
@@ -181,48 +206,42 @@ module _ (e : Edit) (s : Shape) (j : ℕ) (controls lent : List ℤ) (c : Change
 
   -- ---- the records of the other spans
 
-  asks-other : (t axis : ℕ) → t < m → axis < 2 → (InRun answer t → ⊥) → records b t (coordinate asks axis) ≡ records b (oldSpan e j t) (coordinate controls axis)
+  asks-other : (t axis : ℕ) → t < m → axis < 2 → (InRun answer m t → ⊥) → records b t (coordinate asks axis) ≡ records (before .basis) (oldSpan e j t) (coordinate controls axis)
   asks-other t axis h two other =
-      ap (λ l. records b t (coordinate l axis)) (sym as-asked) ∙ old-records e before j controls (allowed .offered) (allowed .good .spans-least) fits t axis h two out
-    where
-      fits : 2 * countAfter e (recordsOf b (before .spans)) ≤ length controls
-      fits = subst (λ (n : ℕ). 2 * countAfter e n ≤ length controls) (sym (allowed .good .records)) (new-room e s before j allowed controls (length lent) (room-fine e s j controls lent none))
-
-      as-asked : asked e j controls (countAfter e (recordsOf b (before .spans))) ≡ asks
-      as-asked = ap (λ (n : ℕ). asked e j controls (countAfter e n)) (allowed .good .records)
-
-      out : (t < firstFresh e after j) ⊎ (pastFresh e after j ≤ t)
-      out =
-          ⊎-elim (λ early. inl early) (λ low. ⊎-elim (λ high. absurd (other (run-spans e after j t .1 (low, high)))) (λ past. inr past) (either t (pastFresh e after j))) (either t (firstFresh e after j))
+      let as-asked : asked e j controls (countAfter e (recordsOf (before .basis) (before .spans))) ≡ asks = ap (λ (n : ℕ). asked e j controls (countAfter e n)) (allowed .good .records) in
+      ap (λ l. records b t (coordinate l axis)) (sym as-asked)
+      ∙ old-records e before j controls (allowed .offered) (allowed .good .spans-least) (allowed .good .round) (ready .good .round) range fits t h (λ touched. other (touched-by t .1 (h, touched))) axis two
 
   -- a span that is not in the run has the four records of the old span
-  pub answered-records : (t axis : ℕ) → t < planOf (c .shape) .spans → axis < 2 → (InRun c t → ⊥)
-      → records (planOf (c .shape) .basis) t (coordinate new axis) ≡ records (planOf (c .shape) .basis) (oldSpan e j t) (coordinate controls axis)
+  pub answered-records : (t axis : ℕ) → t < planOf (c .shape) .spans → axis < 2 → (InRun c (planOf (c .shape) .spans) t → ⊥)
+      → records (planOf (c .shape) .basis) t (coordinate new axis) ≡ records (planOf s .basis) (oldSpan e j t) (coordinate controls axis)
   answered-records =
       by-answer
-      (λ d p l _. (t axis : ℕ) → t < p .spans → axis < 2 → (InRun d t → ⊥) → records (p .basis) t (coordinate l axis) ≡ records (p .basis) (oldSpan e j t) (coordinate controls axis))
+      (λ d p l _. (t axis : ℕ) → t < p .spans → axis < 2 → (InRun d (p .spans) t → ⊥) → records (p .basis) t (coordinate l axis) ≡ records (planOf s .basis) (oldSpan e j t) (coordinate controls axis))
       asks-other
 
   -- ---- and of those in the run
 
-  asks-needed : (t u : ℕ) → InRun answer t → u < before .spans
-      → ((old : List ℤ) → length old ≡ length controls → records b t (coordinate (asked e j old (countAfter e (s .count))) 0) ≡ records b u (coordinate old 0))
+  asks-needed : (t u : ℕ) → InRun answer m t → u < before .spans
+      → ((old : List ℤ) → length old ≡ length controls → records b t (coordinate (asked e j old (countAfter e (s .count))) 0) ≡ records (before .basis) u (coordinate old 0))
       → ⊥
   asks-needed t u has h alike =
-      let (here, touched) = run-touched e after j (allowed .offered) t .0 has in
-      touched-needs e b j (s .count) (length controls) t u touched (omega (arith, last-record b m t here, ready .good .records)) (new-room e s before j allowed controls (length lent) (room-fine e s j controls lent none))
-      (omega (arith, last-record b (before .spans) u h, allowed .good .records))
+      let (here, touched) = touched-by t .0 has in
+      touched-needs e (before .basis) b j (s .count) (length controls) (before .spans) m t u (recount-loop m (before .basis)) refl (allowed .good .spans-least) (allowed .good .round) (ready .good .round) here h at-place
+      (λ i few. subst (λ (n : ℕ). recordIn b t i < n) (ready .good .records) (has-record b m t i (ready .good .round) here few))
+      (new-room e s before j allowed controls (length lent) (room-fine e s j controls lent none))
+      (λ i few. subst (λ (n : ℕ). recordIn (before .basis) u i < n) (allowed .good .records) (has-record (before .basis) (before .spans) u i (allowed .good .round) h few))
       (old-room e j (s .count) (length controls) (ready .askable))
-      alike
+      touched alike
 
   -- no old span has the records of a span of the run, whatever the controls hold
-  pub answered-needed : (t u : ℕ) → InRun c t → u < planOf s .spans
-      → ((old : List ℤ) → length old ≡ length controls → records (planOf (c .shape) .basis) t (coordinate (asked e j old (c .shape .count)) 0) ≡ records (planOf (c .shape) .basis) u (coordinate old 0))
+  pub answered-needed : (t u : ℕ) → InRun c (planOf (c .shape) .spans) t → u < planOf s .spans
+      → ((old : List ℤ) → length old ≡ length controls → records (planOf (c .shape) .basis) t (coordinate (asked e j old (c .shape .count)) 0) ≡ records (planOf s .basis) u (coordinate old 0))
       → ⊥
   answered-needed =
       by-answer
       (λ d p _ _.
-      (t u : ℕ) → InRun d t → u < planOf s .spans
-      → ((old : List ℤ) → length old ≡ length controls → records (p .basis) t (coordinate (asked e j old (d .shape .count)) 0) ≡ records (p .basis) u (coordinate old 0))
+      (t u : ℕ) → InRun d (p .spans) t → u < planOf s .spans
+      → ((old : List ℤ) → length old ≡ length controls → records (p .basis) t (coordinate (asked e j old (d .shape .count)) 0) ≡ records (planOf s .basis) u (coordinate old 0))
       → ⊥)
       asks-needed

@@ -42,8 +42,9 @@ module _ (e : Edit) (s : Shape) (p : Plan) (j : ℕ) (ok : Editable e s p j) (co
     where
       by-records : Drawn (recordsOf (p .basis) (p .spans))
       by-records i h =
-          point-drawn e p j controls (ok .offered) (ok .good .spans-least) (subst (λ (n : ℕ). 2 * countAfter e n ≤ length controls) (sym (ok .good .records)) fits)
-          (subst (λ (n : ℕ). inRange e j n ≡ true) (sym (ok .good .records)) (ok .inRange)) (good-after e s p j ok .spans-least) lent
+          point-drawn e p j controls (ok .offered) (ok .good .spans-least) (ok .good .round) (good-after e s p j ok .round)
+          (subst (λ (n : ℕ). inRange e j n ≡ true) (sym (ok .good .records)) (ok .inRange))
+          (subst (λ (n : ℕ). 2 * countAfter e n ≤ length controls) (sym (ok .good .records)) fits) (good-after e s p j ok .spans-least) lent
           (omega (arith, all-numbers (p .depth) (planAfter e p .spans)))
           (λ n g. held n (omega (arith, all-numbers (p .depth) (p .spans))))
           i h
