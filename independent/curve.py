@@ -9,8 +9,8 @@ from functools import lru_cache
 from math import floor
 from typing import Iterable, List, Sequence, Tuple
 
-from shape import (B_SPLINE, BEZIER, CARDINAL, HERMITE, ONE_HALF, WHOLE_PARAMETER, Shape, point_count, span_records,
-                   spans)
+from shape import (B_SPLINE, BEZIER, CARDINAL, HERMITE, LOOP, ONE_HALF, WHOLE_PARAMETER, Shape, point_count,
+                   span_records, spans)
 
 Matrix = Tuple[Tuple[Fraction, ...], ...]
 
@@ -58,6 +58,8 @@ MATRIX = {
         (1, 0, 0, 0),
     )),
 }
+# Document 02, request 8: a loop's formula is the B-spline's.
+MATRIX[LOOP] = MATRIX[B_SPLINE]
 
 
 @lru_cache(maxsize=None)
@@ -73,6 +75,7 @@ GEOMETRY = {
     B_SPLINE: (0, 1, 2, 3),
     CARDINAL: (0, 1, 2, 3),
     HERMITE: (0, 2, 1, 3),
+    LOOP: (0, 1, 2, 3),
 }
 
 

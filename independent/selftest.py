@@ -3,7 +3,7 @@
 Document 01's sums stand here as they are printed there, P2 and P12 as document 02's
 request 1 has them and the depths as its request 10.  The curve is computed again by other published formulas, a
 cardinal one at every parameter of request 7, the
-edits are read again point by point, the pieces of the outline by tolerance are made
+edits are read again point by point, a loop's round the ring of its points, the pieces of the outline by tolerance are made
 again by halving, every call is made again in the mirror, and each bound of how far the
 cut strays is seen to be none too large.
 """
@@ -23,15 +23,15 @@ from drawing import NOTHING_DRAWN, State, Step, micrometres, take  # noqa: E402
 from edits import BASES_THAT_GROW, insert, move, remove  # noqa: E402
 from make_trials import defects, drawings, edits, exact, files, taut_edits, taut_files, tautness  # noqa: E402
 from make_trials.depths import refusals as too_deep  # noqa: E402
-from make_trials.dice import ALL_BASES, Dice  # noqa: E402
+from make_trials.dice import BASES_BEFORE, GROWING_BEFORE, Dice  # noqa: E402
 from make_trials.halves import ALL_SIDES, AXES, X, Y, mirrored, sides  # noqa: E402
 from make_trials.script import ACCEPTED, CALLS, Script, encode, file_of  # noqa: E402
 from make_trials.tolerance import ANY_CUTS, any_outline, refusals  # noqa: E402
 from outline import draw, formula_points, preview, view  # noqa: E402
 from record_file import cut_listing, listing, read  # noqa: E402
 from refusal import Refusal  # noqa: E402
-from shape import (B_SPLINE, BEZIER, CARDINAL, DEEPEST, HERMITE, ONE_HALF, Shape, point_count, span_records,  # noqa: E402
-                   spans)
+from shape import (ALL_BASES, B_SPLINE, BEZIER, CARDINAL, DEEPEST, HERMITE, LOOP, ONE_HALF, Shape,  # noqa: E402
+                   point_count, span_points, span_records, spans)
 from stray import HALF, TAUT, bound, chords, depths, differences, parabola, piece_strays  # noqa: E402
 from stray import chosen as by_tolerance  # noqa: E402
 from sums import sums  # noqa: E402
@@ -69,11 +69,18 @@ cardinal 0 1000 1000 0 depth 1 parameter 65: refused 24 0
 cardinal -4000000 4000000 4000000 -4000000 depth 1 parameter 64: 4000000 6000000 4000000 exact 6
 cardinal 4000000 -4000000 -4000000 4000000 depth 1 parameter 64: -4000000 -6000000 -4000000 exact 6
 B-spline 0 6 12 18 depth 1 parameter 65: 6 9 12 exact 6
+loop 0 12 24 12 depth 1: 12 18 20 18 12 7 4 7 12 exact 14
+loop 0 6 12 18 24 12 depth 0: 6 12 18 21 12 3 6 exact 14
+insert 30 at 0: 6 6 12 18 21 17 22 6 first 4 count 4 exact 12
+remove at 5: 6 12 18 19 5 6 first 2 count 3 exact 10
+move 0 to 6: 7 12 18 21 13 7 7 first 3 count 4 exact 12
+loop 0 6 12 depth 1: refused 3 0
+loop 0 12 24 12 remove at 0: refused 6 0
 """
 
 SEED = 2024
 JUNK = 77
-POINT_LIMIT = {BEZIER: 4_000_000, B_SPLINE: 4_000_000, CARDINAL: 5_000_000, HERMITE: 5_000_000}
+POINT_LIMIT = {BEZIER: 4_000_000, B_SPLINE: 4_000_000, CARDINAL: 5_000_000, HERMITE: 5_000_000, LOOP: 4_000_000}
 # Every parameter that is none too large, and each kind of curve: at one half, and cardinal ones at some others.
 PARAMETERS = range(65)
 KINDS = [(basis, ONE_HALF) for basis in ALL_BASES] + [(CARDINAL, parameter) for parameter in TAUT]
@@ -119,6 +126,7 @@ OTHER_FORMULA = {
     B_SPLINE: by_recursion,
     CARDINAL: lambda four, t: de_casteljau(bezier_of_hermite(*hermite_of_cardinal(*four)), t),
     HERMITE: lambda four, t: de_casteljau(bezier_of_hermite(*four), t),
+    LOOP: by_recursion,
 }
 
 
@@ -146,7 +154,7 @@ class Curve(unittest.TestCase):
 
     def test_spans_meet(self):
         for basis in ALL_BASES:
-            stride = {BEZIER: 3, B_SPLINE: 1, CARDINAL: 1, HERMITE: 2}[basis]
+            stride = {BEZIER: 3, B_SPLINE: 1, CARDINAL: 1, HERMITE: 2, LOOP: 1}[basis]
             records = Dice(SEED).numbers(4)
             end = sum(cubic(basis, records[:4]))
             self.assertEqual(end, cubic(basis, records[stride:stride + 4])[3])
@@ -157,7 +165,7 @@ class Curve(unittest.TestCase):
             self.assertEqual((nearest(size), nearest(-size)), (whole, -whole))
 
     def test_boxes_and_bounds(self):
-        """No point of basis 1 or 2 leaves its controls' box; none of 3 or 4 passes the bound."""
+        """No point of basis 1, 2 or 5 leaves its controls' box; none of 3 or 4 passes the bound."""
         for four in at_limits():
             for basis in ALL_BASES:
                 outline = formula_points(Shape(basis, DEEPEST, 4), [number for p in four for number in (p, p)])
@@ -225,7 +233,7 @@ class Parameters(unittest.TestCase):
         """1, 2, 24, 3, 4, 5, 6, 7, 8, 9: each is given where all that come after it hold as well."""
         far = [CONTROL_LIMIT + 1] * 8
         for shape, controls, text in (
-                (Shape(5, 9, 3, 65), far[1:], "1 0"), (Shape(CARDINAL, 9, 3, 65), far[1:], "2 0"),
+                (Shape(6, 9, 3, 65), far[1:], "1 0"), (Shape(CARDINAL, 9, 3, 65), far[1:], "2 0"),
                 (Shape(CARDINAL, 8, 3, 65), far[1:], "24 0"), (Shape(CARDINAL, 8, 3, 64), far[1:], "3 0"),
                 (Shape(CARDINAL, 8, 4, 64), far[1:], "7 0"), (Shape(CARDINAL, 8, 4, 64), far, "8 0"),
                 (Shape(CARDINAL, 8, 4, 64), [0] * 8, "9 0"), (Shape(CARDINAL, 8, 4, 2 ** 32 - 1), far[1:], "24 0")):
@@ -242,7 +250,7 @@ class Parameters(unittest.TestCase):
                 self.assertEqual(answer(edit, shape, [], [], *arguments), f"refused {text}")
 
     def test_other_bases_do_not_look_at_it(self):
-        for basis in (BEZIER, B_SPLINE, HERMITE):
+        for basis in (BEZIER, B_SPLINE, HERMITE, LOOP):
             controls = self.dice.numbers(4)
             plain, other = ([JUNK] * (2 * point_count(Shape(basis, 2, 4))) for _ in range(2))
             draw(Shape(basis, 2, 4), controls, plain)
@@ -250,7 +258,7 @@ class Parameters(unittest.TestCase):
                 shape = Shape(basis, 2, 4, parameter)
                 draw(shape, controls, other)
                 self.assertEqual(other, plain)
-                self.assertEqual(list(view(shape, plain, 0)), plain)
+                self.assertEqual(list(view(shape, plain, 0)), plain[:10])
                 self.assertEqual(move(shape, controls, other, 0, tuple(controls[:2])).shape, shape)
 
 
@@ -261,7 +269,7 @@ class Outline(unittest.TestCase):
         self.assertEqual(points, [0, 0, 1, 1, 4, 4, JUNK, JUNK, JUNK])
 
     def test_point_counts(self):
-        most = {BEZIER: 21, B_SPLINE: 61, CARDINAL: 61, HERMITE: 31}
+        most = {BEZIER: 21, B_SPLINE: 61, CARDINAL: 61, HERMITE: 31, LOOP: 64}
         for basis, m in most.items():
             self.assertEqual(spans(Shape(basis, 8, 64)), m)
             self.assertEqual(point_count(Shape(basis, 8, 64)), m * 256 + 1)
@@ -281,7 +289,7 @@ class Outline(unittest.TestCase):
         points = list(range(14))
         self.assertEqual(view(Shape(B_SPLINE, 1, 6), points, 1), [4, 5, 6, 7, 8, 9])
         for shape, span, lent in ((Shape(B_SPLINE, 1, 6), 3, points), (Shape(B_SPLINE, 1, 6), 0, points[:13]),
-                                  (Shape(5, 1, 6), 0, points), (Shape(B_SPLINE, 9, 6), 0, [JUNK] * 4000)):
+                                  (Shape(6, 1, 6), 0, points), (Shape(B_SPLINE, 9, 6), 0, [JUNK] * 4000)):
             self.assertEqual(list(view(shape, lent, span)), [])
 
     def test_preview(self):
@@ -304,9 +312,9 @@ class Depths(unittest.TestCase):
     """Document 02, request 10: what an outline of up to depth 6 was it is, and all of it is found again two depths on."""
 
     def outlines(self):
-        """One span of each basis, with records at limits in every way and any others."""
+        """One span of each basis but the loop, with records at limits in every way and any others."""
         dice = Dice(SEED)
-        for basis in ALL_BASES:
+        for basis in BASES_BEFORE:
             for x in at_limits():
                 y = [dice.coordinate() for _ in x]
                 yield basis, [number for record in zip(x, y) for number in record]
@@ -333,12 +341,13 @@ class Depths(unittest.TestCase):
 
     def test_deepest(self):
         for basis in ALL_BASES:
-            controls, room = [0] * 8, [JUNK] * (2 * 513)
+            controls, room = [0] * 8, [JUNK] * (2 * 1025)
             for depth in (9, 2 ** 32 - 1):
                 self.assertEqual(answer(draw, Shape(basis, depth, 4), controls, room), "refused 2 0")
-            self.assertEqual(room, [JUNK] * (2 * 513))
+            self.assertEqual(room, [JUNK] * (2 * 1025))
             for depth in range(9):
-                self.assertEqual(draw(Shape(basis, depth, 4), controls, room).points, 2 ** depth + 1)
+                shape = Shape(basis, depth, 4)
+                self.assertEqual(draw(shape, controls, room).points, (4 if basis == LOOP else 1) * 2 ** depth + 1)
 
 
 def point_by_point(old: List[int], shape: Shape, outline: List[int], fresh: range, carried: int,
@@ -371,7 +380,7 @@ class Edits(unittest.TestCase):
 
     def test_any_contents(self):
         for _ in range(150):
-            shape = self.dice.shape(BASES_THAT_GROW, 2, 12)._replace(parameter=self.dice.below(65))
+            shape = self.dice.shape(GROWING_BEFORE, 2, 12)._replace(parameter=self.dice.below(65))
             controls = exact.grained(self.dice, shape, shape.count + 2)
             points = [self.dice.junk() for _ in range(2 * point_count(shape._replace(count=shape.count + 2)))]
             self.one_insert(shape, list(controls), list(points))
@@ -428,6 +437,184 @@ class Edits(unittest.TestCase):
         answer = move(Shape(BEZIER, 1, 7), controls, points, 3, (8, 8))
         self.assertEqual((answer.first, answer.fresh), (0, 2))
         self.assertEqual(points, [0, 0, 1, 1, 8, 8, 1, 1, 0, 0])
+
+
+class Loops(unittest.TestCase):
+    """Document 02, request 8: a loop as an open B-spline, and its edits read again round the ring of its points."""
+
+    def setUp(self):
+        self.dice = Dice(SEED)
+
+    def loops(self, deepest=3, deepest_of_most=1):
+        """Loops of few records and of the most, with records of which many points are exact."""
+        for count in (*range(4, 10), 63, 64):
+            for depth in range((deepest if count < 10 else deepest_of_most) + 1):
+                shape = Shape(LOOP, depth, count, self.dice.pick((0, 65, 2 ** 32 - 1)))
+                yield shape, exact.grained(self.dice, shape, count)
+
+    def test_open_outline(self):
+        """The first three records again at the end, and no loop: the same exact values, in and of each span."""
+        for shape, controls in self.loops():
+            open_shape = Shape(B_SPLINE, shape.depth, shape.count + 3)
+            self.assertEqual(exact_outline(shape, controls), exact_outline(open_shape, controls + controls[:6]))
+            self.assertEqual(point_count(shape), shape.count * 2 ** shape.depth + 1)
+
+    def test_ends_meet(self):
+        for shape, controls in self.loops():
+            values = exact_outline(shape, controls)
+            self.assertEqual(values[-2:], values[:2])
+            points = [JUNK] * (len(values) + 3)
+            self.assertEqual(draw(shape, controls, points).points, point_count(shape))
+            self.assertEqual((points[-5:-3], points[-3:]), (points[:2], [JUNK] * 3))
+
+    def test_other_start(self):
+        """From another record on the outline starts so many spans later; in the other order it goes the other way."""
+        for shape, controls in self.loops(2):
+            outline, start = formula_points(shape, controls), self.dice.below(shape.count)
+            steps = 2 ** shape.depth
+            ring = pairs(outline)[:-1]
+            turned = formula_points(shape, controls[2 * start:] + controls[:2 * start])
+            self.assertEqual(pairs(turned)[:-1], ring[start * steps:] + ring[:start * steps])
+            back = formula_points(shape, unpaired(pairs(controls)[::-1]))
+            wanted = [ring[((shape.count - 3) * steps - point) % len(ring)] for point in range(len(ring))]
+            self.assertEqual(pairs(back)[:-1], wanted)
+
+    def test_boxes(self):
+        """Every point of a span lies in the box of its four records, counted round."""
+        for shape, controls in self.loops():
+            values = exact_outline(shape, controls)
+            for span in range(shape.count):
+                for axis in AXES:
+                    four = [controls[2 * ((span + at) % shape.count) + axis] for at in range(4)]
+                    for point in span_points(shape, span):
+                        self.assertTrue(min(four) <= values[2 * point + axis] <= max(four))
+
+    def test_small_loop(self):
+        """Four records, worked out by hand: (p0 + 4p1 + p2) / 6 and so on round."""
+        points = [JUNK] * 10
+        self.assertEqual(draw(Shape(LOOP, 0, 4), [0, 0, 12, -6, 24, 0, 12, 6], points), (5, 10))
+        self.assertEqual(points, [12, -4, 20, 0, 12, 4, 4, 0, 12, -4])
+        self.assertEqual(list(view(Shape(LOOP, 0, 4), points, 3)), [4, 0, 12, -4])
+        self.assertEqual(list(view(Shape(LOOP, 0, 4), points, 4)), [])
+
+    def edits_of(self, shape):
+        """Each edit at each place, with the old place that a new span's start stood at where it is not fresh."""
+        for place in range(shape.count):
+            yield move, shape, place, (self.dice.record(),), 0
+            if shape.count > 4:
+                yield remove, shape._replace(count=shape.count - 1), place, (), 1
+        for place in range(shape.count + 1):
+            if shape.count < 64:
+                yield insert, shape._replace(count=shape.count + 1), place, (self.dice.record(),), -1
+
+    def test_edits(self):
+        """At each place, over any contents and over a drawn outline, which stays one."""
+        for shape, controls in self.loops(2, 0):
+            for edit, new, place, record, shift in self.edits_of(shape):
+                lent = controls + [JUNK] * 4
+                changed = pairs(controls)
+                changed[place:place + (edit is not insert)] = record
+                for contents in (self.dice.junk, None):
+                    points = [JUNK] * (2 * point_count(new._replace(count=shape.count + 1)) + 1)
+                    if contents:
+                        points = [contents() for _ in points]
+                    else:
+                        draw(shape, controls, points)
+                    values = exact_outline(new, unpaired(changed))
+                    self.one_edit(shape, list(lent), points, edit, new, place, record, shift, unpaired(changed), values)
+                    if not contents:
+                        self.assertEqual(points[:len(values)], [nearest(value) for value in values])
+
+    def one_edit(self, shape, controls, points, edit, new, place, record, shift, changed, values):
+        """Point by point round the ring: a point is fresh up to so many steps after the run's start."""
+        before, kept = list(points), controls[len(changed):]
+        answer = edit(shape, controls, points, place, *record)
+        first, fresh = ring_run(edit, new, place)
+        self.assertEqual((answer.shape, answer.first, answer.fresh), (new, first, fresh))
+        self.assertEqual(controls, changed + kept)
+        steps, exactly = 2 ** shape.depth, 0
+        for point in range(point_count(new)):
+            if (point - first * steps) % (new.count * steps) <= fresh * steps:
+                wanted = [nearest(value) for value in values[2 * point:2 * point + 2]]
+                exactly += sum(value == nearest(value) for value in values[2 * point:2 * point + 2])
+            else:
+                at = point if point < place * steps else point + shift * steps
+                wanted = before[2 * at:2 * at + 2]
+            self.assertEqual(points[2 * point:2 * point + 2], wanted)
+        self.assertEqual(points[2 * point_count(new):], before[2 * point_count(new):])
+        self.assertEqual(answer.exact, exactly)
+
+    def test_runs(self):
+        """A move at four names all four, from the span in which the record stands last."""
+        for place in range(4):
+            self.assertEqual(ring_run(move, Shape(LOOP, 0, 4), place), ((place + 1) % 4, 4))
+        for place, told in ((0, (5, 3)), (1, (6, 3)), (2, (7, 3)), (3, (0, 3)), (8, (5, 3))):
+            self.assertEqual(ring_run(remove, Shape(LOOP, 0, 8), place), told)
+
+    def test_order_of_refusals(self):
+        """1, 2, 3, 4, 5, 6, 7, 8, 9; 24 is no loop's."""
+        far = [0] * 6 + [CONTROL_LIMIT + 1] * 2
+        for shape, controls, text in (
+                (Shape(6, 9, 3, 65), far[1:], "1 0"), (Shape(LOOP, 9, 3, 65), far[1:], "2 0"),
+                (Shape(LOOP, 8, 3, 65), far[1:], "3 0"), (Shape(LOOP, 8, 65, 65), far[1:], "3 0"),
+                (Shape(LOOP, 8, 0, 65), far[1:], "3 0"), (Shape(LOOP, 8, 2 ** 32 - 1, 65), far[1:], "3 0"),
+                (Shape(LOOP, 8, 4, 65), far[1:], "7 0"), (Shape(LOOP, 8, 4, 65), far, "8 3"),
+                (Shape(LOOP, 8, 4, 65), [0] * 8, "9 0")):
+            self.assertEqual(answer(draw, shape, controls, []), f"refused {text}")
+            self.assertEqual(list(view(shape, [], 0)), [])
+        for shape, text in ((Shape(6, 9, 3), "1 0"), (Shape(LOOP, 9, 3), "2 0"), (Shape(LOOP, 8, 3), "3 0"),
+                            (Shape(LOOP, 8, 4, 65), "4 0")):
+            self.assertEqual(answer(preview, shape, [], []), f"refused {text}")
+        for edit, record, full in ((insert, ((0, 0),), 64), (remove, (), 4)):
+            for shape, place, text in ((Shape(LOOP, 9, 3), 99, "2 0"), (Shape(LOOP, 8, 3), 99, "3 0"),
+                                       (Shape(LOOP, 8, full), 99, "5 99"), (Shape(LOOP, 8, full), 0, "6 0"),
+                                       (Shape(LOOP, 8, 5), 0, "7 0")):
+                self.assertEqual(answer(edit, shape, [], [], place, *record), f"refused {text}")
+        for count, text in ((63, "7 0"), (64, "6 0")):
+            self.assertEqual(answer(insert, Shape(LOOP, 0, count), [0] * 126, [0] * 200, count, (0, 0)), f"refused {text}")
+
+    def test_rooms(self):
+        """9 looks at the old outline and at the new one; one number less than the longer needs is too short."""
+        for edit, record, count in ((move, ((0, 0),), 4), (insert, ((0, 0),), 5), (remove, (), 5)):
+            shape, room = Shape(LOOP, 1, 5 if edit is remove else 4), 2 * (2 * count + 1)
+            self.assertEqual(answer(edit, shape, [0] * 10, [0] * (room - 1), 0, *record), "refused 9 0")
+            self.assertNotIsInstance(answer(edit, shape, [0] * 10, [0] * room, 0, *record), str)
+
+    def test_files(self):
+        """A loop's byte 2 is zero, and its records are of one basis."""
+        heads = {"5": b"\5\1\0\0", "2": b"\2\1\0\0", "p": b"\5\1\1\0", "s": b"\5\1\0\1", "6": b"\6\1\0\0"}
+        for letters, text in (("555", "3 0"), ("555p", "14 3"), ("s555", "14 0"), ("5525", "15 2"), ("2225", "15 3"),
+                              ("6666", "1 0"), ("pppp", "14 0")):
+            file = b"".join(heads[letter] + bytes(8) for letter in letters)
+            self.assertEqual(listing(file), [f"refused {text}"])
+        file = file_of(Shape(LOOP, 0, 4), [0, 0, 12, -6, 24, 0, 12, 6])
+        self.assertEqual(listing(file), ["5 0 4 5", "0 12 -4", "1 20 0", "2 12 4", "3 4 0", "4 12 -4"])
+        self.assertEqual(cut_listing(file, 3, 0)[0], "5 3 4 5 0")
+        self.assertEqual([line.split(",")[0] for line in depths(file)], [*(f"span {span}" for span in range(4)), "curved spans"])
+
+
+def pairs(numbers: Sequence[int]) -> List[Tuple[int, int]]:
+    """The records or points of a list of numbers."""
+    return [*zip(numbers[::2], numbers[1::2])]
+
+
+def unpaired(records: Sequence[Tuple[int, int]]) -> List[int]:
+    return [number for record in records for number in record]
+
+
+def ring_run(edit, new: Shape, place: int) -> Tuple[int, int]:
+    """The first fresh span and how many, by the records of each span of the new loop.
+
+    After a move or an insert they are the spans with the record in them, and the first has it last; after a removal those
+    with the gap between two of their records, and the first has it before its last.
+    """
+    spans_records = [[(span + at) % new.count for at in range(4)] for span in range(new.count)]
+    if edit is not remove:
+        fresh = [four for four in spans_records if place in four]
+        return next(four[0] for four in fresh if four[3] == place), len(fresh)
+    gap = [(place - 1) % new.count, place % new.count]
+    fresh = [four for four in spans_records if gap in ([*two] for two in zip(four, four[1:]))]
+    return next(four[0] for four in fresh if four[2:] == gap), len(fresh)
 
 
 class Drawing(unittest.TestCase):
@@ -553,6 +740,7 @@ BEZIER_OF = {
     BEZIER: lambda *four: [Fraction(number) for number in four],
     B_SPLINE: bezier_of_b_spline,
     HERMITE: bezier_of_hermite,
+    LOOP: bezier_of_b_spline,
 }
 
 
@@ -656,7 +844,7 @@ class Tolerance(unittest.TestCase):
         line, far = [0, 0, 0, 0, 5462, 0, 5462, 0], [0, 0, 0, 0, 5462, 0, 5462, CONTROL_LIMIT + 1]
         good, endless = Shape(BEZIER, 8, 4), 2 ** 99
         for shape, controls, tolerance, most, text in (
-                (Shape(5, 9, 5), far[1:], 10_001, 0, "1 0"), (Shape(BEZIER, 9, 5), far[1:], 10_001, 0, "2 0"),
+                (Shape(6, 9, 5), far[1:], 10_001, 0, "1 0"), (Shape(BEZIER, 9, 5), far[1:], 10_001, 0, "2 0"),
                 (Shape(CARDINAL, 9, 3, 65), far[1:], 10_001, 0, "2 0"),
                 (Shape(CARDINAL, 8, 3, 65), far[1:], 10_001, 0, "24 0"),
                 (Shape(BEZIER, 8, 5), far[1:], 10_001, 0, "3 0"), (good, far[1:], 10_001, 0, "7 0"),

@@ -1,12 +1,15 @@
 """Shapes, their spans and their points: document 01, "What it draws, and what it leaves"."""
 
-from typing import NamedTuple
+from typing import List, NamedTuple
 
 BEZIER, B_SPLINE, CARDINAL, HERMITE = 1, 2, 3, 4
+# Document 02, request 8: a B-spline whose records run round.
+LOOP = 5
 
 # Records from where a span starts to where the next one does.  With four
-# records to a span this gives n = 3m+1, m+3, m+3 and 2m+2.
-STRIDE = {BEZIER: 3, B_SPLINE: 1, CARDINAL: 1, HERMITE: 2}
+# records to a span this gives n = 3m+1, m+3, m+3 and 2m+2; round a loop it gives n = m.
+STRIDE = {BEZIER: 3, B_SPLINE: 1, CARDINAL: 1, HERMITE: 2, LOOP: 1}
+ALL_BASES = tuple(STRIDE)
 
 SPAN_RECORDS = 4
 MOST_RECORDS = 64
@@ -33,14 +36,17 @@ def count_allowed(shape: Shape) -> bool:
 
 
 def spans(shape: Shape) -> int:
-    """How many spans a good shape has."""
+    """How many spans a good shape has; a loop has one for each record."""
+    if shape.basis == LOOP:
+        return shape.count
     return (shape.count - SPAN_RECORDS) // STRIDE[shape.basis] + 1
 
 
-def span_records(shape: Shape, span: int) -> range:
-    """The numbers of the four records that a span uses."""
+def span_records(shape: Shape, span: int) -> List[int]:
+    """The numbers of the four records that a span uses; in a loop they are counted round the end."""
     first = STRIDE[shape.basis] * span
-    return range(first, first + SPAN_RECORDS)
+    numbers = [*range(first, first + SPAN_RECORDS)]
+    return [number % shape.count for number in numbers] if shape.basis == LOOP else numbers
 
 
 def span_points(shape: Shape, span: int) -> range:

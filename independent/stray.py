@@ -12,17 +12,18 @@ from typing import Dict, Iterator, List, NamedTuple, Sequence, Tuple
 
 from checks import CONTROL_LIMIT
 from curve import cubic, nearest, parameter_value, powers, product, span_cubics
-from make_trials.dice import ALL_BASES, Dice
+from make_trials.dice import BASES_BEFORE, Dice
 from make_trials.tolerance import ANY_CUTS, any_outline
 from record_file import read
 from refusal import Refusal
-from shape import B_SPLINE, BEZIER, CARDINAL, DEEPEST, HERMITE, MOST_RECORDS, ONE_HALF, WHOLE_PARAMETER, Shape, spans
+from shape import (B_SPLINE, BEZIER, CARDINAL, DEEPEST, HERMITE, LOOP, MOST_RECORDS, ONE_HALF, WHOLE_PARAMETER, Shape,
+                   spans)
 from tolerance import Piece, bezier_controls, cubic_over, flat_pieces, second_differences, span_pieces
 
 SEED = 1981
 HALF = Fraction(1, 2)
 FINE = 2 ** 24
-NAMES = {BEZIER: "Bezier", B_SPLINE: "B-spline", CARDINAL: "cardinal", HERMITE: "Hermite"}
+NAMES = {BEZIER: "Bezier", B_SPLINE: "B-spline", CARDINAL: "cardinal", HERMITE: "Hermite", LOOP: "loop"}
 # Cardinal curves are tried at one half and at these (document 02, request 7).
 TAUT = (1, 3, 48, WHOLE_PARAMETER)
 
@@ -243,10 +244,10 @@ def chosen_line(dice: Dice, name: str, basis: int, parameter: int) -> str:
 
 
 def report(seed: int = SEED) -> Iterator[str]:
-    """The largest parts, basis by basis, and then of cardinal curves at other parameters than one half."""
+    """The largest parts, basis by basis, then of cardinal curves at other parameters than one half, and of loops."""
     dice = Dice(seed)
-    halves = [(NAMES[basis], basis, ONE_HALF) for basis in ALL_BASES]
+    halves = [(NAMES[basis], basis, ONE_HALF) for basis in BASES_BEFORE]
     taut = [(f"{NAMES[CARDINAL]} with parameter {parameter}", CARDINAL, parameter) for parameter in TAUT]
-    for kinds in (halves, taut):
+    for kinds in (halves, taut, [(NAMES[LOOP], LOOP, ONE_HALF)]):
         for line in (even_line, chosen_line):
             yield from (line(dice, *kind) for kind in kinds)

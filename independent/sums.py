@@ -2,7 +2,8 @@
 
 A sum is over one axis: its numbers are the x of records whose y is 0, and the x
 of the points is what is written.  The limit of depth is that of document 02, request 10.
-The last sums are of request 7: cardinal curves with a parameter, and what it is not looked at for.
+After them stand sums of request 7, cardinal curves with a parameter and what it is not looked at for, and of
+request 8, loops and edits of them.
 """
 
 from typing import Iterator, List, Sequence
@@ -11,13 +12,15 @@ from drawing import NOTHING_DRAWN, Step, take
 from edits import Edited, insert, move, remove
 from outline import draw
 from refusal import Refusal
-from shape import B_SPLINE, BEZIER, CARDINAL, DEEPEST, HERMITE, ONE_HALF, Shape, point_count
+from shape import B_SPLINE, BEZIER, CARDINAL, DEEPEST, HERMITE, LOOP, ONE_HALF, Shape, point_count
 
-NAME = {BEZIER: "Bezier", B_SPLINE: "B-spline", CARDINAL: "cardinal", HERMITE: "Hermite"}
+NAME = {BEZIER: "Bezier", B_SPLINE: "B-spline", CARDINAL: "cardinal", HERMITE: "Hermite", LOOP: "loop"}
 
 # Enough for the points of one span at the deepest, and so for 64 records.
 ROOM = 2 * (2 ** DEEPEST + 1)
 TO_EDIT = (0, 10, 20, 30, 40, 50)
+LOOP_TO_EDIT = (0, 6, 12, 18, 24, 12)
+LEAST_LOOP = (0, 12, 24, 12)
 
 
 def words(numbers: Sequence[int]) -> str:
@@ -61,11 +64,11 @@ def result(call, *arguments) -> str:
 
 
 class EditSum:
-    """The outline that each of P9 to P11 starts from."""
+    """The outline that each of P9 to P11 starts from, or another at depth 0."""
 
-    def __init__(self) -> None:
-        self.shape = Shape(CARDINAL, 0, len(TO_EDIT))
-        self.controls = on_x(TO_EDIT)
+    def __init__(self, basis: int = CARDINAL, numbers: Sequence[int] = TO_EDIT) -> None:
+        self.shape = Shape(basis, 0, len(numbers))
+        self.controls = on_x(numbers)
         self.points = [0] * ROOM
         draw(self.shape, self.controls, self.points)
 
@@ -80,6 +83,16 @@ def edit_sums() -> Iterator[str]:
     removed = EditSum()
     yield f"P10 remove at 0: {removed.edited(remove, 0)} fourth {removed.points[2 * 3]}"
     yield f"P11 move 3 to 33: {EditSum().edited(move, 3, (33, 0))}"
+
+
+def loop_sums() -> Iterator[str]:
+    yield outline_sum("", LOOP, 1, LEAST_LOOP)
+    yield outline_sum("", LOOP, 0, LOOP_TO_EDIT)
+    for words_of_it, edit, *arguments in (("insert 30 at 0", insert, 0, (30, 0)), ("remove at 5", remove, 5),
+                                          ("move 0 to 6", move, 0, (6, 0))):
+        yield f"{words_of_it}: {EditSum(LOOP, LOOP_TO_EDIT).edited(edit, *arguments)}"
+    yield outline_sum("", LOOP, 1, (0, 6, 12))
+    yield f"{NAME[LOOP]} {words(LEAST_LOOP)} remove at 0: {result(EditSum(LOOP, LEAST_LOOP).edited, remove, 0)}"
 
 
 def millimetres(number: float) -> str:
@@ -110,3 +123,4 @@ def sums() -> Iterator[str]:
     for farthest in (4000000, -4000000):
         yield parameter_sum(CARDINAL, (-farthest, farthest, farthest, -farthest), 64)
     yield parameter_sum(B_SPLINE, (0, 6, 12, 18), 65)
+    yield from loop_sums()

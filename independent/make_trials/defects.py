@@ -8,11 +8,10 @@ from typing import Collection, Tuple
 
 import trials
 from checks import CONTROL_LIMIT
-from edits import BASES_THAT_GROW
-from make_trials.dice import ALL_BASES, DEEPEST_BEFORE, Dice
+from make_trials.dice import BASES_BEFORE, DEEPEST_BEFORE, GROWING_BEFORE, Dice
 from make_trials.outlines import WAYS
 from make_trials.script import ACCEPTED, Script
-from shape import BEZIER, HERMITE, MOST_RECORDS, SPAN_RECORDS, Shape, count_allowed, point_count
+from shape import BEZIER, HERMITE, LOOP, MOST_RECORDS, SPAN_RECORDS, Shape, count_allowed, point_count
 
 DEFECTS = ("basis", "depth", "count", "offered", "place", "records", "controls", "limit", "record", "points")
 Defects = Collection[str]
@@ -20,21 +19,22 @@ Defects = Collection[str]
 EDITS = (trials.MOVE, trials.INSERT, trials.REMOVE)
 OPS = WAYS + EDITS + (trials.VIEW, trials.PREVIEW)
 
-OFFERED = {trials.PREVIEW: (BEZIER,), trials.INSERT: BASES_THAT_GROW, trials.REMOVE: BASES_THAT_GROW}
+OFFERED = {trials.PREVIEW: (BEZIER,), trials.INSERT: GROWING_BEFORE, trials.REMOVE: GROWING_BEFORE}
 CHANGE = {trials.INSERT: 1, trials.REMOVE: -1}
 FULL = {trials.INSERT: MOST_RECORDS, trials.REMOVE: SPAN_RECORDS}
 
 # Past the deepest before: the first two are good depths by now, for which the lists lent here are too short.
 DEEP = (DEEPEST_BEFORE + 1, DEEPEST_BEFORE + 2, 32, 64, 2 ** 32 - 1)
+# Past the last basis before: the second is a good one by now, the loop's.
 NO_BASIS = (0, HERMITE + 1, 256, 2 ** 32 - 1)
 COUNTS = (0, 1, 2, 3, 5, 6, 9, MOST_RECORDS - 1, MOST_RECORDS + 1, MOST_RECORDS + 3, 2 ** 32 - 1)
 
 
 def sound_shape(dice: Dice, op: int, defects: Defects) -> Shape:
     """A good shape for the call, but for what rows 4 and 6 find."""
-    bases = OFFERED.get(op, ALL_BASES)
+    bases = OFFERED.get(op, BASES_BEFORE)
     if "offered" in defects and op in OFFERED:
-        bases = tuple(basis for basis in ALL_BASES if basis not in bases)
+        bases = tuple(basis for basis in BASES_BEFORE if basis not in bases)
     shape = dice.shape(bases, 2, dice.pick((4, 7, 8, 10)))
     if "records" in defects and op in FULL:
         return shape._replace(depth=0, count=FULL[op])
@@ -108,8 +108,12 @@ def call(script: Script, op: int, shape: Shape, defects: Defects) -> None:
 
 
 def show_result(script: Script, op: int) -> None:
-    """The lists, where the call was accepted, and one in four times where it was not."""
-    if script.last == ACCEPTED or script.dice.one_in(4):
+    """The lists, where the call was accepted, and one in four times where it was not.
+
+    A loop may be accepted, but the records that follow are those of a basis that was none, for which all but a view was refused.
+    """
+    no_basis_before = script.bench.shape.basis == LOOP and op != trials.VIEW
+    if script.last == ACCEPTED and not no_basis_before or script.dice.one_in(4):
         script.show(trials.SHOW_PREVIEW if op == trials.PREVIEW else trials.SHOW_POINTS)
         if op in EDITS:
             script.show(trials.SHOW_CONTROLS)
@@ -133,7 +137,7 @@ def at_the_limits(script: Script) -> None:
     """One number at a limit and then one beyond, in each record; numbers past the last control do not count."""
     dice = script.dice
     for op in WAYS + EDITS + (trials.PREVIEW,):
-        shape = dice.shape(OFFERED.get(op, ALL_BASES), 0, 8)._replace(count=7 if op == trials.PREVIEW else 4)
+        shape = dice.shape(OFFERED.get(op, BASES_BEFORE), 0, 8)._replace(count=7 if op == trials.PREVIEW else 4)
         if op == trials.REMOVE:
             shape = shape._replace(count=5)
         for record in range(shape.count):

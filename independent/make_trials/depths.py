@@ -10,17 +10,16 @@ import refusal
 import trials
 from checks import CONTROL_LIMIT
 from curve import exact_outline
-from edits import BASES_THAT_GROW
 from make_trials import exact, tolerance
 from make_trials.defects import EDITS, FULL, OFFERED, bad_shape, call, lend_for, needs, sound_shape
-from make_trials.dice import ALL_BASES, DEEPEST_BEFORE, Dice
+from make_trials.dice import BASES_BEFORE, DEEPEST_BEFORE, GROWING_BEFORE, Dice
 from make_trials.edits import edits_of
 from make_trials.files import DEPTH_BYTE, PARAMETER_BYTE, ZERO_BYTES, spoil
 from make_trials.halves import ALL_SIDES, AXES, Side, X, half_coordinate, sides, told_apart
 from make_trials.outlines import WAYS
 from make_trials.script import ACCEPTED, Script, file_of
 from make_trials.tolerance import ALL_CUTS, ANY_CUTS, PARABOLA, flattest, lay, lay_for, on_axis, times
-from shape import (B_SPLINE, BEZIER, CARDINAL, DEEPEST, MOST_RECORDS, SPAN_RECORDS, STRIDE, Shape, point_count,
+from shape import (B_SPLINE, BEZIER, CARDINAL, DEEPEST, LOOP, MOST_RECORDS, SPAN_RECORDS, STRIDE, Shape, point_count,
                    span_records, spans)
 from tolerance import FINEST
 
@@ -58,7 +57,7 @@ def span_numbers(depth: int) -> int:
 def every_way(script: Script) -> None:
     """Each basis at each depth in each way, over points that held something else."""
     dice = script.dice
-    for basis in ALL_BASES:
+    for basis in BASES_BEFORE:
         for depth in DEEP:
             shape = Shape(basis, depth, SPAN_RECORDS)
             lay(script, shape, dice.numbers(shape.count), 2 * point_count(shape) + dice.below(3))
@@ -71,7 +70,7 @@ def every_way(script: Script) -> None:
 def found_again(script: Script) -> None:
     """One outline, deeper and deeper: each point is found again at the next depth, with others between."""
     dice = script.dice
-    for basis in ALL_BASES:
+    for basis in BASES_BEFORE:
         shape = Shape(basis, DEEPEST_BEFORE, SPAN_RECORDS + STRIDE[basis])
         lay(script, shape, dice.numbers(shape.count), 2 * point_count(shape._replace(depth=DEEPEST)))
         comes_to(script, ACCEPTED, dice.pick(WAYS))
@@ -88,7 +87,7 @@ def found_again(script: Script) -> None:
 
 def at_halves(script: Script) -> None:
     """A span of each basis with an exact half on each axis, in each way; then mirrored on both."""
-    for basis in ALL_BASES:
+    for basis in BASES_BEFORE:
         for depth in DEEP:
             shape = Shape(basis, depth, SPAN_RECORDS)
             controls = on_axis(X, *(axis_at_a_half(script.dice, shape) for _ in AXES))
@@ -121,11 +120,11 @@ def one_at_halves(script: Script, shape: Shape, controls: List[int]) -> Set[Side
 
 def figures(script: Script) -> None:
     """Figures of exact coordinates that other counts would not give: of outlines, and of what an edit works afresh."""
-    for basis in ALL_BASES:
+    for basis in BASES_BEFORE:
         for depth in DEEP:
             shape = Shape(basis, depth, SPAN_RECORDS + STRIDE[basis])
             exact.every_way(script, shape, exact.told_apart(script.dice, shape))
-    for basis in BASES_THAT_GROW:
+    for basis in GROWING_BEFORE:
         for op in EDITS:
             exact.one_edit(script, op, Shape(basis, DEEPEST, SPAN_RECORDS + 4))
 
@@ -133,7 +132,7 @@ def figures(script: Script) -> None:
 def longest(script: Script) -> None:
     """The most records of each basis at the deepest, all at the limits; the list lacks a number, or has none to spare."""
     dice = script.dice
-    for basis in ALL_BASES:
+    for basis in BASES_BEFORE:
         shape = Shape(basis, DEEPEST, MOST_RECORDS)
         controls, room = at_the_limits(dice, shape), 2 * point_count(shape)
         lay(script, shape, controls, room - 1)
@@ -173,7 +172,7 @@ def longest_list(script: Script) -> None:
 def views(script: Script) -> None:
     """Spans of an outline, and what is none: past the last, a list that lacks a number, a depth past the deepest."""
     dice = script.dice
-    for basis in ALL_BASES:
+    for basis in BASES_BEFORE:
         for depth in DEEP:
             shape = Shape(basis, depth, SPAN_RECORDS + STRIDE[basis])
             room = 2 * point_count(shape)
@@ -223,7 +222,7 @@ def longest_preview(script: Script) -> None:
 def edits(script: Script) -> None:
     """Each edit of each basis over points that are no outline's: fresh spans, and beside them kept and carried ones."""
     dice = script.dice
-    for basis in ALL_BASES:
+    for basis in BASES_BEFORE:
         for op in edits_of(basis):
             for depth in DEEP:
                 shape = Shape(basis, depth, SPAN_RECORDS + 7 * STRIDE[basis])
@@ -247,7 +246,7 @@ def one_edit(script: Script, op: int, place: int) -> None:
 def run_of_edits(script: Script) -> None:
     """A drawn outline of each basis stays that of its controls through a run of edits."""
     dice = script.dice
-    for basis in ALL_BASES:
+    for basis in BASES_BEFORE:
         shape = Shape(basis, DEEPEST, SPAN_RECORDS + 2 * STRIDE[basis])
         script.lend(2 * MOST_RECORDS, 2 * point_count(shape._replace(count=MOST_RECORDS)), fill=dice.junk())
         script.read(shape, dice.numbers(shape.count))
@@ -264,7 +263,7 @@ def run_of_edits(script: Script) -> None:
 def longest_edits(script: Script) -> None:
     """The longest outlines that an edit comes to and comes from, over points that are no outline's."""
     dice = script.dice
-    for basis in BASES_THAT_GROW:
+    for basis in GROWING_BEFORE:
         shape = Shape(basis, DEEPEST, MOST_RECORDS)
         script.lend(2 * shape.count, 2 * point_count(shape), fill=dice.between(-9, 9))
         script.read(shape._replace(count=shape.count - 1), dice.numbers(shape.count - 1))
@@ -295,13 +294,17 @@ def refusals(script: Script) -> None:
 
 
 def one_call(script: Script, op: int, depth: int, wrong: Collection[str], number: int) -> None:
-    """A call that comes to this number, but to 2 where the depth is past the deepest and the basis is good."""
+    """A call that comes to this number, but to 2 where the depth is past the deepest and the basis is good.
+
+    A loop, which is a basis by now, has other counts and lists; what it comes to is seen in loops.py.
+    """
     dice = script.dice
     shape = shape_for(dice, op, wrong)._replace(depth=min(depth, DEEPEST))
     lend_for(script, op, shape, wrong)
-    script.shape(bad_shape(dice, shape, wrong)._replace(depth=depth))
+    laid = bad_shape(dice, shape, wrong)._replace(depth=depth)
+    script.shape(laid)
     call(script, op, shape, wrong)
-    assert script.last == (number if number == refusal.BASIS else after_depth(depth, number))
+    assert laid.basis == LOOP or script.last == (number if number == refusal.BASIS else after_depth(depth, number))
 
 
 def shape_for(dice: Dice, op: int, wrong: Collection[str]) -> Shape:
@@ -318,7 +321,7 @@ def shape_for(dice: Dice, op: int, wrong: Collection[str]) -> Shape:
 def by_tolerance(script: Script) -> None:
     """One outline at depths 7 and 8 comes to what it does at depth 6, and past them to 2."""
     dice = script.dice
-    for basis in ALL_BASES:
+    for basis in BASES_BEFORE:
         shape, controls = tolerance.any_outline(dice, basis, 40_000)
         allowed = dice.between(30, 300)
         came = lay_for(script, shape, controls, allowed)
@@ -333,7 +336,7 @@ def by_tolerance(script: Script) -> None:
 
 def no_deeper(script: Script) -> None:
     """Parabolas of each basis that six cuts just make flat; and a micrometre more, which a seventh would."""
-    for basis in ALL_BASES:
+    for basis in BASES_BEFORE:
         for depth in DEEP:
             shape, allowed = Shape(basis, depth, SPAN_RECORDS), script.dice.between(1, 60)
             flat, bent = (times(flattest(allowed, FINEST) + more, PARABOLA[basis]) for more in (0, 1))
@@ -347,7 +350,7 @@ def refusals_by_tolerance(script: Script) -> None:
     """Each defect, and none, at depths 7 and 8 and past them."""
     for name in tolerance.DEFECTS:
         for depth in (*DEEP, *TOO_DEEP):
-            tolerance.one_call(script, Shape(script.dice.pick(ALL_BASES), depth, SPAN_RECORDS), {name} - {"depth"})
+            tolerance.one_call(script, Shape(script.dice.pick(BASES_BEFORE), depth, SPAN_RECORDS), {name} - {"depth"})
 
 
 # ---- record files
@@ -356,7 +359,7 @@ def refusals_by_tolerance(script: Script) -> None:
 def files(script: Script) -> None:
     """Files of each basis and depth, read and listed; those too deep are refused."""
     dice = script.dice
-    for basis in ALL_BASES:
+    for basis in BASES_BEFORE:
         script.lend(2 * SPAN_RECORDS, 0, fill=dice.junk())
         for depth in (*DEEP, *TOO_DEEP_BYTES):
             script.put_file(file_of(Shape(basis, depth, SPAN_RECORDS), dice.numbers(SPAN_RECORDS)))
@@ -377,7 +380,7 @@ def damaged_files(script: Script) -> None:
     """Files with something else wrong, at depths 7 and 8 and past them: 13, 14, 15 and 1 come before 2; 3, 7 and 8 after."""
     dice = script.dice
     for depth in (*DEEP, *TOO_DEEP_BYTES):
-        shape, numbers = Shape(dice.pick(ALL_BASES), depth, SPAN_RECORDS), dice.numbers(SPAN_RECORDS)
+        shape, numbers = Shape(dice.pick(BASES_BEFORE), depth, SPAN_RECORDS), dice.numbers(SPAN_RECORDS)
         good = file_of(shape, numbers)
         far = file_of(shape, numbers[:-1] + [dice.outside()])
         zero = dice.pick(ZERO_BYTES)

@@ -4,14 +4,17 @@ import struct
 from typing import List, Sequence, TypeVar
 
 from checks import CONTROL_LIMIT, Record
-from shape import DEEPEST, MOST_RECORDS, SPAN_RECORDS, STRIDE, Shape
+from shape import B_SPLINE, BEZIER, CARDINAL, DEEPEST, HERMITE, MOST_RECORDS, SPAN_RECORDS, STRIDE, Shape
 
 Thing = TypeVar("Thing")
 
 WORD = 2 ** 64 - 1
 LOW_BITS = 11
 
-ALL_BASES = tuple(STRIDE)
+# The bases before document 02's request 8, and those of them that can be inserted into and removed from.  The trials of
+# the other requests go by them, so that their records stay what they were; loops.py and those beside it have the loops.
+BASES_BEFORE = (BEZIER, B_SPLINE, CARDINAL, HERMITE)
+GROWING_BEFORE = (B_SPLINE, CARDINAL)
 
 # The deepest before document 02's request 10.  The trials of the other requests go by it, so that
 # their records stay what they were; depths.py has the depths past it.
@@ -89,7 +92,7 @@ class Dice:
         """A count that the basis allows."""
         return SPAN_RECORDS + STRIDE[basis] * self.below((most - SPAN_RECORDS) // STRIDE[basis] + 1)
 
-    def shape(self, bases: Sequence[int] = ALL_BASES, deepest: int = DEEPEST, most: int = MOST_RECORDS) -> Shape:
+    def shape(self, bases: Sequence[int] = BASES_BEFORE, deepest: int = DEEPEST, most: int = MOST_RECORDS) -> Shape:
         """A good shape."""
         basis = self.pick(bases)
         return Shape(basis, self.between(0, deepest), self.count(basis, most))

@@ -5,7 +5,7 @@ from typing import List, Tuple
 import trials
 from edits import BASES_THAT_GROW
 from make_trials.defects import CHANGE, EDITS
-from make_trials.dice import ALL_BASES, DEEPEST_BEFORE
+from make_trials.dice import BASES_BEFORE, DEEPEST_BEFORE, GROWING_BEFORE
 from make_trials.outlines import WAYS
 from make_trials.script import Script
 from shape import B_SPLINE, MOST_RECORDS, SPAN_RECORDS, Shape, point_count, spans
@@ -59,12 +59,12 @@ def run(script: Script, shape: Shape, largest: Shape, edits: int) -> None:
 
 def runs(script: Script) -> None:
     """Runs for every basis; the lists fill up and the records run out on the way."""
-    for basis in ALL_BASES:
-        growing = basis in BASES_THAT_GROW
+    for basis in BASES_BEFORE:
+        growing = basis in GROWING_BEFORE
         for depth, most in ((0, 16), (1, 10), (2, 8), (3, 10)):
             shape = Shape(basis, depth, script.dice.count(basis, most))
             run(script, shape, shape._replace(count=most) if growing else shape, 60 if growing else 25)
-    for basis in BASES_THAT_GROW:
+    for basis in GROWING_BEFORE:
         run(script, Shape(basis, 0, MOST_RECORDS - 1), Shape(basis, 0, MOST_RECORDS), 30)
         run(script, Shape(basis, 0, SPAN_RECORDS), Shape(basis, 0, SPAN_RECORDS + 2), 40)
 
@@ -72,7 +72,7 @@ def runs(script: Script) -> None:
 def every_place(script: Script) -> None:
     """Each edit at each place of a small outline, over junk each time."""
     dice = script.dice
-    for basis in ALL_BASES:
+    for basis in BASES_BEFORE:
         shape = Shape(basis, 1, 10)
         script.lend(2 * shape.count + 4, 2 * point_count(shape) + 8, fill=dice.junk())
         for op in edits_of(basis):
@@ -88,7 +88,7 @@ def every_place(script: Script) -> None:
 def rooms(script: Script) -> None:
     """Lists just long enough and just too short, for the old shape and for the new."""
     dice = script.dice
-    for basis in ALL_BASES:
+    for basis in BASES_BEFORE:
         shape = Shape(basis, dice.below(3), MOST_RECORDS - 1 if basis == B_SPLINE else 10)
         for op in edits_of(basis):
             for controls, points in edges(shape, shape._replace(count=shape.count + CHANGE.get(op, 0))):
@@ -112,7 +112,7 @@ def edges(old: Shape, new: Shape) -> List[Tuple[int, int]]:
 def deep(script: Script) -> None:
     """Edits of the longest outlines at the deepest; views of the spans round about."""
     dice = script.dice
-    for basis in BASES_THAT_GROW:
+    for basis in GROWING_BEFORE:
         shape = Shape(basis, DEEPEST_BEFORE, MOST_RECORDS - 1)
         script.lend(2 * MOST_RECORDS, 2 * point_count(shape._replace(count=MOST_RECORDS)), fill=dice.junk())
         script.read(shape, dice.numbers(shape.count))

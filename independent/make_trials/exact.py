@@ -12,7 +12,7 @@ import trials
 from checks import CONTROL_LIMIT
 from curve import exact_outline, whole_values
 from make_trials.defects import CHANGE, needs
-from make_trials.dice import ALL_BASES, DEEPEST_BEFORE, Dice
+from make_trials.dice import BASES_BEFORE, DEEPEST_BEFORE, Dice
 from make_trials.edits import edits_of
 from make_trials.halves import divisor
 from make_trials.outlines import WAYS
@@ -45,7 +45,7 @@ def other_counts(values: Sequence[Fraction]) -> Set[int]:
 
 def outlines(script: Script) -> None:
     """Outlines of each basis at each depth in each way, where some coordinates are exact and some are not."""
-    for basis in ALL_BASES:
+    for basis in BASES_BEFORE:
         for depth in range(DEEPEST_BEFORE + 1):
             shape = Shape(basis, depth, SPAN_RECORDS + 2 * STRIDE[basis])
             every_way(script, shape, told_apart(script.dice, shape))
@@ -72,7 +72,7 @@ def every_way(script: Script, shape: Shape, controls: List[int]) -> None:
 
 def edits(script: Script) -> None:
     """Each edit of each basis over a drawn outline: exact coordinates are kept or carried beside the fresh ones."""
-    for basis in ALL_BASES:
+    for basis in BASES_BEFORE:
         for op in edits_of(basis):
             for depth in (0, 1, 3, 5):
                 one_edit(script, op, Shape(basis, depth, SPAN_RECORDS + 6 * STRIDE[basis]))

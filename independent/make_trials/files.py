@@ -3,8 +3,7 @@
 from typing import Collection
 
 import trials
-from edits import BASES_THAT_GROW
-from make_trials.dice import ALL_BASES, DEEPEST_BEFORE
+from make_trials.dice import BASES_BEFORE, DEEPEST_BEFORE, GROWING_BEFORE
 from make_trials.script import ACCEPTED, Script, file_of
 from record_file import LONGEST, RECORD
 from shape import B_SPLINE, CARDINAL, HERMITE, MOST_RECORDS, SPAN_RECORDS, Shape
@@ -25,7 +24,7 @@ def bad_shape(script: Script, shape: Shape, defects: Defects) -> Shape:
     """The shape that all records carry, but for rows 1, 2 and 3."""
     dice = script.dice
     if "count" in defects:
-        shape = shape._replace(count=dice.pick((1, 2, 3) if shape.basis in BASES_THAT_GROW else (1, 2, 3, 5, 9)))
+        shape = shape._replace(count=dice.pick((1, 2, 3) if shape.basis in GROWING_BEFORE else (1, 2, 3, 5, 9)))
     if "basis" in defects:
         shape = shape._replace(basis=dice.pick((0, HERMITE + 1, 128, 255)))
     if "depth" in defects:
@@ -58,8 +57,8 @@ def one_file(script: Script, shape: Shape, defects: Defects) -> None:
     script.lend(length, 0, fill=dice.junk())
     script.put_file(damaged_file(script, shape, defects))
     script.say(trials.READ_FILE)
-    # A file with a depth of 7 is accepted, but the records that follow are those of a defect.
-    if script.last == ACCEPTED and "depth" not in defects or dice.one_in(6):
+    # A file with a depth of 7 is accepted, and one of a loop, but the records that follow are those of a defect.
+    if script.last == ACCEPTED and not {"depth", "basis"} & {*defects} or dice.one_in(6):
         script.show(trials.SHOW_CONTROLS)
     if dice.one_in(3):
         script.show(trials.LIST_FILE)
@@ -68,7 +67,7 @@ def one_file(script: Script, shape: Shape, defects: Defects) -> None:
 def files(script: Script) -> None:
     """Good files of each basis; then each defect alone and each two of them; then up to three."""
     dice = script.dice
-    for basis in ALL_BASES:
+    for basis in BASES_BEFORE:
         for _ in range(4):
             one_file(script, dice.shape((basis,), 3, 10), ())
     for first, defect in enumerate(DEFECTS):
@@ -111,7 +110,7 @@ def late_damage(script: Script) -> None:
     dice = script.dice
     script.lend(2 * MOST_RECORDS, 0)
     for _ in range(12):
-        shape = Shape(dice.pick(ALL_BASES), dice.below(DEEPEST_BEFORE + 1), MOST_RECORDS)
+        shape = Shape(dice.pick(BASES_BEFORE), dice.below(DEEPEST_BEFORE + 1), MOST_RECORDS)
         file = bytearray(file_of(shape, dice.numbers(shape.count)))
         for byte in dice.some(HEAD_BYTES, 2):
             spoil(file, dice.below(MOST_RECORDS), byte, dice.between(5, 255))

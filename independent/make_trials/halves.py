@@ -13,11 +13,11 @@ from checks import Record
 from curve import cubic, exact_outline, parameter_value, powers, product
 from drawing import MICROMETRES_PER_MM
 from make_trials.defects import CHANGE, needs
-from make_trials.dice import ALL_BASES, DEEPEST_BEFORE, Dice
+from make_trials.dice import BASES_BEFORE, DEEPEST_BEFORE, Dice
 from make_trials.edits import edits_of
 from make_trials.outlines import WAYS
 from make_trials.script import ACCEPTED, Script
-from shape import (B_SPLINE, BEZIER, CARDINAL, HERMITE, MOST_RECORDS, SPAN_RECORDS, STRIDE, Shape,
+from shape import (B_SPLINE, BEZIER, CARDINAL, HERMITE, LOOP, MOST_RECORDS, SPAN_RECORDS, STRIDE, Shape,
                    numbers_of, point_count, span_points, span_records, spans)
 
 X, Y = AXES = 0, 1
@@ -50,7 +50,7 @@ def told_apart(values: Sequence[Fraction], rounded: Sequence[int]) -> bool:
 
 def divisor(shape: Shape) -> int:
     """The least whole number, over 2^(3k), that makes every share of a record in a point whole."""
-    return {BEZIER: 1, B_SPLINE: 6, CARDINAL: parameter_value(shape.parameter).denominator, HERMITE: 1}[shape.basis]
+    return {BEZIER: 1, B_SPLINE: 6, CARDINAL: parameter_value(shape.parameter).denominator, HERMITE: 1, LOOP: 6}[shape.basis]
 
 
 def half_coordinate(dice: Dice, shape: Shape, three: Sequence[int], step: int) -> int:
@@ -78,15 +78,15 @@ def controls_at_halves(dice: Dice, shape: Shape) -> List[int]:
     while True:
         controls = dice.numbers(shape.count)
         for span in range(spans(shape)):
-            last = span_records(shape, span)[-1:]
-            controls[numbers_of(last)] = half_record(dice, shape, controls, span)
+            last = span_records(shape, span)[-1]
+            controls[2 * last:2 * last + 2] = half_record(dice, shape, controls, span)
         if sides(exact_outline(shape, controls)) == ALL_SIDES:
             return controls
 
 
 def points(script: Script) -> None:
     """Outlines of each basis, at each depth that has halves, in each way."""
-    for basis in ALL_BASES:
+    for basis in BASES_BEFORE:
         for depth in range(0 if basis == B_SPLINE else 1, DEEPEST_BEFORE + 1):
             shape = Shape(basis, depth, SPAN_RECORDS + STRIDE[basis])
             controls = controls_at_halves(script.dice, shape)
@@ -108,7 +108,7 @@ def every_way(script: Script, shape: Shape, controls: List[int]) -> None:
 
 def edits(script: Script) -> None:
     """Each edit of each basis, with a fresh point at halves below zero on both axes."""
-    for basis in ALL_BASES:
+    for basis in BASES_BEFORE:
         for op in edits_of(basis):
             for depth in (1, 2, 4):
                 one_edit(script, op, Shape(basis, depth, 10))
@@ -139,7 +139,7 @@ def span_below_zero(dice: Dice, shape: Shape) -> Tuple[List[int], int]:
                 return controls, span
 
 
-def undone(dice: Dice, op: int, controls: List[int], records: range) -> Tuple[List[int], int, List[int]]:
+def undone(dice: Dice, op: int, controls: List[int], records: Sequence[int]) -> Tuple[List[int], int, List[int]]:
     """The controls before an edit that works the span of these records afresh; the edit's place and record."""
     place = dice.pick(records[1:]) if op == trials.REMOVE else records[-1]
     earlier, record, later = controls[:2 * place], controls[2 * place:2 * place + 2], controls[2 * place + 2:]

@@ -2,7 +2,7 @@
 
 import trials
 from checks import CONTROL_LIMIT
-from make_trials.dice import ALL_BASES, DEEPEST_BEFORE
+from make_trials.dice import BASES_BEFORE, DEEPEST_BEFORE
 from make_trials.script import Script
 from shape import BEZIER, MOST_RECORDS, SPAN_RECORDS, Shape, point_count, spans
 
@@ -12,7 +12,7 @@ WAYS = (trials.WEIGHTS, trials.HALVING, trials.DIFFERENCES)
 def every_way(script: Script) -> None:
     """Each basis at each depth in each way, over points that held something else."""
     dice = script.dice
-    for basis in ALL_BASES:
+    for basis in BASES_BEFORE:
         for depth in range(DEEPEST_BEFORE + 1):
             shape = Shape(basis, depth, dice.count(basis, SPAN_RECORDS if depth > 4 else 8))
             spare = dice.below(4)
@@ -26,7 +26,7 @@ def every_way(script: Script) -> None:
 
 def ties(script: Script) -> None:
     """Controls so small that many points are exact halves, on both sides of zero."""
-    for basis in ALL_BASES:
+    for basis in BASES_BEFORE:
         for _ in range(6):
             shape = script.dice.shape((basis,), 3, 10)
             script.lend(2 * shape.count, 2 * point_count(shape))
@@ -41,7 +41,7 @@ def ties(script: Script) -> None:
 def longest(script: Script) -> None:
     """The most records of each basis at the deepest, in lists with no number to spare."""
     dice = script.dice
-    for basis in ALL_BASES:
+    for basis in BASES_BEFORE:
         shape = Shape(basis, DEEPEST_BEFORE, MOST_RECORDS)
         script.lend(2 * MOST_RECORDS, 2 * point_count(shape), fill=dice.junk())
         script.read(shape, dice.numbers(shape.count))
@@ -56,7 +56,7 @@ def longest(script: Script) -> None:
 def views(script: Script) -> None:
     """Every span of an outline and some beyond it; then bad shapes and short lists."""
     dice = script.dice
-    for basis in ALL_BASES:
+    for basis in BASES_BEFORE:
         shape = dice.shape((basis,), 3, 12)
         script.lend(2 * shape.count, 2 * point_count(shape) + dice.below(3))
         script.read(shape, dice.numbers(shape.count))
