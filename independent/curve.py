@@ -89,6 +89,13 @@ def cubic(basis: int, four: Sequence[int], parameter: int = ONE_HALF) -> List[Fr
     return [product(row, geometry) for row in matrix(basis, parameter)]
 
 
+@lru_cache(maxsize=1024)
+def at_steps(axis: Tuple[Fraction, ...], depth: int) -> List[Fraction]:
+    """A cubic at t = i/2^k for every i from 0 to 2^k; kept for a while, since most spans of an outline stay in an edit."""
+    steps = 2 ** depth
+    return [product(powers(Fraction(i, steps)), axis) for i in range(steps + 1)]
+
+
 def powers(t: Fraction) -> Tuple[Fraction, ...]:
     return (t ** 3, t ** 2, t, Fraction(1))
 
@@ -96,12 +103,12 @@ def powers(t: Fraction) -> Tuple[Fraction, ...]:
 def exact_outline(shape: Shape, controls: Sequence[int]) -> List[Fraction]:
     """The exact x and y of every point: number s*2^k + i is span s at t = i/2^k."""
     steps = 2 ** shape.depth
-    grid = [powers(Fraction(i, steps)) for i in range(steps + 1)]
-    cubics = [span_cubics(shape, controls, span) for span in range(spans(shape))]
+    curves = [[at_steps(tuple(axis), shape.depth) for axis in span_cubics(shape, controls, span)]
+              for span in range(spans(shape))]
     values: List[Fraction] = []
     for point in range(point_count(shape)):
-        span = min(point // steps, len(cubics) - 1)
-        values += (product(grid[point - span * steps], axis) for axis in cubics[span])
+        span = min(point // steps, len(curves) - 1)
+        values += (axis[point - span * steps] for axis in curves[span])
     return values
 
 

@@ -1,6 +1,6 @@
 """The command line, standard input to standard output: `python3 run.py` and one of
 
-list | cut TOLERANCE MOST | trials | sums | make-trials [SEED] | stray [SEED] | depths
+list | cut TOLERANCE MOST | trials | sums | make-trials [SEED] | misreadings [RECORD] | stray [SEED] | depths
 """
 
 import sys
@@ -8,12 +8,14 @@ import sys
 sys.dont_write_bytecode = True
 
 from make_trials import make_trials  # noqa: E402
+from make_trials.loop_misreadings import lines_changed  # noqa: E402
 from record_file import cut_listing, listing  # noqa: E402
 from stray import depths, report  # noqa: E402
 from sums import sums  # noqa: E402
-from trials import play  # noqa: E402
+from trials import RECORD_BYTES, play  # noqa: E402
 
-USAGE = "usage: run.py list | cut TOLERANCE MOST | trials | sums | make-trials [SEED] | stray [SEED] | depths"
+USAGE = ("usage: run.py list | cut TOLERANCE MOST | trials | sums | make-trials [SEED] | misreadings [RECORD] | "
+         "stray [SEED] | depths")
 
 
 def text(lines) -> bytes:
@@ -31,6 +33,11 @@ def strays(*seed: int) -> bytes:
     return text(report(*seed))
 
 
+def misreadings(record: int = 0) -> bytes:
+    """The trials file from this record on, by each wrong reading of request 8."""
+    return text(lines_changed(sys.stdin.buffer.read()[RECORD_BYTES * record:]))
+
+
 # Each command by its name and how many numbers follow it.
 COMMANDS = {
     ("list", 0): lambda: text(listing(sys.stdin.buffer.read())),
@@ -39,6 +46,8 @@ COMMANDS = {
     ("sums", 0): lambda: text(sums()),
     ("make-trials", 0): make_trials,
     ("make-trials", 1): seeded(make_trials),
+    ("misreadings", 0): misreadings,
+    ("misreadings", 1): misreadings,
     ("stray", 0): strays,
     ("stray", 1): seeded(strays),
     ("depths", 0): lambda: text(depths(sys.stdin.buffer.read())),

@@ -3,8 +3,8 @@
 from collections import Counter
 
 import refusal
-from make_trials import (defects, depths, drawings, edits, exact, files, halves, outlines, taut_edits, taut_files,
-                         tautness, tolerance)
+from make_trials import (defects, depths, drawings, edits, exact, files, halves, loop_edits, loop_files, loops, outlines,
+                         taut_edits, taut_files, tautness, tolerance)
 from make_trials.script import Script
 
 SEED = 0x0123_4567_89AB_CDEF
@@ -34,6 +34,15 @@ SECTIONS = (
     tautness.refusals, tautness.by_tolerance, tautness.thresholds, tautness.refusals_by_tolerance,
     taut_files.files, taut_files.mixed_files, taut_files.two_places, taut_files.damaged_files, taut_files.late_damage,
     taut_files.long_listing,
+    loops.every_way, loops.far_apart, loops.as_open_outlines, loops.figures, loops.longest, loops.longest_list,
+    loops.at_the_farthest, loops.outside, loops.views, loops.previews, loops.refusals, loops.counts,
+    loops.by_tolerance, loops.tolerances, loops.rules, loops.closing_pieces, loops.refusals_by_tolerance,
+    loop_edits.stale_places, loop_edits.stale_places_of_the_most, loop_edits.drawn_places,
+    loop_edits.drawn_places_of_the_most, loop_edits.least_and_most, loop_edits.joints, loop_edits.figures,
+    loop_edits.half_edits, loop_edits.runs, loop_edits.handed_on, loop_edits.rooms, loop_edits.deep,
+    loop_edits.deep_places,
+    loop_files.files, loop_files.depths, loop_files.mixed_files, loop_files.damaged_files, loop_files.late_damage,
+    loop_files.long_listing,
 )
 
 

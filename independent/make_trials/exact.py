@@ -17,7 +17,7 @@ from make_trials.edits import edits_of
 from make_trials.halves import divisor
 from make_trials.outlines import WAYS
 from make_trials.script import ACCEPTED, Script
-from shape import B_SPLINE, CARDINAL, SPAN_RECORDS, STRIDE, Shape, point_count
+from shape import B_SPLINE, CARDINAL, LOOP, SPAN_RECORDS, STRIDE, Shape, point_count
 
 # Coordinates are at most so many grains, or so many micrometres.
 MOST = 9
@@ -53,7 +53,7 @@ def outlines(script: Script) -> None:
 
 def told_apart(dice: Dice, shape: Shape) -> List[int]:
     """Controls whose outline has another figure than other counts, or any where every coordinate must be exact."""
-    all_exact = shape.depth == 0 and shape.basis != B_SPLINE
+    all_exact = shape.depth == 0 and shape.basis not in (B_SPLINE, LOOP)
     while True:
         controls = small(dice, shape.count) if dice.one_in(2) else grained(dice, shape, shape.count)
         values = exact_outline(shape, controls)

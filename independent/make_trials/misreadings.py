@@ -53,12 +53,15 @@ def outcome(bench: Bench, records: Sequence[bytes]) -> Tuple[List[Lines], dict]:
 @contextmanager
 def told_from(script: Script, *wrong: Misreading) -> Iterator[None]:
     """What is done within this comes out otherwise by each wrong reading."""
+    if not wrong:
+        yield
+        return
     before, done = deepcopy(script.bench), len(script.records)
     yield
     came = outcome(before, script.records[done:])
     for reading in wrong:
         with reading.taken():
-            assert outcome(before, script.records[done:]) != came
+            assert outcome(before, script.records[done:]) != came, reading
 
 
 # ---- what the parameter stands for

@@ -12,7 +12,7 @@ import refusal
 import trials
 from checks import CONTROL_LIMIT
 from curve import whole_values
-from make_trials.defects import bad_shape
+from make_trials.defects import NO_BASIS, bad_shape
 from make_trials.dice import BASES_BEFORE, DEEPEST_BEFORE, Dice
 from make_trials.exact import grained, other_counts
 from make_trials.halves import ALL_SIDES, AXES, MIRRORS, X, Y, controls_at_halves, mirrored, sides, told_apart
@@ -124,6 +124,8 @@ FOUND = {"basis": refusal.BASIS, "depth": refusal.DEPTH, "parameter": refusal.PA
          "most": refusal.CUTS, "bent": refusal.NOT_FLAT, "points": refusal.POINTS_SHORT}
 # What is tried here; the parameter is not, so that the records stay what they were.
 DEFECTS = tuple(name for name in FOUND if name != "parameter")
+# What is no basis, though the loop's is one by now.
+NO_BASIS_STILL = tuple(basis for basis in NO_BASIS if basis != LOOP)
 TOO_MUCH = (MOST_TOLERANCE + 1, 2 ** 15, 2 ** 31, 2 ** 32, 2 ** 32 + MOST_TOLERANCE, 2 ** 62, 2 ** 63 - 1)
 
 
@@ -148,13 +150,13 @@ def one_call(script: Script, shape: Shape, defects: Collection[str]) -> None:
     laid = bad_shape(dice, shape, defects)
     script.shape(laid)
     script.say(trials.CUT, tolerance, most)
-    if laid.basis != LOOP:
-        comes_to(script, first_found(laid, defects), place // 2)
+    if laid.basis in (shape.basis, *NO_BASIS_STILL):
+        see_found(script, first_found(laid, defects), place // 2)
     script.show(trials.SHOW_POINTS)
 
 
-def comes_to(script: Script, found: int, record: int) -> None:
-    """What is found first; a record outside the limits is this one.  A loop is a basis by now, and is not looked for here."""
+def see_found(script: Script, found: int, record: int) -> None:
+    """What is found first; a record outside the limits is this one."""
     assert script.last == found
     assert found == ACCEPTED or script.lines == [f"refused {found} {record if found == refusal.LIMITS else 0}"]
 
