@@ -21,7 +21,8 @@ from checks import CONTROL_LIMIT  # noqa: E402
 from curve import cubic, exact_outline, nearest, powers, product  # noqa: E402
 from drawing import NOTHING_DRAWN, State, Step, micrometres, take  # noqa: E402
 from edits import BASES_THAT_GROW, insert, move, remove  # noqa: E402
-from make_trials import defects, drawings, edits, exact, files, taut_edits, taut_files, tautness  # noqa: E402
+from make_trials import (defects, drawings, edits, exact, files, loop_edits, loop_files, loops, taut_edits,  # noqa: E402
+                         taut_files, tautness)
 from make_trials.depths import refusals as too_deep  # noqa: E402
 from make_trials.dice import BASES_BEFORE, GROWING_BEFORE, Dice  # noqa: E402
 from make_trials.halves import ALL_SIDES, AXES, X, Y, mirrored, sides  # noqa: E402
@@ -976,9 +977,10 @@ class Trials(unittest.TestCase):
     def test_refusals_change_nothing(self):
         script = WatchedScript(SEED)
         for section in (defects.any_defects, edits.rooms, drawings.states, files.files, refusals, too_deep,
-                        tautness.refusals, taut_edits.stale_points, taut_files.damaged_files):
+                        tautness.refusals, taut_edits.stale_points, taut_files.damaged_files,
+                        loops.refusals, loops.previews, loop_edits.least_and_most, loop_files.damaged_files):
             section(script)
-        self.assertGreater(sum(times for (_, number), times in script.tally.items() if number != ACCEPTED), 500)
+        self.assertGreater(sum(times for (_, number), times in script.tally.items() if number != ACCEPTED), 700)
 
     def test_bad_records(self):
         lend, show = encode(trials.LEND, (8, 2, 2, JUNK)), encode(trials.SHOW_POINTS, ())

@@ -18,8 +18,8 @@ from make_trials.halves import BELOW, MIRRORS, mirrored, sides, told_apart
 from make_trials.loop_misreadings import (ALL_CARRIED, CARRIED_BACK, ENDS_ALWAYS_FRESH, ENDS_APART, FIRST_IS_LOWEST,
                                           FIRST_STAYS, JOINT_COUNTED_ONCE, LAST_POINT_STAYS, LAST_STAYS, NO_LOOPS,
                                           NOT_CARRIED, NOT_INSERTED_AT_63, NOT_OFFERED, NOT_REMOVED_AT_FIVE,
-                                          OWN_POINTS_COUNTED, PARAMETER_LOOKED_AT, REMOVED_AT_FOUR, ROUND_ONE_LESS,
-                                          RUN_A_SPAN_LONG, RUN_CLIPPED, WHOLE_LOOP_FROM_NOUGHT, WHOLE_LOOP_NAMES_THREE)
+                                          OWN_POINTS_COUNTED, PARAMETER_LOOKED_AT, REMOVED_AT_FOUR, RUN_A_SPAN_LONG,
+                                          RUN_CLIPPED, WHOLE_LOOP_FROM_NOUGHT, WHOLE_LOOP_NAMES_THREE)
 from make_trials.loops import NO_BASIS, NO_COUNT, PARAMETERS, axis_at_a_half, wide
 from make_trials.misreadings import EDIT_LOSES, Misreading, told_from
 from make_trials.outlines import WAYS
@@ -456,19 +456,18 @@ def deep(script: Script) -> None:
 
 
 def deep_places(script: Script) -> None:
-    """Every place of the least loop or the next at some depths, over stale points; views of both ends."""
+    """Each edit of a small loop at the depths from 4 on, at both ends and between them, over stale points; views of both ends."""
     dice = script.dice
-    for depth in (2, 5, 7, DEEPEST):
-        shape = Shape(LOOP, depth, SPAN_RECORDS + depth % 2)
+    for depth in range(4, DEEPEST + 1):
+        shape = Shape(LOOP, depth, SPAN_RECORDS + 1)
         script.lend(2 * shape.count + 2, 2 * point_count(shape._replace(count=shape.count + 1)), fill=dice.between(-9, 9))
         script.read(shape, wide(dice, shape.count))
         for op in EDITS:
-            for place in places(op, shape.count):
+            for place in (0, 2, places(op, shape.count)[-1]):
                 script.shape(shape)
                 script.junk_points(1)
-                script.say(trials.SET_POINT, dice.below(2), dice.outside())
+                spoil_joint(script, op, place)
                 one_edit(script, op, place, wide(dice, 1))
                 refill(script, op, shape)
-                if depth == 2 or place == 0:
-                    view(script, 0, span_numbers(depth))
-                    view(script, script.bench.shape.count - 1, span_numbers(depth))
+            for span in (0, script.bench.shape.count - 1):
+                view(script, span, span_numbers(depth))

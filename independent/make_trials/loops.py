@@ -11,7 +11,7 @@ import trials
 from checks import CONTROL_LIMIT
 from curve import exact_outline
 from make_trials import exact, tolerance
-from make_trials.defects import CHANGE, COUNTS, EDITS, FULL, call, lend_room, spoil_controls
+from make_trials.defects import COUNTS, EDITS, FULL, call, lend_room, spoil_controls
 from make_trials.depths import TOO_DEEP, at_the_limits, comes_to, span_numbers, view
 from make_trials.dice import Dice
 from make_trials.halves import ALL_SIDES, AXES, Side, X, half_coordinate, sides, told_apart
@@ -21,7 +21,7 @@ from make_trials.loop_misreadings import (DRAWN_JOINT_ONCE, FOUR_REFUSED, FROM_T
 from make_trials.misreadings import told_from
 from make_trials.outlines import WAYS
 from make_trials.rules import (ANEW_EACH_SPAN, EXCHANGED, FIRST_CUT_FREE, LAST_CUTS_FREE, MOST_FIRST, ONLY_X, ONLY_Y,
-                               RIGHT_FIRST, ROUNDED)
+                               RIGHT, RIGHT_FIRST, ROUNDED, Walk)
 from make_trials.script import ACCEPTED, Script
 from make_trials.tolerance import ANY_CUTS, lay, lay_for, on_axis, times
 from outline import formula_points
@@ -140,7 +140,7 @@ def figures(script: Script) -> None:
 
 
 def longest(script: Script) -> None:
-    """The most records at each depth, all at the limits in every pattern of signs; the list lacks a number, or has none to spare."""
+    """The most records, all at the limits in every pattern of signs; a list that lacks a number, and then each depth."""
     dice = script.dice
     shape = Shape(LOOP, DEEPEST, MOST_RECORDS)
     controls, room = at_the_limits(dice, shape), 2 * point_count(shape)
@@ -355,6 +355,18 @@ def tolerances(script: Script) -> None:
                 assert tolerance.cut(script, allowed, ANY_CUTS).met == ACCEPTED
         for allowed in (MOST_TOLERANCE + 1, 2 ** 32, 2 ** 63 - 1):
             comes_to(script, refusal.TOLERANCE, trials.CUT, allowed, dice.pick((0, ANY_CUTS)))
+
+
+def rooms_by_tolerance(script: Script) -> None:
+    """Room for one number too few, for just enough, and for one more, which is kept."""
+    dice = script.dice
+    for count in (4, 5):
+        shape, controls = Shape(LOOP, dice.below(DEEPEST + 1), count), wide(dice, count)
+        needed = len(Walk(RIGHT, shape, controls, MOST_TOLERANCE, ANY_CUTS).values)
+        for room, number in ((needed - 1, refusal.POINTS_SHORT), (needed, ACCEPTED), (needed + 1, ACCEPTED)):
+            lay(script, shape, controls, room)
+            comes_to(script, number, trials.CUT, MOST_TOLERANCE, ANY_CUTS)
+            script.show(trials.SHOW_POINTS)
 
 
 def rules(script: Script) -> None:
