@@ -362,14 +362,16 @@ def runs(script: Script) -> None:
 
 
 def run(script: Script, shape: Shape, least: int, most: int, edits: int) -> None:
+    """At least so many edits, and until there were all counts from the least to the most."""
     dice = script.dice
     script.lend(2 * most, 2 * point_count(shape._replace(count=most)) + 3, fill=dice.junk())
     controls = dice.numbers(shape.count)
     script.read(shape._replace(parameter=0), controls)
     script.shape(shape)
     comes_to(script, ACCEPTED, dice.pick(WAYS))
-    seen = set()
-    for edit in range(edits):
+    seen = {least + 2}
+    while edits > 0 or seen != {*range(least, most + 1)}:
+        edits -= 1
         count = script.bench.shape.count
         op = dice.pick(EDITS if least < count < most else (trials.MOVE, trials.REMOVE, trials.REMOVE) if count == most
                        else (trials.MOVE, trials.INSERT, trials.INSERT))
@@ -379,7 +381,6 @@ def run(script: Script, shape: Shape, least: int, most: int, edits: int) -> None
             refused_between(script, most)
         if dice.one_in(10):
             script.show(trials.SHOW_POINTS)
-    assert seen == {*range(least, most + 1)}
     script.show(trials.SHOW_CONTROLS, trials.SHOW_POINTS)
     drawn_again(script)
 

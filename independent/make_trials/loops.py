@@ -98,7 +98,7 @@ def one_at_halves(script: Script, shape: Shape, controls: List[int]) -> Set[Side
         assert script.bench.points[len(values) - 2:len(values)] == script.bench.points[:2]
         for axis in AXES:
             assert (axis, False) not in sides(values) or told_apart(values[axis::2], script.bench.points[axis::2])
-    show_ends(script, shape)
+        show_ends(script, shape)
     return sides(values)
 
 
@@ -112,7 +112,7 @@ def far_apart(script: Script) -> None:
             script.junk_points(1)
             with told_from(script, ROUND_ONE_LESS, STOPPED_AT_THE_END, FROM_THE_RECORD_BEFORE, NO_LOOPS):
                 comes_to(script, ACCEPTED, way)
-        script.show(trials.SHOW_POINTS)
+            script.show(trials.SHOW_POINTS)
 
 
 def as_open_outlines(script: Script) -> None:
@@ -155,8 +155,9 @@ def longest(script: Script) -> None:
             script.say(trials.SET_POINT, dice.pick((0, 1, 2 ** depth * 128, 2 ** depth * 128 + 1)), dice.outside())
             with told_from(script, SIXTY_ONE_AT_MOST):
                 comes_to(script, ACCEPTED, way)
-        for span in (0, dice.between(1, MOST_RECORDS - 5), *range(MOST_RECORDS - 3, MOST_RECORDS)):
-            if depth < FINEST or span in (0, MOST_RECORDS - 1):
+            view(script, MOST_RECORDS - 1, span_numbers(depth))
+        for span in (0, dice.between(1, MOST_RECORDS - 5), MOST_RECORDS - 3, MOST_RECORDS - 2):
+            if depth < FINEST or span == 0:
                 view(script, span, span_numbers(depth))
         view(script, MOST_RECORDS, 0)
 
