@@ -8,7 +8,7 @@ import struct
 from functools import partial
 from pathlib import Path
 
-BEZIER, B_SPLINE, CARDINAL, HERMITE = 1, 2, 3, 4
+BEZIER, B_SPLINE, CARDINAL, HERMITE, LOOP = 1, 2, 3, 4, 5
 
 # Distance of the inner controls along the tangents of a quarter circle, as a part of its radius.
 QUARTER = 0.5523
@@ -129,6 +129,34 @@ def crest_rail():
     return B_SPLINE, 4, around + around[:3]
 
 
+def mirror_frame():
+    """The frame of a mirror, 600 mm by 800 mm: a crest over a long oval, and a drop under it.
+
+    The records run round, the first at the middle of the crest; none comes again.
+    """
+    right = [(78, 388), (116, 334), (194, 338),                        # crest, and the hollow beside it
+             (266, 276), (296, 160), (303, 20), (292, -124), (250, -248),
+             (172, -324), (88, -340), (44, -382)]                      # lower hollow, into the drop
+    return LOOP, 4, [(0, 411), *right, (0, -404), *mirrored(right)]
+
+
+def drawer_handle():
+    """A bow handle, 128 mm by 34 mm, as it stands on the drawer's front: over the bow, round a foot, and back under it.
+
+    Three records of a foot lie in one line, so that it sits flat at its middle.
+    """
+    right = [(20, 34), (46, 32), (63.5, 20),          # bow
+             (65.3, 0), (55.6, 0), (45.9, 0),         # foot
+             (40, 20), (14, 25)]                      # under the bow
+    return LOOP, 4, [*mirrored(right[:1]), *right, *mirrored(right[1:])]
+
+
+def drawer_handle_edited():
+    """The same handle with a swell in the middle of its bow: one record put in at place 1."""
+    basis, depth, records = drawer_handle()
+    return basis, depth, [records[0], (0, 40), *records[1:]]
+
+
 def stair_string():
     """The string of a stair, laid out flat: the board that carries the treads, 13 risings of 200 mm and 12 goings of 240 mm.
 
@@ -158,7 +186,10 @@ PIECES = {
     "cabriole-leg": cabriole_leg,
     **{f"chair-back-{parameter}": partial(chair_back, parameter) for parameter in (16, 32, 48, 64)},
     "crest-rail": crest_rail,
+    "drawer-handle": drawer_handle,
+    "drawer-handle-edited": drawer_handle_edited,
     "left-door": left_door,
+    "mirror-frame": mirror_frame,
     "right-door": right_door,
     "scalloped-apron": scalloped_apron,
     "stair-string": stair_string,
