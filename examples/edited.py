@@ -106,8 +106,8 @@ def diamond(x, y):
 def drawn(outline, place, marked, looks, gone=()):
     """One loop: its wood, what is gone, its spans with their looks and numbers, its records, one marked, and its first and last point."""
     rings = [place(*record) for record in outline.records]
-    yield line([*rings, rings[0]], POLYGON)
     yield line((place(*point) for point in outline.points), 'stroke="none"', WOOD)
+    yield line([*rings, rings[0]], POLYGON)
     for points in gone:
         yield line((place(*point) for point in points), GONE)
     for span, look in enumerate(looks):
