@@ -14,7 +14,7 @@ use Rattle.whole.proofs.Remainder.{remainder-minus}
 use Rattle.whole.proofs.Ring.{Same, ev, _⊕_, _⊖_, _⊗_, solve, minus}
 use Rattle.curve.specs.declared.Four.{Four}
 use Rattle.curve.specs.declared.Basis.{Basis}
-use Rattle.curve.specs.declared.Basis.the-variants.{Bezier, BSpline, Cardinal, Hermite}
+use Rattle.curve.specs.declared.Basis.the-variants.{Bezier, BSpline, Cardinal, Hermite, Loop}
 use Rattle.curve.specs.Bend.{bend, firstBend, lastBend}
 use Rattle.curve.specs.Four.{four}
 use Rattle.curve.specs.Span.{coordinate, divisor, recordsFrom, records, wholeControls}
@@ -82,6 +82,7 @@ module _ (q : Four) where
   controls-turned BSpline = turned (wholeControls BSpline) q (alike (valuesWith BSpline q (pos 0) (pos 0)) (wholeᵉ BSpline (fromZeroᵉ p)) (fromZeroᵉ (wholeᵉ BSpline p)) tt tt tt tt)
   controls-turned (Cardinal c) = turned (wholeControls (Cardinal c)) q (alike (valuesWith (Cardinal c) q (pos 0) (pos 0)) (wholeᵉ (Cardinal c) (fromZeroᵉ p)) (fromZeroᵉ (wholeᵉ (Cardinal c) p)) tt tt tt tt)
   controls-turned Hermite = turned (wholeControls Hermite) q (alike (valuesWith Hermite q (pos 0) (pos 0)) (wholeᵉ Hermite (fromZeroᵉ p)) (fromZeroᵉ (wholeᵉ Hermite p)) tt tt tt tt)
+  controls-turned (Loop n) = turned (wholeControls (Loop n)) q (alike (valuesWith (Loop n) q (pos 0) (pos 0)) (wholeᵉ (Loop n) (fromZeroᵉ p)) (fromZeroᵉ (wholeᵉ (Loop n) p)) tt tt tt tt)
 
   -- its second differences are negated, and keep their sizes
   size-turned : (f : Four → ℤ) → f (fromZero q) ≡ pos 0 -ℤ f q → natAbs (f (negated q)) ≡ natAbs (f q)

@@ -1,10 +1,10 @@
 -- An edit of a mirrored outline, with the new record mirrored, leaves the mirrored controls and points and answers the same, refusals too.
-use mathlib.Core.Path.{_≡_, refl, ap, _∙_}
+use mathlib.Core.Path.{_≡_, refl, sym, ap, _∙_}
 use mathlib.Core.Bool.{Bool, true, false, cond, _||_}
 use mathlib.Core.Logic.{⊎-elim}
 use mathlib.Core.List.{List, _∷_, _++_}
 use Prim.Native.Nat.{ℕ, _+_, _*_, _-_, _/_, _%_, _≤_, _<_, min, max}
-use native.Mathlib.Nat.{div-lt-iff-lt-mul}
+use native.Mathlib.Nat.{div-lt-iff-lt-mul, mul-le-mul-right, one-mul}
 use native.Mathlib.Omega.{arith}
 use borrow.Author.Tests.{ltb-false, eqb-false}
 use lib.Dec.{ltb, eqb}
@@ -16,43 +16,49 @@ use Rattle.curve.specs.declared.Basis.{Basis}
 use Rattle.curve.specs.Limits.{limit}
 use Rattle.shape.specs.declared.Shape.{Shape}
 use Rattle.shape.specs.declared.Plan.{Plan}
+use Rattle.shape.specs.Inner.{RunsRound}
+use Rattle.shape.specs.Shape.{pointsOf}
 use Rattle.shape.specs.Refusals.{row, judge, shapeRows, pointRows, planOf}
 use Rattle.shape.proofs.Tests.{either, true-is-not-false}
-use Rattle.spans.specs.Numbers.{number, perSpan}
+use Rattle.spans.specs.Numbers.{number, remainderOf, nought, perSpan}
 use Rattle.spans.specs.Filled.{filled}
+use Rattle.spans.proofs.Totals.{total-same}
 use Rattle.outline.specs.Outline.{points}
+use Rattle.asked.specs.declared.Run.{Run}
 use Rattle.asked.specs.declared.Edit.{Edit}
 use Rattle.asked.specs.declared.Edit.the-variants.{Move, Insert, Remove}
-use Rattle.asked.specs.Edits.{countAfter, newOutside, choose, controlAt, asked, runOf, carriedFrom, isFresh, pointAt, Run, freshNumbers, exactFresh}
-use Rattle.asked.proofs.Run.{bounds-fresh}
+use Rattle.asked.specs.Edits.{countAfter, newOutside, choose, controlAt, asked, runOf, inRun, carriedFrom, isFresh, pointAt, exactFresh}
+use Rattle.asked.proofs.Runs.{inserted-own}
+use Rattle.asked.proofs.Fresh.{stale-own}
 use Rattle.edit.specs.declared.Edited.the-variants.{Done, Refused}
 use Rattle.edit.specs.Reading.{shapeAfter, askRows, change, controlsAfter, accepts, edits}
 use Rattle.edit.proofs.Exactly.{callRows}
 use Rattle.sequences.proofs.Redrawn.{good-then}
 use Rattle.mirror.specs.Mirror.{Axis, mirrorX, mirrorY, across, mirror, mirrorEdit, mirrorEdited}
 use Rattle.mirror.proofs.Lists.{length-mirrored, mirrored-rule, across-beyond, mirror-at, controlRows-mirror, judge-mirror}
-use Rattle.mirror.proofs.Points.{number-mirror, exact-mirror}
+use Rattle.mirror.proofs.Points.{number-mirror, nought-mirror}
 
 -- what is carried comes from a number on the same axis: a span has an even number of them, and an insert carries nothing into the first span
 carried-axis :
     (e : Edit) (p : Plan) (j q : ℕ)
     → 1 ≤ p .spans
-    → isFresh (runOf e p j) (p .depth) q ≡ false
+    → RunsRound (p .basis) (p .spans)
+    → isFresh (runOf e p j) p q ≡ false
     → ltb (min (q / perSpan (p .depth)) (p .spans - 1)) j ≡ false
     → carriedFrom e (perSpan (p .depth)) q % 2 ≡ q % 2
-carried-axis (Move x y) p j q some stale from = refl
-carried-axis (Insert x y) p j q some stale from =
+carried-axis (Move x y) p j q some round stale from = refl
+carried-axis (Insert x y) p j q some round stale from =
     let w = perSpan (p .depth) in
     ⊎-elim
     (λ (first : q < w).
     let none : q / w < 1 = div-lt-iff-lt-mul {k = w} {x = q} {y = 1} (omega (arith, pow-pos (p .depth))) .1 (omega arith) in
     let start : j ≡ 0 = omega (arith, ltb-false (min (q / w) (p .spans - 1)) j from) in
-    let low : j - 3 ≡ 0 = omega arith in
-    let high : min (j + 1) (p .spans) ≡ 1 = omega arith in
-    absurd (true-is-not-false (bounds-fresh (Insert x y) p j (p .depth) q (omega arith) (omega (arith, ap (λ (n : ℕ). n * w) low)) (omega (arith, ap (λ (n : ℕ). n * w) high))) stale))
+    let own : min (q / w) (p .spans - 1) ≡ j = omega arith in
+    let within : q < p .spans * w + 2 = omega (arith, one-mul w, mul-le-mul-right {m = 1} {n = p .spans} w some) in
+    absurd (true-is-not-false (inserted-own x y p j round (omega arith)) (ap (inRun (runOf (Insert x y) p j) (p .spans)) (sym own) ∙ stale-own (runOf (Insert x y) p j) p q within some stale)))
     (λ (later : w ≤ q). omega arith)
     (either q w)
-carried-axis Remove p j q some stale from = omega arith
+carried-axis Remove p j q some round stale from = omega arith
 
 module _ (axis : Axis) where
   -- ---- what does not look at the new record is the same for the mirrored edit
@@ -121,37 +127,39 @@ module _ (axis : Axis) where
 
   -- ---- the points
 
-  point-mirror : (e : Edit) (p : Plan) (j : ℕ) (controls lent : List ℤ) → 1 ≤ p .spans
+  point-mirror : (e : Edit) (p : Plan) (j : ℕ) (controls lent : List ℤ) → 1 ≤ p .spans → RunsRound (p .basis) (p .spans)
       → (q : ℕ) → pointAt (mirrorEdit axis e) p j (mirror axis controls) (mirror axis lent) q ≡ across negℤ axis q (pointAt e p j controls lent q)
   unfolding pointAt
-  point-mirror e p j controls lent some q =
+  point-mirror e p j controls lent some round q =
       let k = p .depth in
       let w = perSpan k in
       let before = ltb (min (q / w) (p .spans - 1)) j in
       (λ i.
-      cond (isFresh (same-run e p j i) k q) (number p (mirror axis controls) q)
+      cond (isFresh (same-run e p j i) p q) (number p (mirror axis controls) q)
       (cond before (getD (mirror axis lent) q (pos 0)) (getD (mirror axis lent) (same-carried e w q i) (pos 0))))
-      ∙ cond-mirror q (isFresh (runOf e p j) k q) _ _ _ _ (λ _. number-mirror axis p controls q)
+      ∙ cond-mirror q (isFresh (runOf e p j) p q) _ _ _ _ (λ _. number-mirror axis p controls q)
       (λ stale.
-      cond-mirror q before _ _ _ _ (λ _. mirror-at axis lent q q refl) (λ from. mirror-at axis lent (carriedFrom e w q) q (carried-axis e p j q some stale from)))
+      cond-mirror q before _ _ _ _ (λ _. mirror-at axis lent q q refl) (λ from. mirror-at axis lent (carriedFrom e w q) q (carried-axis e p j q some round stale from)))
 
   -- ---- the mirrored edit
 
   fresh-mirror : (run : Run) (p : Plan) (controls : List ℤ) → exactFresh run p (mirror axis controls) ≡ exactFresh run p controls
   unfolding exactFresh
-  fresh-mirror run p controls = exact-mirror axis p controls (run .first * perSpan (p .depth)) (freshNumbers run (p .depth))
+  fresh-mirror run p controls =
+      total-same (λ q. cond (isFresh run p q) (nought (remainderOf p (mirror axis controls) q)) 0) (λ q. cond (isFresh run p q) (nought (remainderOf p controls q)) 0) 0 (2 * pointsOf (p .depth) (p .spans))
+      (λ q _ _. ap (λ (n : ℕ). cond (isFresh run p q) n 0) (nought-mirror axis p controls q))
 
-  accepts-mirror : (e : Edit) (s : Shape) (j : ℕ) (controls lent : List ℤ) → 1 ≤ planOf (shapeAfter e s) .spans
+  accepts-mirror : (e : Edit) (s : Shape) (j : ℕ) (controls lent : List ℤ) → 1 ≤ planOf (shapeAfter e s) .spans → RunsRound (planOf (shapeAfter e s) .basis) (planOf (shapeAfter e s) .spans)
       → accepts (mirrorEdit axis e) s (planOf (shapeAfter (mirrorEdit axis e) s)) j (mirror axis controls) (mirror axis lent)
       ≡ mirrorEdited axis (accepts e s (planOf (shapeAfter e s)) j controls lent)
-  accepts-mirror e s j controls lent some =
+  accepts-mirror e s j controls lent some round =
       let p = planOf (shapeAfter e s) in
       let new = controlsAfter e s j controls in
       ap (λ r. accepts (mirrorEdit axis e) s (planOf r) j (mirror axis controls) (mirror axis lent)) (same-shape e s)
       ∙ (λ i.
       outcome (Done (record { shape = same-shape e s i; first = same-run e p j i .first; fresh = same-run e p j i .count; exact = exactFresh (same-run e p j i) p (controls-mirror e s j controls i) }))
       (controls-mirror e s j controls i, filled (pointAt (mirrorEdit axis e) p j (controls-mirror e s j controls i) (mirror axis lent)) 0 (2 * points p) (mirror axis lent)))
-      ∙ (let rule = mirrored-rule negℤ axis lent (pointAt e p j new lent) (pointAt (mirrorEdit axis e) p j (mirror axis new) (mirror axis lent)) 0 (2 * points p) (point-mirror e p j new lent some) in
+      ∙ (let rule = mirrored-rule negℤ axis lent (pointAt e p j new lent) (pointAt (mirrorEdit axis e) p j (mirror axis new) (mirror axis lent)) 0 (2 * points p) (point-mirror e p j new lent some round) in
       λ i. outcome (Done (change e s p j (fresh-mirror (runOf e p j) p new i))) (mirror axis new, rule i))
 
   pub mirror-edits :
@@ -162,4 +170,4 @@ module _ (axis : Axis) where
       let there = accepts (mirrorEdit axis e) s (planOf (shapeAfter (mirrorEdit axis e) s)) j (mirror axis controls) (mirror axis lent) in
       ap (λ rows. judge rows (refuses Refused (mirror axis controls, mirror axis lent)) there) (editRows-mirror e s j controls lent)
       ∙ judge-mirror (mirrorEdited axis) (callRows e s j controls lent) (refuses Refused (controls, lent)) (accepts e s (planOf (shapeAfter e s)) j controls lent) there
-      (λ none. accepts-mirror e s j controls lent (good-then e s j controls lent none .spans-least))
+      (λ none. let good = good-then e s j controls lent none in accepts-mirror e s j controls lent (good .spans-least) (good .round))

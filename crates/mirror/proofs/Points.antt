@@ -9,7 +9,7 @@ use Rattle.whole.proofs.Nearest.{nearest-minus}
 use Rattle.whole.proofs.Remainder.{remainder-minus}
 use Rattle.curve.specs.declared.Four.{Four}
 use Rattle.curve.specs.declared.Basis.{Basis}
-use Rattle.curve.specs.declared.Basis.the-variants.{Bezier, BSpline, Cardinal, Hermite}
+use Rattle.curve.specs.declared.Basis.the-variants.{Bezier, BSpline, Cardinal, Hermite, Loop}
 use Rattle.curve.specs.Four.{four, dot}
 use Rattle.curve.specs.Published.{weights}
 use Rattle.curve.specs.Tab.{tab}
@@ -34,6 +34,7 @@ sum-from-zero Bezier q x y = solve (valuesWith Bezier q x y) (weightedᵉ (whole
 sum-from-zero BSpline q x y = solve (valuesWith BSpline q x y) (weightedᵉ (wholeᵉ BSpline (fromZeroᵉ p)) i h) (num 0 ⊖ weightedᵉ (wholeᵉ BSpline p) i h) tt
 sum-from-zero (Cardinal c) q x y = solve (valuesWith (Cardinal c) q x y) (weightedᵉ (wholeᵉ (Cardinal c) (fromZeroᵉ p)) i h) (num 0 ⊖ weightedᵉ (wholeᵉ (Cardinal c) p) i h) tt
 sum-from-zero Hermite q x y = solve (valuesWith Hermite q x y) (weightedᵉ (wholeᵉ Hermite (fromZeroᵉ p)) i h) (num 0 ⊖ weightedᵉ (wholeᵉ Hermite p) i h) tt
+sum-from-zero (Loop n) q x y = solve (valuesWith (Loop n) q x y) (weightedᵉ (wholeᵉ (Loop n) (fromZeroᵉ p)) i h) (num 0 ⊖ weightedᵉ (wholeᵉ (Loop n) p) i h) tt
 
 plain-from-zero : (q : Four) (x y : ℤ) → weighted (fromZero q) x y ≡ pos 0 -ℤ weighted q x y
 unfolding weighted weights dot
@@ -90,7 +91,7 @@ module _ (axis : Axis) (p : Plan) (controls : List ℤ) where
 
   -- ---- so as many are exact
 
-  nought-mirror : (q : ℕ) → nought (remainderOf p (mirror axis controls) q) ≡ nought (remainderOf p controls q)
+  pub nought-mirror : (q : ℕ) → nought (remainderOf p (mirror axis controls) q) ≡ nought (remainderOf p controls q)
   nought-mirror q =
       let z = remainderOf p controls q in
       ap nought (remainder-mirror q) ∙ across-cases negℤ axis (λ g. nought (g z) ≡ nought z) refl (nought-minus z) q
