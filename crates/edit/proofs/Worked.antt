@@ -92,6 +92,10 @@ module _ (run : Run) (p : Plan) (c l : List ℤ) (room : p .spans * perSpan (p .
       refreshed 0 l (sym (total-none counts 0 (m * w + 2) (λ i _ _. stale-counts i (none-fresh run p i none))))
       (is-filled wanted (m * w + 2) l l room (λ i. length l) (λ i _. sym (stale-wanted i (none-fresh run p i none))) (λ i _ j. getD l i (pos 0)))
 
+  pub none-exact : run .count ≡ 0 → exactFresh run p c ≡ 0
+  unfolding refreshes
+  none-exact none = sym (ap (λ (o : Outcome ℕ (List ℤ)). o .answer) (none-refreshed none))
+
   pub stretch-refreshed : (a z : ℕ) → Stretch run p a z → fills p c (a * w) ((z - a) * w + 2) l ≡ refreshes run p c l
   stretch-refreshed a z s =
       let end = stretch-end a z w (s .low) in
@@ -115,6 +119,11 @@ module _ (run : Run) (p : Plan) (c l : List ℤ) (room : p .spans * perSpan (p .
       (either i (z * w + 2)))
       (either i (a * w)))
       (λ i high. past-filled (number p c) (a * w) ((z - a) * w + 2) l i (omega (arith, end, within))))
+
+  -- so its exact ones are those of the stretch
+  pub stretch-exact : (a z : ℕ) → Stretch run p a z → exactFresh run p c ≡ exactIn p c (a * w) ((z - a) * w + 2)
+  unfolding refreshes
+  stretch-exact a z s = sym (ap (λ (o : Outcome ℕ (List ℤ)). o .answer) (stretch-refreshed a z s))
 
   -- two stretches, the later one first
   pub ends-refreshed : (z a : ℕ) → Ends run p z a → fillsEnds p c a z l ≡ refreshes run p c l

@@ -21,6 +21,8 @@ pub mod Listings
 pub mod Depths
 -- Tauter cardinal curves (document 02, request 7):
 pub mod Parameters
+-- Closed loops (document 02, request 8):
+pub mod Loops
 -- Refusal numbers:
 pub mod Refusals
 pub mod Lists

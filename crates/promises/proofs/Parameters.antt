@@ -128,7 +128,7 @@ module _ (pl : Plan) (its : pl .basis ≡ Cardinal 32) (controls : List ℤ) whe
 half-basis : (s : Shape) → s .basis ≡ cardinal → (s .parameter ≡ 0) ⊎ (s .parameter ≡ 32) → planOf s .basis ≡ Cardinal 32
 unfolding planOf basisOf sixtyFourths
 half-basis s three half =
-    ⊎-elim (λ (none : s .parameter ≡ 0). λ x. basisOf (three x) (none x)) (λ (some : s .parameter ≡ 32). λ x. basisOf (three x) (some x)) half
+    ⊎-elim (λ (none : s .parameter ≡ 0). λ x. basisOf (three x) (none x) (s .count)) (λ (some : s .parameter ≡ 32). λ x. basisOf (three x) (some x) (s .count)) half
 
 -- After an accepted drawing of it, each coordinate is document 01's, and so is the figure of exact ones.
 pub drawn-at-half : (s : Shape) → s .basis ≡ cardinal → (s .parameter ≡ 0) ⊎ (s .parameter ≡ 32)
@@ -147,9 +147,9 @@ drawn-at-half s three half controls lent fs held answered =
 
 -- ---- parameters that make no difference
 
--- two of a shape that make the same basis, and that row 24 refuses both or neither
+-- two of a shape that make the same basis, whatever its count, and that row 24 refuses both or neither
 pub record Alike (s : Shape) (c d : ℕ) : Type 0 where
-  pub basis : basisOf (s .basis) c ≡ basisOf (s .basis) d
+  pub basis : (n : ℕ) → basisOf (s .basis) c n ≡ basisOf (s .basis) d n
   pub row : parameterRow (withParameter c s) ≡ parameterRow (withParameter d s)
 
 -- 0 and 32
@@ -157,12 +157,13 @@ pub zero-is-half : (s : Shape) → Alike s 0 32
 unfolding basisOf sixtyFourths
 zero-is-half s = record { basis = same (s .basis); row = ap (λ t. row t 24 0) (tests (s .basis)) }
   where
-    same : (n : ℕ) → basisOf n 0 ≡ basisOf n 32
-    same zero = refl
-    same (suc zero) = refl
-    same (suc (suc zero)) = refl
-    same (suc (suc (suc zero))) = refl
-    same (suc (suc (suc (suc n)))) = refl
+    same : (b n : ℕ) → basisOf b 0 n ≡ basisOf b 32 n
+    same zero n = refl
+    same (suc zero) n = refl
+    same (suc (suc zero)) n = refl
+    same (suc (suc (suc zero))) n = refl
+    same (suc (suc (suc (suc zero)))) n = refl
+    same (suc (suc (suc (suc (suc b))))) n = refl
 
     tests : (n : ℕ) → (eqb n cardinal && ltb mostParameter 0) ≡ (eqb n cardinal && ltb mostParameter 32)
     tests n = refl
@@ -172,14 +173,15 @@ pub not-looked-at : (s : Shape) → (s .basis ≡ cardinal → ⊥) → (c d : �
 unfolding basisOf sixtyFourths
 not-looked-at s other c d =
     let test : (e : ℕ) → (eqb (s .basis) cardinal && ltb mostParameter e) ≡ false = λ e. simp (ne-eqb (s .basis) cardinal other) in
-    record { basis = same (s .basis) other; row = ap (λ t. row t 24 0) (test c ∙ sym (test d)) }
+    record { basis = λ n. same (s .basis) n other; row = ap (λ t. row t 24 0) (test c ∙ sym (test d)) }
   where
-    same : (n : ℕ) → (n ≡ cardinal → ⊥) → basisOf n c ≡ basisOf n d
-    same zero apart = refl
-    same (suc zero) apart = refl
-    same (suc (suc zero)) apart = refl
-    same (suc (suc (suc zero))) apart = absurd (apart refl)
-    same (suc (suc (suc (suc n)))) apart = refl
+    same : (b n : ℕ) → (b ≡ cardinal → ⊥) → basisOf b c n ≡ basisOf b d n
+    same zero n apart = refl
+    same (suc zero) n apart = refl
+    same (suc (suc zero)) n apart = refl
+    same (suc (suc (suc zero))) n apart = absurd (apart refl)
+    same (suc (suc (suc (suc zero)))) n apart = refl
+    same (suc (suc (suc (suc (suc b))))) n apart = refl
 
 -- what is made of a judged answer is judged alike
 judged : {A B : Type 0} (g : A → B) (rows : List Row) (f : Refusal → A) (a : A) → g (judge rows f a) ≡ judge rows (λ r. g (f r)) (g a)
@@ -201,10 +203,10 @@ module _ (s : Shape) (c d : ℕ) (alike : Alike s c d) where
 
   plans : planOf one ≡ planOf other
   unfolding planOf
-  plans = λ x. record { basis = alike .basis x; depth = s .depth; spans = spansOf (alike .basis x) (s .count) }
+  plans = λ x. record { basis = alike .basis (s .count) x; depth = s .depth; spans = spansOf (alike .basis (s .count) x) (s .count) }
 
   rows : shapeRows one ≡ shapeRows other
-  rows = λ x. basisRow s ∷ depthRow s ∷ alike .row x ∷ row (not (allowed (alike .basis x) (s .count))) 3 0 ∷ []
+  rows = λ x. basisRow s ∷ depthRow s ∷ alike .row x ∷ row (not (allowed (alike .basis (s .count) x) (s .count))) 3 0 ∷ []
 
   pub draws-alike : (controls lent : List ℤ) → draws one controls lent ≡ draws other controls lent
   unfolding draws
@@ -230,7 +232,7 @@ module _ (s : Shape) (c d : ℕ) (alike : Alike s c d) where
   unfolding edits planOf
   edits-alike e j controls lent =
       let after = shapeAfter e s in
-      let nexts : planOf (withParameter c after) ≡ planOf (withParameter d after) = λ x. record { basis = alike .basis x; depth = s .depth; spans = spansOf (alike .basis x) (after .count) } in
+      let nexts : planOf (withParameter c after) ≡ planOf (withParameter d after) = λ x. record { basis = alike .basis (after .count) x; depth = s .depth; spans = spansOf (alike .basis (after .count) x) (after .count) } in
       let f : Refusal → Outcome Edited (List ℤ × List ℤ) = λ r. outcome (edited.Refused r) (controls, lent) in
       let came : Shape → Outcome Edited (List ℤ × List ℤ) = λ t. reading.accepts e t (planOf (shapeAfter e t)) j controls lent in
       judged butParameter (shapeRows one ++ reading.editRows e one (planOf one) (planOf (shapeAfter e one)) j controls lent) f (came one)

@@ -14,7 +14,9 @@ use Rattle.outline.specs.Cases as outline-cases
 use Rattle.doubles.specs.Exact.{dyadic}
 use Rattle.doubles.specs.Number.{measure}
 use Rattle.doubles.specs.Number as number
+use Rattle.shape.specs.declared.Shape.{Shape}
 use Rattle.shape.specs.Exactly as answer
+use Rattle.asked.specs.declared.Edit.the-variants.{Move, Insert, Remove}
 use Rattle.edit.specs.declared.Edited.{Edited}
 use Rattle.edit.specs.declared.Edited.the-variants.{Done}
 use Rattle.edit.specs.Cases as edit
@@ -69,3 +71,87 @@ cases = map ofDrawing outline-cases.cases ++ (start ∷ map ofEdit edit.cases ++
 -- Document 02, request 7: cardinal spans at other parameters, the farthest point of any among them.
 abbrev pub tauter : List Case
 tauter = map ofDrawing outline-cases.tauter
+
+-- Document 02, request 8: a loop of four at depth 1; and the loop of 0, 6, 12, 18, 24, 12 at depth 0, with an insert and a move whose runs go round its end and a remove whose run ends with it. The lent
+-- lists have room for one record and one point more, and hold -1 there; y is 0 throughout.
+abbrev pub loopOf : ℕ → ℕ → Shape
+loopOf k n = record { basis = 5; depth = k; count = n; parameter = 0 }
+
+abbrev pub square : Case
+square =
+    record {
+      given = toldDrawn (draws (loopOf 1 4) (edit.flat (0 ∷ 12 ∷ 24 ∷ 12 ∷ [])) (replicate 20 (neg 1)));
+      paper = toldDrawn (outcome (drawing.Done (record { points = 9; exact = 14 })) (edit.flat (12 ∷ 18 ∷ 20 ∷ 18 ∷ 12 ∷ 7 ∷ 4 ∷ 7 ∷ 12 ∷ []) ++ edit.free));
+    }
+
+abbrev pub loopControls : List ℤ
+loopControls = edit.flat (0 ∷ 6 ∷ 12 ∷ 18 ∷ 24 ∷ 12 ∷ []) ++ edit.free
+
+abbrev pub loopHeld : List ℤ
+loopHeld = edit.flat (6 ∷ 12 ∷ 18 ∷ 21 ∷ 12 ∷ 3 ∷ 6 ∷ []) ++ edit.free
+
+abbrev pub six : Case
+six =
+    record {
+      given = toldDrawn (draws (loopOf 0 6) loopControls (replicate 16 (neg 1)));
+      paper = toldDrawn (outcome (drawing.Done (record { points = 7; exact = 14 })) loopHeld);
+    }
+
+-- An edit of it and its place; the count, the first of the run going round, its spans and how many of their coordinates are exact; and what the lent lists then hold.
+abbrev pub ofLoop : edit.Case → Case
+ofLoop c =
+    record {
+      given = told (edits (c .edit) (loopOf 0 6) (c .place) loopControls loopHeld);
+      paper = told (outcome (Done (record { shape = loopOf 0 (c .count); first = c .first; fresh = c .fresh; exact = c .exact })) (c .controls, c .held));
+    }
+
+abbrev pub inserted : edit.Case
+inserted =
+    record {
+      edit = Insert (pos 30) (pos 0);
+      place = 0;
+      count = 7;
+      first = 4;
+      fresh = 4;
+      exact = 12;
+      controls = edit.flat (30 ∷ 0 ∷ 6 ∷ 12 ∷ 18 ∷ 24 ∷ 12 ∷ []);
+      held = edit.flat (6 ∷ 6 ∷ 12 ∷ 18 ∷ 21 ∷ 17 ∷ 22 ∷ 6 ∷ []);
+    }
+
+-- The seventh point is past the last one then, and still 6; so is the sixth record, still 12.
+abbrev pub removed : edit.Case
+removed =
+    record {
+      edit = Remove;
+      place = 5;
+      count = 5;
+      first = 2;
+      fresh = 3;
+      exact = 10;
+      controls = edit.flat (0 ∷ 6 ∷ 12 ∷ 18 ∷ 24 ∷ 12 ∷ []) ++ edit.free;
+      held = edit.flat (6 ∷ 12 ∷ 18 ∷ 19 ∷ 5 ∷ 6 ∷ 6 ∷ []) ++ edit.free;
+    }
+
+abbrev pub moved : edit.Case
+moved =
+    record {
+      edit = Move (pos 6) (pos 0);
+      place = 0;
+      count = 6;
+      first = 3;
+      fresh = 4;
+      exact = 12;
+      controls = edit.flat (6 ∷ 6 ∷ 12 ∷ 18 ∷ 24 ∷ 12 ∷ []) ++ edit.free;
+      held = edit.flat (7 ∷ 12 ∷ 18 ∷ 21 ∷ 13 ∷ 7 ∷ 7 ∷ []) ++ edit.free;
+    }
+
+-- A move in a loop of four, at its last record: all four spans, from the first. The lent points hold -1 throughout.
+abbrev pub whole : Case
+whole =
+    record {
+      given = told (edits (Move (pos 36) (pos 0)) (loopOf 0 4) 3 (edit.flat (0 ∷ 12 ∷ 24 ∷ 12 ∷ [])) (replicate 10 (neg 1)));
+      paper = told (outcome (Done (record { shape = loopOf 0 4; first = 0; fresh = 4; exact = 10 })) (edit.flat (0 ∷ 12 ∷ 24 ∷ 36 ∷ []), edit.flat (12 ∷ 24 ∷ 28 ∷ 8 ∷ 12 ∷ [])));
+    }
+
+abbrev pub loops : List Case
+loops = square ∷ six ∷ whole ∷ map ofLoop (inserted ∷ removed ∷ moved ∷ [])

@@ -5,4 +5,5 @@ pub mod Stray
 pub mod Listings
 pub mod Depths
 pub mod Parameters
+pub mod Loops
 pub mod Sequences

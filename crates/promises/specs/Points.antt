@@ -42,7 +42,11 @@ publishedNumber p controls q = nearest (publishedValue p controls q) (publishedD
 abbrev pub isWhole : ℤ → ℕ → Bool
 isWhole z d = eqb (natAbs z % d) 0
 
+-- 1 where the published value of number q is whole, and 0 where it is not.
+abbrev pub wholeAt : Plan → List ℤ → ℕ → ℕ
+wholeAt p controls q = cond (isWhole (publishedValue p controls q) (publishedDivisor (p .basis) (p .depth))) 1 0
+
 -- How many of the published values of n numbers, from number q on.
 unfoldable pub wholeValues : Plan → List ℤ → ℕ → ℕ → ℕ
 wholeValues p controls q zero = 0
-wholeValues p controls q (suc n) = cond (isWhole (publishedValue p controls q) (publishedDivisor (p .basis) (p .depth))) 1 0 + wholeValues p controls (suc q) n
+wholeValues p controls q (suc n) = wholeAt p controls q + wholeValues p controls (suc q) n

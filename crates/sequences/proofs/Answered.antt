@@ -4,7 +4,7 @@ use mathlib.Core.Path.{_≡_, refl, sym, ap, _∙_, subst}
 use mathlib.Core.Bool.{true, false}
 use mathlib.Core.Logic.{⊎-elim, _↔_}
 use mathlib.Core.List.{List}
-use Prim.Native.Nat.{ℕ, _+_, _*_, _^_, _≤_, _<_}
+use Prim.Native.Nat.{ℕ, _+_, _*_, _-_, _^_, _≤_, _<_}
 use native.Mathlib.Nat.{mul-le-mul-right}
 use native.Mathlib.Omega.{arith}
 use lib.Dec.{eqb}
@@ -12,7 +12,7 @@ use lib.IntN.{ℤ, pos}
 use lib.ListN.{getD, length}
 use Rattle.whole.specs.Outcome.{Outcome, outcome}
 use Rattle.curve.specs.declared.Basis.{Basis}
-use Rattle.curve.specs.Span.{coordinate, isLoop, records}
+use Rattle.curve.specs.Span.{coordinate, roundEnd, isLoop, records}
 use Rattle.shape.specs.declared.Shape.{Shape}
 use Rattle.shape.specs.declared.Plan.{Plan}
 use Rattle.shape.specs.Shape.{recordsOf}
@@ -24,10 +24,12 @@ use Rattle.spans.proofs.Filled.{length-filled, in-filled, past-filled}
 use Rattle.spans.proofs.Numbers.{per-span}
 use Rattle.outline.specs.Outline.{points}
 use Rattle.outline.proofs.Draws.{all-numbers}
+use Rattle.asked.specs.declared.Run.{Run}
 use Rattle.asked.specs.declared.Edit.{Edit}
 use Rattle.asked.specs.declared.Edit.the-variants.{Move, Insert, Remove}
-use Rattle.asked.specs.Edits.{exactFresh, countAfter, spansAfter, isSpline, offered, inRange, controlAt, asked, runOf, isFresh, pointAt}
+use Rattle.asked.specs.Edits.{exactFresh, countAfter, spansAfter, isSpline, offered, inRange, controlAt, asked, countRound, runOf, isFresh, pointAt}
 use Rattle.asked.specs.Inner.{Askable}
+use Rattle.asked.proofs.Runs.{run-loop, open-most}
 use Rattle.edit.specs.declared.Change.{Change}
 use Rattle.edit.specs.declared.Edited.{Edited}
 use Rattle.edit.specs.declared.Edited.the-variants.{Done}
@@ -131,6 +133,22 @@ module _ (e : Edit) (s : Shape) (j : ℕ) (controls lent : List ℤ) (c : Change
   -- how many coordinates of the fresh points are exact, by the run that was answered
   pub answered-exact : c .exact ≡ exactFresh (record { first = c .first; count = c .fresh }) (planOf (c .shape)) new
   answered-exact = by-answer (λ d p l _. d .exact ≡ exactFresh (record { first = d .first; count = d .fresh }) p l) refl
+
+  -- in an open outline it ends with the spans
+  pub answered-open : isLoop (planOf (c .shape) .basis) ≡ false → c .first + c .fresh ≤ planOf (c .shape) .spans
+  answered-open = by-answer (λ d p _ _. isLoop (p .basis) ≡ false → d .first + d .fresh ≤ p .spans) (open-most e after j)
+
+  -- in a loop it is counted round from three before the place
+  pub answered-round : isLoop (planOf (c .shape) .basis) ≡ true → (c .first ≡ roundEnd (planOf (c .shape) .spans) (j + planOf (c .shape) .spans - 3)) × (c .fresh ≡ countRound e)
+  answered-round =
+      by-answer (λ d p _ _. isLoop (p .basis) ≡ true → (d .first ≡ roundEnd (p .spans) (j + p .spans - 3)) × (d .fresh ≡ countRound e))
+      (λ loop. let is = run-loop e after j loop in (ap (λ (r : Run). r .first) is, ap (λ (r : Run). r .count) is))
+
+  -- a number of the outline is of a span of the run exactly where the test of fresh numbers says so
+  pub answered-test : (q : ℕ) → q < 2 * points (planOf (c .shape)) → Fresh c (planOf (c .shape)) q ↔ (isFresh (record { first = c .first; count = c .fresh }) (planOf (c .shape)) q ≡ true)
+  answered-test =
+      by-answer (λ d p _ _. (q : ℕ) → q < 2 * points p → Fresh d p q ↔ (isFresh (record { first = d .first; count = d .fresh }) p q ≡ true))
+      (λ q h. held-fresh after q (ready .good .spans-least) (omega (arith, all-numbers (after .depth) (after .spans))) (runOf e after j))
 
   -- ---- the points
 

@@ -1,14 +1,14 @@
 -- The spans of an edit's run are exactly those that it touches: in an open outline by two bounds, by the stride; in a loop by counting round. And the fresh numbers are exactly those that a span
 -- of the run has among its points.
-use mathlib.Core.Path.{_≡_, sym, ap, _∙_, subst}
+use mathlib.Core.Path.{_≡_, refl, sym, ap, _∙_, subst}
 use mathlib.Core.Bool.{Bool, true, false, cond}
 use mathlib.Core.Logic.{_⊎_, inl, inr, ⊎-elim, _↔_}
 use Prim.Native.Nat.{ℕ, _+_, _*_, _-_, _/_, _%_, _^_, min, _≤_, _<_}
-use native.Mathlib.Nat.{suc-mul, zero-mul}
+use native.Mathlib.Nat.{suc-mul, zero-mul, mul-le-mul-right, le-div-iff-mul-le, div-mul-le-self, lt-div-mul-add, min-le-right}
 use native.Mathlib.Numerals.{add-one}
 use native.Mathlib.Omega.{arith}
 use borrow.Author.Tests.{ltb-true, lt-ltb}
-use lib.IntN.{ℤ}
+use lib.Pow.{pow-pos}
 use Rattle.curve.specs.declared.Basis.{Basis}
 use Rattle.curve.specs.declared.Basis.the-variants.{Loop}
 use Rattle.curve.specs.Span.{firstRecord, roundEnd, isLoop, recordAt}
@@ -350,3 +350,46 @@ module _ (p : Plan) (q : ℕ) (some : 1 ≤ p .spans) (within : q < p .spans * p
           (λ (start, has). (spanBefore p own, (before-among start .0, ltb-true (roundEnd n (spanBefore p own + n - run .first)) (run .count) has), before-among start .1))
           (by-fresh run p q fresh)),
     )
+
+-- ---- in an open outline they are from the start of the run's first span to the end of its last, both included
+
+module _ (p : Plan) (run : Run) (q : ℕ) (none : isLoop (p .basis) ≡ false) (most : run .first + run .count ≤ p .spans) where
+  abbrev d : ℕ
+  d = 2 ^ p .depth
+
+  abbrev past : ℕ
+  past = run .first + run .count
+
+  within-run : (s : ℕ) → s < p .spans → (roundEnd (p .spans) (s + p .spans - run .first) < run .count) ↔ ((run .first ≤ s) × (s < past))
+  within-run s here = (
+    (λ near. by-round (λ v. v < run .count → (run .first ≤ s) × (s < past)) (p .spans) (s + p .spans - run .first) (λ below v. absurd (omega (arith, below, v))) (λ over v. (omega (arith, over, v), omega (arith, over, v))) near),
+    (λ (low, high). by-round (λ v. v < run .count) (p .spans) (s + p .spans - run .first) (λ below. omega (arith, below)) (λ over. omega (arith, over))),
+  )
+
+  pub held-within : ((s : ℕ) × ((s < p .spans) × (roundEnd (p .spans) (s + p .spans - run .first) < run .count)) × Among p s q) ↔ ((0 < run .count) × (run .first * d ≤ q / 2) × (q / 2 ≤ past * d))
+  held-within = (to, from)
+    where
+      to : ((s : ℕ) × ((s < p .spans) × (roundEnd (p .spans) (s + p .spans - run .first) < run .count)) × Among p s q) → (0 < run .count) × (run .first * d ≤ q / 2) × (q / 2 ≤ past * d)
+      to (s, (here, near), inl (low, high)) =
+          let (from, until) = within-run s here .0 near in
+          (omega arith, omega (arith, low, mul-le-mul-right {m = run .first} {n = s} d from), omega (arith, high, mul-le-mul-right {m = s + 1} {n = past} d (omega (arith, until))))
+      to (s, has, inr (loop, joint)) = absurd (true-is-not-false loop none)
+
+      from : (0 < run .count) × (run .first * d ≤ q / 2) × (q / 2 ≤ past * d) → (s : ℕ) × ((s < p .spans) × (roundEnd (p .spans) (s + p .spans - run .first) < run .count)) × Among p s q
+      from (some, low, high) =
+          let s = min (q / 2 / d) (past - 1) in
+          let start : run .first ≤ q / 2 / d = le-div-iff-mul-le {k = d} {x = run .first} {y = q / 2} (pow-pos (p .depth)) .1 low in
+          let here : s < p .spans = omega (arith, min-le-right (q / 2 / d) (past - 1)) in
+          (s, (here, within-run s here .1 (omega (arith, start), omega (arith, min-le-right (q / 2 / d) (past - 1)))), inl (ends-at s refl))
+        where
+          ends-at : (s : ℕ) → s ≡ min (q / 2 / d) (past - 1) → (s * d ≤ q / 2) × (q / 2 ≤ (s + 1) * d)
+          ends-at s is =
+              ⊎-elim
+              (λ (early : q / 2 / d < past).
+              let own : s ≡ q / 2 / d = is ∙ omega arith in
+              let on = ap (λ (n : ℕ). n * d) own in
+              (omega (arith, on, div-mul-le-self (q / 2) d), omega (arith, on, next-span s d, lt-div-mul-add {a = q / 2} {b = d} (pow-pos (p .depth)))))
+              (λ (late : past ≤ q / 2 / d).
+              let own : s + 1 ≡ past = omega (arith, is) in
+              (omega (arith, mul-le-mul-right {m = s} {n = q / 2 / d} d (omega (arith, own)), div-mul-le-self (q / 2) d), omega (arith, high, ap (λ (n : ℕ). n * d) own)))
+              (either (q / 2 / d) past)
