@@ -1,4 +1,4 @@
-// The sums of the edits: each starts from the same outline, and tells the points after it and the spans worked afresh.
+// The sums of the edits: each starts from an outline, and tells the points after it and the spans worked afresh.
 use crate::Text;
 use crate::outlines::CARDINAL;
 use crate::outlines::ROOM;
@@ -9,6 +9,7 @@ use console::add_spaced_number;
 use console::add_word;
 use console::add_x;
 use console::end_line;
+use edit::Edit;
 use edit::Edited;
 use edit::insert_record;
 use edit::move_record;
@@ -18,75 +19,117 @@ use shape::Judged;
 use shape::Shape;
 use shape::check_shape;
 
-// The outline before an edit: six records, and room for one more.
-const SHAPE: Shape = Shape {
-    basis: CARDINAL,
-    depth: 0,
-    count: 6,
-    parameter: 0,
-};
+// The numbers of the records before an edit: up to six records, and room for one more.
+pub(crate) type Controls = [i32; 14];
 
-const CONTROLS: [i32; 14] = [0, 0, 10, 0, 20, 0, 30, 0, 40, 0, 50, 0, 0, 0];
+// The outline before an edit.
+pub(crate) struct Before {
+    pub shape: Shape,
+    pub controls: Controls,
+}
+
+// The one before P9 to P11.
+const BEFORE: Before = Before {
+    shape: Shape {
+        basis: CARDINAL,
+        depth: 0,
+        count: 6,
+        parameter: 0,
+    },
+    controls: [0, 0, 10, 0, 20, 0, 30, 0, 40, 0, 50, 0, 0, 0],
+};
 
 // The outline before the edits, and P9 to P11.
 pub(crate) fn put_edits(text: &mut Text, at: usize) -> usize {
-    let before = put_outline(text, at, SHAPE, &CONTROLS, true);
-    let p9 = put_insert(text, before);
+    let start = put_before(text, at, BEFORE);
+    let p9 = put_edit(
+        text,
+        start,
+        b"P9 insert 60 at 6:",
+        BEFORE,
+        6,
+        Edit::Insert(60, 0),
+    );
     let p10 = put_remove(text, p9);
-    put_move(text, p10)
+    put_edit(
+        text,
+        p10,
+        b"P11 move 3 to 33:",
+        BEFORE,
+        3,
+        Edit::Move(33, 0),
+    )
+}
+
+// The line of the outline before an edit.
+pub(crate) fn put_before(text: &mut Text, at: usize, before: Before) -> usize {
+    let shape = before.shape;
+    let controls = before.controls;
+    put_outline(text, at, shape, &controls, true)
+}
+
+// The line of an edit of record `place`: what is asked, and what is answered.
+pub(crate) fn put_edit(
+    text: &mut Text,
+    at: usize,
+    asked: &[u8],
+    before: Before,
+    place: usize,
+    edit: Edit,
+) -> usize {
+    let start = add_word(text, at, asked);
+    let mut points = points_of(before);
+    let end = put_answer(text, start, before, place, edit, &mut points);
+    end_line(text, end)
+}
+
+// The line of P10, with the x of the fourth point, which stands past those that a removal leaves, and keeps what it was.
+fn put_remove(text: &mut Text, at: usize) -> usize {
+    let start = add_word(text, at, b"P10 remove at 0:");
+    let mut points = points_of(BEFORE);
+    let past_answer = put_answer(text, start, BEFORE, 0, Edit::Remove, &mut points);
+    let past_word = add_word(text, past_answer, b" fourth");
+    let end = add_spaced_number(text, past_word, points[2 * 3]);
+    end_line(text, end)
 }
 
 // The points before an edit.
-fn points_before() -> [i32; ROOM] {
+fn points_of(before: Before) -> [i32; ROOM] {
+    let shape = before.shape;
+    let controls = before.controls;
     let mut points = [0i32; ROOM];
-    by_weights(SHAPE, &CONTROLS, &mut points);
+    by_weights(shape, &controls, &mut points);
     points
 }
 
-fn put_insert(text: &mut Text, at: usize) -> usize {
-    let start = add_word(text, at, b"P9 insert 60 at 6:");
-    let mut controls = CONTROLS;
-    let mut points = points_before();
-    let end = put_edited(
-        text,
-        start,
-        insert_record(SHAPE, 6, 60, 0, &mut controls, &mut points),
-        &points,
-    );
-    end_line(text, end)
+// What an edit answers: it works on the points, and on a copy of the controls.
+fn put_answer(
+    text: &mut Text,
+    at: usize,
+    before: Before,
+    place: usize,
+    edit: Edit,
+    points: &mut [i32],
+) -> usize {
+    let shape = before.shape;
+    let mut controls = before.controls;
+    let edited = edit_record(edit, shape, place, &mut controls, points);
+    put_edited(text, at, edited, points)
 }
 
-fn put_remove(text: &mut Text, at: usize) -> usize {
-    let start = add_word(text, at, b"P10 remove at 0:");
-    let mut controls = CONTROLS;
-    let mut points = points_before();
-    let end = put_edited(
-        text,
-        start,
-        remove_record(SHAPE, 0, &mut controls, &mut points),
-        &points,
-    );
-    put_fourth(text, end, points[2 * 3])
-}
-
-// The x of the fourth point, which stands past those that a removal leaves, and keeps what it was.
-fn put_fourth(text: &mut Text, at: usize, x: i32) -> usize {
-    let past_word = add_word(text, at, b" fourth");
-    let end = add_spaced_number(text, past_word, x);
-    end_line(text, end)
-}
-
-fn put_move(text: &mut Text, at: usize) -> usize {
-    let start = add_word(text, at, b"P11 move 3 to 33:");
-    let mut controls = CONTROLS;
-    let mut points = points_before();
-    let end = put_edited(
-        text,
-        start,
-        move_record(SHAPE, 3, 33, 0, &mut controls, &mut points),
-        &points,
-    );
-    end_line(text, end)
+// Record `place` moved, a new one before it, or it taken out.
+fn edit_record(
+    edit: Edit,
+    shape: Shape,
+    place: usize,
+    controls: &mut [i32],
+    points: &mut [i32],
+) -> Edited {
+    match edit {
+        Edit::Move(x, y) => move_record(shape, place, x, y, controls, points),
+        Edit::Insert(x, y) => insert_record(shape, place, x, y, controls, points),
+        Edit::Remove => remove_record(shape, place, controls, points),
+    }
 }
 
 // What an edit answers, with the points that it leaves; or the refusal.
