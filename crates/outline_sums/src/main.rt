@@ -2,6 +2,7 @@
 mod drawings;
 mod edits;
 mod limits;
+mod loops;
 mod outlines;
 mod parameters;
 
@@ -11,14 +12,15 @@ use console::write_output;
 // The text of the sums: as many bytes as a buffer has.
 pub(crate) type Text = [u8; 4096];
 
-// Every sum in the paper's order, and those of request 7.
+// Every sum in the paper's order, and those of requests 7 and 8.
 fn main() {
     let mut text = io::buffer();
     let past_bases = outlines::put_bases(&mut text, 0);
     let past_edits = edits::put_edits(&mut text, past_bases);
     let past_millimetres = drawings::put_millimetres(&mut text, past_edits);
     let past_limits = limits::put_limits(&mut text, past_millimetres);
-    let end = parameters::put_parameters(&mut text, past_limits);
+    let past_parameters = parameters::put_parameters(&mut text, past_limits);
+    let end = loops::put_loops(&mut text, past_parameters);
     send(&text, end);
 }
 

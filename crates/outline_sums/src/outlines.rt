@@ -18,6 +18,8 @@ pub(crate) const B_SPLINE: usize = 2;
 
 pub(crate) const CARDINAL: usize = 3;
 
+pub(crate) const LOOP: usize = 5;
+
 // Enough for the points of one span at the deepest, and for the most records.
 pub(crate) const ROOM: usize = 2 * ((1 << DEEPEST) + 1);
 
@@ -80,9 +82,14 @@ pub(crate) fn put_outline(
 
 // The basis, the records' x and the depth.
 pub(crate) fn put_shape(text: &mut Text, at: usize, shape: Shape, controls: &[i32]) -> usize {
-    let past_basis = put_basis(text, at, shape.basis);
-    let past_records = add_x(text, past_basis, controls, shape.count);
+    let past_records = put_records(text, at, shape, controls);
     add_phrase(text, past_records, b" depth", shape.depth)
+}
+
+// The basis and the records' x.
+pub(crate) fn put_records(text: &mut Text, at: usize, shape: Shape, controls: &[i32]) -> usize {
+    let past_basis = put_basis(text, at, shape.basis);
+    add_x(text, past_basis, controls, shape.count)
 }
 
 fn put_basis(text: &mut Text, at: usize, basis: usize) -> usize {
@@ -90,6 +97,7 @@ fn put_basis(text: &mut Text, at: usize, basis: usize) -> usize {
         BEZIER => add_word(text, at, b"Bezier"),
         B_SPLINE => add_word(text, at, b"B-spline"),
         CARDINAL => add_word(text, at, b"cardinal"),
+        LOOP => add_word(text, at, b"loop"),
         _ => add_word(text, at, b"Hermite"),
     }
 }
