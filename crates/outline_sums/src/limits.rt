@@ -4,13 +4,13 @@ use crate::outlines::BEZIER;
 use crate::outlines::ROOM;
 use crate::outlines::put_drawn;
 use crate::outlines::put_outline;
+use crate::outlines::shape_of;
 use console::add_phrase;
 use console::add_word;
 use console::end_line;
 use curve::DEEPEST;
 use curve::LIMIT;
 use shape::MOST_RECORDS;
-use shape::Shape;
 
 // Depth 6, the deepest and one more; the most records, 5 and 2^32; the farthest coordinate and one more.
 pub(crate) fn put_limits(text: &mut Text, at: usize) -> usize {
@@ -28,24 +28,27 @@ fn put_counts(text: &mut Text, at: usize) -> usize {
     put_zeros(text, odd, 4294967296)
 }
 
-fn bezier(depth: usize, count: usize) -> Shape {
-    Shape {
-        basis: BEZIER,
-        depth,
-        count,
-        parameter: 0,
-    }
-}
-
 // The line of a Bezier sum of four records, of which only the last is not 0.
 fn put_last(text: &mut Text, at: usize, depth: usize, x: i32, all: bool) -> usize {
-    put_outline(text, at, bezier(depth, 4), &[0, 0, 0, 0, 0, 0, x, 0], all)
+    put_outline(
+        text,
+        at,
+        shape_of(BEZIER, depth, 4),
+        &[0, 0, 0, 0, 0, 0, x, 0],
+        all,
+    )
 }
 
 // The line of a Bezier sum whose records are all 0.
 fn put_zeros(text: &mut Text, at: usize, count: usize) -> usize {
     let past_count = add_phrase(text, at, b"Bezier", count);
     let start = add_word(text, past_count, b" records of 0 depth 1:");
-    let end = put_drawn(text, start, bezier(1, count), &[0i32; ROOM], false);
+    let end = put_drawn(
+        text,
+        start,
+        shape_of(BEZIER, 1, count),
+        &[0i32; ROOM],
+        false,
+    );
     end_line(text, end)
 }

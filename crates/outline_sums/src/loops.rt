@@ -7,6 +7,7 @@ use crate::edits::put_edit;
 use crate::outlines::LOOP;
 use crate::outlines::put_outline;
 use crate::outlines::put_records;
+use crate::outlines::shape_of;
 use edit::Edit;
 use shape::LEAST_RECORDS;
 use shape::Shape;
@@ -27,26 +28,17 @@ const BEFORE: Before = Before {
 
 // The smallest loop; edits of a larger one; and what is refused: a loop of one record less, and a removal from the smallest.
 pub(crate) fn put_loops(text: &mut Text, at: usize) -> usize {
-    let smallest = put_outline(text, at, loop_of(1, LEAST_RECORDS), &SMALLEST, true);
+    let smallest = put_outline(text, at, shape_of(LOOP, 1, LEAST_RECORDS), &SMALLEST, true);
     let past_edits = put_edits(text, smallest);
     let records = [0, 0, 6, 0, 12, 0];
     let too_few = put_outline(
         text,
         past_edits,
-        loop_of(1, LEAST_RECORDS - 1),
+        shape_of(LOOP, 1, LEAST_RECORDS - 1),
         &records,
         true,
     );
     put_too_few_left(text, too_few)
-}
-
-fn loop_of(depth: usize, count: usize) -> Shape {
-    Shape {
-        basis: LOOP,
-        depth,
-        count,
-        parameter: 0,
-    }
 }
 
 // The loop before the edits; then a new first record, the last one taken out, and the first one moved.
@@ -67,7 +59,7 @@ fn put_edits(text: &mut Text, at: usize) -> usize {
 // The line of a removal from the smallest loop, whose records it tells first.
 fn put_too_few_left(text: &mut Text, at: usize) -> usize {
     let before = Before {
-        shape: loop_of(0, LEAST_RECORDS),
+        shape: shape_of(LOOP, 0, LEAST_RECORDS),
         controls: SMALLEST,
     };
     let start = put_records(text, at, before.shape, &SMALLEST);

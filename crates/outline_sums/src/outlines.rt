@@ -23,6 +23,16 @@ pub(crate) const LOOP: usize = 5;
 // Enough for the points of one span at the deepest, and for the most records.
 pub(crate) const ROOM: usize = 2 * ((1 << DEEPEST) + 1);
 
+// A shape without a parameter.
+pub(crate) fn shape_of(basis: usize, depth: usize, count: usize) -> Shape {
+    Shape {
+        basis,
+        depth,
+        count,
+        parameter: 0,
+    }
+}
+
 // P1 to P8.
 pub(crate) fn put_bases(text: &mut Text, at: usize) -> usize {
     let mut end = at;
@@ -39,12 +49,7 @@ fn put_base(text: &mut Text, at: usize, number: usize) -> usize
     requires { ⌜ number < 9 ⌝ }
 {
     let start = add_word(text, at, &[b'P', b'0' + number as u8, b' ']);
-    let shape = Shape {
-        basis: (number + 1) / 2,
-        depth: depth_of(number),
-        count: 4,
-        parameter: 0,
-    };
+    let shape = shape_of((number + 1) / 2, depth_of(number), 4);
     put_outline(text, start, shape, &records_of(number), true)
 }
 
