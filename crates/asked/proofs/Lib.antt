@@ -1,3 +1,4 @@
+pub mod Cases
 pub mod Controls
 pub mod InPlace
 pub mod Runs

@@ -48,7 +48,7 @@ use Rattle.sequences.specs.Touched.{InRun, Among, Fresh}
 use Rattle.sequences.proofs.Again.{drawn-played-redraws}
 use Rattle.sequences.proofs.Touched.{next-span}
 use Rattle.sequences.proofs.Answered.{answered-shape, answered-round}
-use Rattle.promises.specs.Loops.{loop, repeated, opened}
+use Rattle.promises.specs.Loops.{loop, again, repeated, opened}
 use Rattle.promises.specs.Points.{publishedValue, publishedNumber, publishedDivisor}
 use Rattle.promises.proofs.Points.{drawn-published}
 
@@ -80,14 +80,14 @@ module _ (n : ℕ) (controls : List ℤ) (least : leastRecords ≤ n) (room : 2 
       let long : length (take (2 * n) controls) ≡ 2 * n = length-take-le (2 * n) controls room in
       ⊎-elim
       (λ (below : r < n).
-      List·getD-append (take (2 * n) controls) (take (2 * 3) controls) (pos 0) (2 * r + axis) (omega (arith, long))
+      List·getD-append (take (2 * n) controls) (take (2 * again) controls) (pos 0) (2 * r + axis) (omega (arith, long))
       ∙ getD-take (2 * n) controls (2 * r + axis) (pos 0) (omega arith)
       ∙ ap (λ (i : ℕ). getD controls (2 * i + axis) (pos 0)) (sym (round-below n r below)))
       (λ (past : n ≤ r).
       let on : 2 * r + axis - length (take (2 * n) controls) ≡ 2 * (r - n) + axis = omega (arith, long) in
-      past-append (take (2 * n) controls) (take (2 * 3) controls) (pos 0) (2 * r + axis) (omega (arith, long))
-      ∙ ap (λ (i : ℕ). getD (take (2 * 3) controls) i (pos 0)) on
-      ∙ getD-take (2 * 3) controls (2 * (r - n) + axis) (pos 0) (omega arith)
+      past-append (take (2 * n) controls) (take (2 * again) controls) (pos 0) (2 * r + axis) (omega (arith, long))
+      ∙ ap (λ (i : ℕ). getD (take (2 * again) controls) i (pos 0)) on
+      ∙ getD-take (2 * again) controls (2 * (r - n) + axis) (pos 0) (omega arith)
       ∙ ap (λ (i : ℕ). getD controls (2 * i + axis) (pos 0)) (sym (round-past n r past)))
       (either r n)
 

@@ -11,8 +11,11 @@ abbrev pub loop : ℕ
 loop = 5
 
 -- The n records of a loop with the first three repeated at the end.
+abbrev pub again : ℕ
+again = 3
+
 abbrev pub repeated : ℕ → List ℤ → List ℤ
-repeated n controls = take (2 * n) controls ++ take (2 * 3) controls
+repeated n controls = take (2 * n) controls ++ take (2 * again) controls
 
 -- The open B-spline of those n + 3 records, at depth k: n spans.
 abbrev pub opened : ℕ → ℕ → Plan

@@ -32,7 +32,7 @@ returns c =
     let s = f .before .before .before in
     let a = s .args in
     f .fill-by-weights .ensures
-    ∙ stretch-refreshed (run s) (a .plan) (a .controls .now) (a .points .now) (s .pre .1 .1) 0 (a .plan .spans) (loop-whole (run s) (a .plan) (s .pre .0 .2) (s .pre .1 .0 .0) (s .pre .1 .0 .1) (f .before .before .if1 .taken))
+    ∙ stretch-refreshed (run s) (a .plan) (a .controls .now) (a .points .now) (s .pre .1 .1) 0 (a .plan .spans) (loop-whole (run s) (a .plan) (s .pre .0 .2) (s .pre .1 .0 .0) (s .pre .1 .0 .1) (omega (arith, f .before .before .if1 .taken)))
 
 first-or-end-requires : tie.Need-first-or-end-requires
 first-or-end-requires c κs = search needs
