@@ -77,20 +77,20 @@ stale-by run p q (here, before) =
     ∙ ⊎-elim (λ start. (λ i. ltb (r p q) 2 && before start i) ∙ and-false (ltb (r p q) 2)) (λ later. ap (λ v. v && inRun run (p .spans) (spanBefore p (t p q))) (le-ltb (r p q) 2 later)) (either (r p q) 2)
 
 -- the next span's numbers
-pub next-width : (t w : ℕ) → (t + 1) * w ≡ t * w + w
-next-width t w = ap (λ (n : ℕ). n * w) (add-one t) ∙ suc-mul t w
+pub next-span : (t w : ℕ) → (t + 1) * w ≡ t * w + w
+next-span t w = ap (λ (n : ℕ). n * w) (add-one t) ∙ suc-mul t w
 
 -- not before a span's start: its span is not before that one
 pub starts : (a t r w : ℕ) → r < w → a * w ≤ t * w + r → a ≤ t
 starts a t r w short h =
-    ⊎-elim (λ (early : t < a). absurd (omega (arith, next-width t w, mul-le-mul-right {m = t + 1} {n = a} w (omega arith)))) (λ (low : a ≤ t). low) (either t a)
+    ⊎-elim (λ (early : t < a). absurd (omega (arith, next-span t w, mul-le-mul-right {m = t + 1} {n = a} w (omega arith)))) (λ (low : a ≤ t). low) (either t a)
 
 -- before a span's end: before that span's own end, or of that end
 pub ends : (t z r w : ℕ) → 2 ≤ w → t * w + r < z * w + 2 → (t < z) ⊎ ((t ≡ z) × (r < 2))
 ends t z r w wide h =
     ⊎-elim (λ (early : t < z). inl early)
     (λ (late : z ≤ t).
-    let same : t ≡ z = ⊎-elim (λ (past : z < t). absurd (omega (arith, next-width z w, mul-le-mul-right {m = z + 1} {n = t} w (omega arith)))) (λ (high : t ≤ z). omega arith) (either z t) in
+    let same : t ≡ z = ⊎-elim (λ (past : z < t). absurd (omega (arith, next-span z w, mul-le-mul-right {m = z + 1} {n = t} w (omega arith)))) (λ (high : t ≤ z). omega arith) (either z t) in
     inr (same, omega (arith, ap (λ (n : ℕ). n * w) same)))
     (either t z)
 

@@ -14,7 +14,7 @@ use Rattle.curve.proofs.Round.{by-round, round-within}
 use Rattle.shape.specs.declared.Plan.{Plan}
 use Rattle.shape.specs.Inner.{RunsRound}
 use Rattle.shape.specs.Shape.{lastUsing, leastRecords}
-use Rattle.shape.proofs.Spans.{first-below, runs-least}
+use Rattle.shape.proofs.Spans.{runs-least}
 use Rattle.shape.proofs.Tests.{passes, either}
 use Rattle.asked.specs.declared.Run.{Run}
 use Rattle.asked.specs.declared.Edit.{Edit}
@@ -73,18 +73,6 @@ pub past-most : (e : Edit) (p : Plan) (j : ℕ) → pastFresh e p j ≤ p .spans
 past-most (Move x y) p j = min-le-right (lastUsing (p .basis) j + 1) (p .spans)
 past-most (Insert x y) p j = min-le-right (j + 1) (p .spans)
 past-most Remove p j = min-le-right j (p .spans)
-
--- its first span is not past the place
-pub first-place : (e : Edit) (p : Plan) (j : ℕ) → firstFresh e p j ≤ j
-first-place (Move x y) p j = omega (arith, first-below (p .basis) j .0, first-below (p .basis) j .1)
-first-place (Insert x y) p j = omega arith
-first-place Remove p j = omega arith
-
--- where it is empty and some spans are past it, none is before it
-pub none-first : (e : Edit) (p : Plan) (j : ℕ) → pastFresh e p j ≤ firstFresh e p j → pastFresh e p j < p .spans → firstFresh e p j ≡ 0
-none-first (Move x y) p j h k = absurd (omega (arith, first-below (p .basis) j .0))
-none-first (Insert x y) p j h k = absurd (omega arith)
-none-first Remove p j h k = omega arith
 
 -- a span past it is not before the place, or the edit is a move, which carries nothing
 pub later-carried : {A : Type 0} (e : Edit) (p : Plan) (j t w q : ℕ) (f : ℕ → A) → t < p .spans → pastFresh e p j ≤ t

@@ -94,7 +94,7 @@ pub fn is_new_outside(edit: Edit) -> bool
 }
 
 // Less, but not below zero.
-pub fn less(n: usize, by: usize) -> usize
+fn less(n: usize, by: usize) -> usize
     ensures { λ r. ⌜ r ≡ n - by ⌝ }
 {
     if n < by {

@@ -1,6 +1,6 @@
 -- The fresh spans worked leave every fresh number as the outline has it and every other as it was; and the numbers past them carried before that leave every point as the reading has it.
-use mathlib.Core.Path.{_≡_, sym, ap, _∙_, subst}
-use mathlib.Core.Bool.{Bool, true, false, cond}
+use mathlib.Core.Path.{_≡_, sym, ap, _∙_}
+use mathlib.Core.Bool.{true, false, cond}
 use mathlib.Core.Logic.{_⊎_, inl, inr, ⊎-elim}
 use mathlib.Core.List.{List}
 use Prim.Native.Nat.{ℕ, _+_, _*_, _-_, _/_, min, _≤_, _<_}
@@ -14,11 +14,10 @@ use lib.Pow.{pow-pos}
 use Rattle.whole.specs.Outcome.{Outcome, outcome}
 use Rattle.shape.specs.declared.Plan.{Plan}
 use Rattle.shape.specs.Inner.{RunsRound}
-use Rattle.shape.specs.Shape.{pointsOf}
 use Rattle.shape.proofs.Tests.{passes, either, true-is-not-false}
 use Rattle.spans.specs.Numbers.{number, remainderOf, exactIn, nought, total, perSpan}
 use Rattle.spans.specs.Filled.{filled, fills}
-use Rattle.spans.proofs.Filled.{length-filled, in-filled, before-filled, past-filled, none-filled, is-filled, same-filled}
+use Rattle.spans.proofs.Filled.{length-filled, in-filled, before-filled, past-filled, none-filled, is-filled}
 use Rattle.spans.proofs.Totals.{total-same, total-none, total-part, total-ends, exact-total}
 use Rattle.outline.proofs.Draws.{all-numbers}
 use Rattle.asked.specs.declared.Edit.{Edit}
@@ -26,7 +25,7 @@ use Rattle.asked.specs.declared.Edit.the-variants.{Move, Insert, Remove}
 use Rattle.asked.specs.declared.Run.{Run}
 use Rattle.asked.specs.Edits.{pastFresh, runOf, inRun, carriedFrom, isFresh, exactFresh, pointAt}
 use Rattle.asked.proofs.Runs.{cond-same, past-most, later-carried, inserted-own}
-use Rattle.asked.proofs.Fresh.{next-width, Stretch, Ends, stretch-fresh, stretch-before, stretch-past, ends-first, ends-last, ends-between, stale-own, none-fresh}
+use Rattle.asked.proofs.Fresh.{next-span, Stretch, Ends, stretch-fresh, stretch-before, stretch-past, ends-first, ends-last, ends-between, stale-own, none-fresh}
 use Rattle.edit.specs.Inner.{runLength, fillsEnds, refreshes}
 
 -- ---- runs of spans
@@ -134,7 +133,7 @@ module _ (run : Run) (p : Plan) (c l : List ℤ) (room : p .spans * perSpan (p .
       let apart = mul-le-mul-right {m = z + 1} {n = a} w (omega (arith, s .apart)) in
       let over = mul-le-mul-right {m = a} {n = m} w (s .high) in
       let wide : 2 ≤ w = omega (arith, pow-pos k) in
-      let gap : z * w + 2 ≤ a * w = omega (arith, apart, next-width z w, wide) in
+      let gap : z * w + 2 ≤ a * w = omega (arith, apart, next-span z w, wide) in
       let none : 0 * w ≡ 0 = zero-mul w in
       let all : (z - 0) * w + 2 ≡ z * w + 2 = ap (λ (n : ℕ). n * w + 2) (omega arith) in
       let last = filled f (a * w) ((m - a) * w + 2) l in

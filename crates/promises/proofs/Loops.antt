@@ -23,7 +23,7 @@ use Rattle.curve.proofs.Round.{round-below, round-past, same-records, loop-firs
 use Rattle.curve.proofs.Stride.{unit-first}
 use Rattle.shape.specs.declared.Shape.{Shape}
 use Rattle.shape.specs.declared.Plan.{Plan}
-use Rattle.shape.specs.Inner.{Good, Lent}
+use Rattle.shape.specs.Inner.{Good}
 use Rattle.shape.specs.Shape.{basisOf, spansOf, pointsOf, leastRecords}
 use Rattle.shape.specs.Refusals.{planOf, shapeRows, listRows}
 use Rattle.shape.proofs.Refusals.{none-earlier, none-later, good-plan, row-fails}
@@ -40,13 +40,13 @@ use Rattle.outline.proofs.Exactly.{done-none, done-figures}
 use Rattle.outline.proofs.Held.{held-number}
 use Rattle.asked.specs.declared.Edit.{Edit}
 use Rattle.asked.specs.Edits.{countRound}
+use Rattle.asked.proofs.Fresh.{next-span}
 use Rattle.edit.specs.declared.Change.{Change}
 use Rattle.edit.specs.declared.Edited.the-variants as edited
-use Rattle.edit.specs.Reading.{shapeAfter, edits}
-use Rattle.sequences.specs.Played.{State, Call, state, played}
-use Rattle.sequences.specs.Touched.{InRun, Among, Fresh}
+use Rattle.edit.specs.Reading.{edits}
+use Rattle.sequences.specs.Played.{Call, state, played}
+use Rattle.sequences.specs.Touched.{InRun, Fresh}
 use Rattle.sequences.proofs.Again.{drawn-played-redraws}
-use Rattle.sequences.proofs.Touched.{next-span}
 use Rattle.sequences.proofs.Answered.{answered-shape, answered-round}
 use Rattle.promises.specs.Loops.{loop, again, repeated, opened}
 use Rattle.promises.specs.Points.{publishedValue, publishedNumber, publishedDivisor}

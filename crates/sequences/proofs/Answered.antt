@@ -7,7 +7,6 @@ use mathlib.Core.List.{List}
 use Prim.Native.Nat.{ℕ, _+_, _*_, _-_, _^_, _≤_, _<_}
 use native.Mathlib.Nat.{mul-le-mul-right}
 use native.Mathlib.Omega.{arith}
-use lib.Dec.{eqb}
 use lib.IntN.{ℤ, pos}
 use lib.ListN.{getD, length}
 use Rattle.whole.specs.Outcome.{Outcome, outcome}
@@ -17,7 +16,7 @@ use Rattle.shape.specs.declared.Shape.{Shape}
 use Rattle.shape.specs.declared.Plan.{Plan}
 use Rattle.shape.specs.Shape.{recordsOf}
 use Rattle.shape.specs.Refusals.{NoRow, planOf}
-use Rattle.shape.proofs.Spans.{has-record, recount-loop, recount-stride}
+use Rattle.shape.proofs.Spans.{has-record, recount-loop}
 use Rattle.shape.proofs.Tests.{passes}
 use Rattle.spans.specs.Numbers.{number, perSpan}
 use Rattle.spans.proofs.Filled.{length-filled, in-filled, past-filled}
@@ -27,9 +26,10 @@ use Rattle.outline.proofs.Draws.{all-numbers}
 use Rattle.asked.specs.declared.Run.{Run}
 use Rattle.asked.specs.declared.Edit.{Edit}
 use Rattle.asked.specs.declared.Edit.the-variants.{Move, Insert, Remove}
-use Rattle.asked.specs.Edits.{exactFresh, countAfter, spansAfter, isSpline, offered, inRange, controlAt, asked, countRound, runOf, isFresh, pointAt}
+use Rattle.asked.specs.Edits.{exactFresh, countAfter, offered, inRange, controlAt, asked, countRound, runOf, isFresh, pointAt}
 use Rattle.asked.specs.Inner.{Askable}
 use Rattle.asked.proofs.Runs.{run-loop, open-most}
+use Rattle.asked.proofs.Splines.{offered-again}
 use Rattle.edit.specs.declared.Change.{Change}
 use Rattle.edit.specs.declared.Edited.{Edited}
 use Rattle.edit.specs.declared.Edited.the-variants.{Done}
@@ -38,9 +38,10 @@ use Rattle.edit.specs.Inner.{Editable, Workable}
 use Rattle.edit.proofs.Exactly.{callRows, done-none, none-done}
 use Rattle.edit.proofs.Passed.{may-edit, same-plan, room-fine}
 use Rattle.edit.proofs.Rows.{new-room, workable}
+use Rattle.asked.proofs.Fresh.{next-span}
 use Rattle.edit.proofs.Worked.{fresh-at}
 use Rattle.sequences.specs.Touched.{recordIn, Touched, InRun, Fresh, oldSpan}
-use Rattle.sequences.proofs.Touched.{AtPlace, run-touched, nought-touched, held-fresh, next-span}
+use Rattle.sequences.proofs.Touched.{AtPlace, run-touched, nought-touched, held-fresh}
 use Rattle.sequences.proofs.OldSpans.{in-some-span, stale-at}
 use Rattle.sequences.proofs.Kept.{at, old-records}
 use Rattle.sequences.proofs.Needed.{touched-needs}
@@ -100,15 +101,7 @@ module _ (e : Edit) (s : Shape) (j : ℕ) (controls lent : List ℤ) (c : Change
 
   -- what the new plan is offered, and where the place is in a new loop
   offered-after : offered e (after .basis) ≡ true
-  offered-after = go e (allowed .offered)
-    where
-      spline : isSpline (before .basis) ≡ true → isSpline (after .basis) ≡ true
-      spline t = ap (λ (d : ℕ). eqb d 1) (recount-stride (after .spans) (before .basis)) ∙ t
-
-      go : (e : Edit) → offered e (before .basis) ≡ true → offered e (after .basis) ≡ true
-      go (Move x y) t = refl
-      go (Insert x y) t = spline t
-      go Remove t = spline t
+  offered-after = offered-again e (after .spans) (before .basis) (allowed .offered)
 
   range : inRange e j (recordsOf (before .basis) (before .spans)) ≡ true
   range = subst (λ (n : ℕ). inRange e j n ≡ true) (sym (allowed .good .records)) (allowed .inRange)

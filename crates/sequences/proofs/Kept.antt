@@ -7,32 +7,33 @@ use Prim.Native.Nat.{ℕ, _+_, _*_, _-_, _/_, _%_, _≤_, _<_}
 use native.Mathlib.Nat.{mul-le-mul-right}
 use native.Mathlib.Omega.{arith}
 use borrow.Author.Tests.{ltb-true, leb-true, lt-ltb, le-ltb}
-use lib.Dec.{ltb, eqb}
+use lib.Dec.{ltb}
 use lib.IntN.{ℤ, pos}
 use lib.ListN.{getD, length}
 use Rattle.curve.specs.declared.Basis.{Basis}
-use Rattle.curve.specs.Span.{stride, firstRecord, coordinate, roundEnd, isLoop, recordAt, recount, records, point}
+use Rattle.curve.specs.Span.{firstRecord, coordinate, roundEnd, isLoop, recordAt, records, point}
 use Rattle.curve.proofs.Round.{round-below, round-past, record-open, same-records, recount-point}
 use Rattle.curve.proofs.Stride.{stride-bounds, first-least}
 use Rattle.shape.specs.declared.Plan.{Plan}
 use Rattle.shape.specs.Inner.{RunsRound}
-use Rattle.shape.specs.Shape.{recordsOf, leastRecords}
+use Rattle.shape.specs.Shape.{recordsOf}
 use Rattle.shape.proofs.Tests.{passes, either}
-use Rattle.shape.proofs.Spans.{tail-few, last-record, first-loop, record-loop, record-below, recount-first, recount-loop, recount-stride, recount-records, round-records, runs-least}
+use Rattle.shape.proofs.Spans.{tail-few, last-record, first-loop, record-loop, record-below, recount-first, recount-loop, recount-records, round-records, runs-least}
 use Rattle.spans.specs.Numbers.{number, perSpan}
 use Rattle.spans.proofs.Filled.{in-filled}
 use Rattle.spans.proofs.Numbers.{span-point}
 use Rattle.asked.specs.declared.Edit.{Edit}
 use Rattle.asked.specs.declared.Edit.the-variants.{Move, Insert, Remove}
-use Rattle.asked.specs.Edits.{countAfter, spansAfter, isSpline, offered, inRange, controlAt, asked, runOf, carriedFrom, isFresh, pointAt}
-use Rattle.asked.proofs.Splines.{spline-first, spline-records}
+use Rattle.asked.specs.Edits.{countAfter, spansAfter, offered, inRange, controlAt, asked, runOf, carriedFrom, isFresh, pointAt}
+use Rattle.asked.proofs.Splines.{spline-first, spline-records, offered-again}
 use Rattle.asked.proofs.Controls.{Beyond, control-before, control-beyond}
 use Rattle.asked.proofs.Runs.{cond-same}
 use Rattle.edit.specs.Reading.{planAfter}
+use Rattle.asked.proofs.Fresh.{next-span}
 use Rattle.edit.proofs.Worked.{fresh-at}
 use Rattle.edit.proofs.Rows.{records-then, place-after}
 use Rattle.sequences.specs.Touched.{recordIn, Touched, oldSpan}
-use Rattle.sequences.proofs.Touched.{AtPlace, place-most, not-past, next-span}
+use Rattle.sequences.proofs.Touched.{AtPlace, not-past}
 use Rattle.sequences.proofs.OldSpans.{in-some-span, not-touched, stale-at}
 
 -- ---- the records of the new controls, by what each of their numbers is
@@ -308,15 +309,7 @@ module _ (e : Edit) (p : Plan) (j : ℕ) (old : List ℤ) (o : offered e (p .bas
   -- So where the lent points are the old outline, what the edit leaves is the new outline's number.
   module _ (left : 1 ≤ p' .spans) (lent : List ℤ) (room : p' .spans * w + 2 ≤ length lent) (held : (i : ℕ) → i < p .spans * w + 2 → getD lent i (pos 0) ≡ number p old i) where
     offered' : offered e b' ≡ true
-    offered' = go e o
-      where
-        spline : isSpline b ≡ true → isSpline b' ≡ true
-        spline t = ap (λ (d : ℕ). eqb d 1) (recount-stride (p' .spans) b) ∙ t
-
-        go : (e : Edit) → offered e b ≡ true → offered e (recount (p' .spans) b) ≡ true
-        go (Move x y) t = refl
-        go (Insert x y) t = spline t
-        go Remove t = spline t
+    offered' = offered-again e (p' .spans) b o
 
     span-drawn : (s i : ℕ) → s < p' .spans → i < w + 2 → pointAt e p' j new lent (s * w + i) ≡ number p' new (s * w + i)
     span-drawn s i h few =

@@ -14,7 +14,7 @@ use Rattle.curve.specs.declared.Basis.{Basis}
 use Rattle.curve.specs.declared.Four.{Four}
 use Rattle.curve.specs.Tab.{tab}
 use Rattle.curve.specs.Span.{firstRecord, coordinate, recordsFrom, roundEnd, isLoop, recordAt, records}
-use Rattle.curve.proofs.Round.{by-round, round-below, round-past, record-open}
+use Rattle.curve.proofs.Round.{round-below, round-past, record-open}
 use Rattle.curve.proofs.Tab.{length-tab, getD-tab}
 use Rattle.shape.specs.Inner.{RunsRound}
 use Rattle.shape.proofs.Spans.{first-loop, record-loop, runs-least}

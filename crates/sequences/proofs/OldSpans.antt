@@ -1,5 +1,5 @@
 -- A number that is not fresh is what the same number of the old span held: no span that has it among its points is in the run, so its own span and the next one are on the same side of the place.
-use mathlib.Core.Path.{_≡_, refl, sym, ap, _∙_}
+use mathlib.Core.Path.{_≡_, sym, ap, _∙_}
 use mathlib.Core.Bool.{true, false, cond}
 use mathlib.Core.Logic.{⊎-elim, inl}
 use mathlib.Core.List.{List}
@@ -11,8 +11,7 @@ use lib.Dec.{ltb}
 use lib.IntN.{ℤ, pos}
 use lib.ListN.{getD, length}
 use lib.Pow.{pow-pos}
-use Rattle.curve.specs.declared.Basis.{Basis}
-use Rattle.curve.specs.Span.{roundEnd, isLoop, recordAt}
+use Rattle.curve.specs.Span.{isLoop, recordAt}
 use Rattle.shape.specs.declared.Plan.{Plan}
 use Rattle.shape.specs.Inner.{RunsRound}
 use Rattle.shape.proofs.Spans.{record-below}
@@ -21,12 +20,13 @@ use Rattle.spans.specs.Numbers.{perSpan}
 use Rattle.spans.proofs.Numbers.{per-span}
 use Rattle.asked.specs.declared.Edit.{Edit}
 use Rattle.asked.specs.declared.Edit.the-variants.{Move, Insert, Remove}
-use Rattle.asked.specs.Edits.{offered, runOf, carriedFrom, isFresh, pointAt}
+use Rattle.asked.specs.Edits.{offered, runOf, isFresh, pointAt}
 use Rattle.asked.proofs.Runs.{cond-same}
 use Rattle.asked.proofs.Splines.{spline-first}
+use Rattle.asked.proofs.Fresh.{next-span}
 use Rattle.edit.proofs.Worked as worked
-use Rattle.sequences.specs.Touched.{recordIn, Touched, Among, oldSpan}
-use Rattle.sequences.proofs.Touched.{AtPlace, run-touched, held-fresh, next-span}
+use Rattle.sequences.specs.Touched.{Touched, Among, oldSpan}
+use Rattle.sequences.proofs.Touched.{AtPlace, run-touched, held-fresh}
 
 -- ---- the span that number q of m spans belongs to
 

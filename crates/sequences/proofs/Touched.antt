@@ -1,18 +1,17 @@
 -- The spans of an edit's run are exactly those that it touches: in an open outline by two bounds, by the stride; in a loop by counting round. And the fresh numbers are exactly those that a span
 -- of the run has among its points.
 use mathlib.Core.Path.{_≡_, refl, sym, ap, _∙_, subst}
-use mathlib.Core.Bool.{Bool, true, false, cond}
+use mathlib.Core.Bool.{true, false, cond}
 use mathlib.Core.Logic.{_⊎_, inl, inr, ⊎-elim, _↔_}
-use Prim.Native.Nat.{ℕ, _+_, _*_, _-_, _/_, _%_, _^_, min, _≤_, _<_}
-use native.Mathlib.Nat.{suc-mul, zero-mul, mul-le-mul-right, le-div-iff-mul-le, div-mul-le-self, lt-div-mul-add, min-le-right}
-use native.Mathlib.Numerals.{add-one}
+use Prim.Native.Nat.{ℕ, _+_, _*_, _-_, _/_, _^_, min, _≤_, _<_}
+use native.Mathlib.Nat.{zero-mul, mul-le-mul-right, le-div-iff-mul-le, div-mul-le-self, lt-div-mul-add, min-le-right}
 use native.Mathlib.Omega.{arith}
 use borrow.Author.Tests.{ltb-true, lt-ltb}
 use lib.Pow.{pow-pos}
 use Rattle.curve.specs.declared.Basis.{Basis}
 use Rattle.curve.specs.declared.Basis.the-variants.{Loop}
-use Rattle.curve.specs.Span.{firstRecord, roundEnd, isLoop, recordAt}
-use Rattle.curve.proofs.Round.{by-round, round-below, round-past, round-within, open-or-loop, record-open, loop-first}
+use Rattle.curve.specs.Span.{firstRecord, roundEnd, isLoop}
+use Rattle.curve.proofs.Round.{by-round, round-below, round-past, round-within, record-open, loop-first}
 use Rattle.shape.specs.declared.Plan.{Plan}
 use Rattle.shape.specs.Inner.{RunsRound}
 use Rattle.shape.specs.Shape.{leastRecords}
@@ -27,8 +26,8 @@ use Rattle.asked.specs.Edits.{offered, firstFresh, pastFresh, clipped, countRou
 use Rattle.asked.proofs.Controls.{Beyond}
 use Rattle.asked.proofs.Splines.{spline-first}
 use Rattle.asked.proofs.Runs.{run-open, run-loop, clipped-none, clipped-most, clipped-spans, past-most}
-use Rattle.asked.proofs.Fresh.{t, r, w, placed, wide, short, last, next-width, starts, ends, fresh-by, by-fresh}
-use Rattle.sequences.specs.Touched.{recordIn, Touched, AtJoint, Among}
+use Rattle.asked.proofs.Fresh.{t, r, placed, wide, short, last, next-span, starts, ends, fresh-by, by-fresh}
+use Rattle.sequences.specs.Touched.{recordIn, Touched, Among}
 
 -- ---- an open outline: the bounds of the run, by the records of a span
 
@@ -40,7 +39,7 @@ not-below {a} {b} {c} {d} (to, from) = (
 )
 
 -- a span is not before the run exactly when the place is not past its last record
-pub first-bound : (e : Edit) (p : Plan) (j t : ℕ) → isLoop (p .basis) ≡ false → offered e (p .basis) ≡ true → (firstFresh e p j ≤ t) ↔ (j ≤ firstRecord (p .basis) t + 3)
+first-bound : (e : Edit) (p : Plan) (j t : ℕ) → isLoop (p .basis) ≡ false → offered e (p .basis) ≡ true → (firstFresh e p j ≤ t) ↔ (j ≤ firstRecord (p .basis) t + 3)
 first-bound (Move x y) p j t ends o = not-below (among-first (p .basis) ends j t)
 first-bound (Insert x y) p j t ends o = (omega (arith, spline-first (p .basis) o t), omega (arith, spline-first (p .basis) o t))
 first-bound Remove p j t ends o = (omega (arith, spline-first (p .basis) o t), omega (arith, spline-first (p .basis) o t))
@@ -120,7 +119,7 @@ AtPlace (Move x y) j n = j < n
 AtPlace (Insert x y) j n = j < n
 AtPlace Remove j n = j ≤ n
 
-pub place-most : (e : Edit) (j n : ℕ) → AtPlace e j n → j ≤ n
+place-most : (e : Edit) (j n : ℕ) → AtPlace e j n → j ≤ n
 place-most (Move x y) j n h = omega arith
 place-most (Insert x y) j n h = omega arith
 place-most Remove j n h = h
@@ -226,10 +225,6 @@ module _ (e : Edit) (p : Plan) (j : ℕ) (o : offered e (p .basis) ≡ true) (ro
           none first here (loop-touched loop first .0 (here, own) .1)
 
 -- ---- the numbers of its points
-
--- the start of the next span
-pub next-span : (s d : ℕ) → (s + 1) * d ≡ s * d + d
-next-span s d = ap (λ (n : ℕ). n * d) (add-one s) ∙ suc-mul s d
 
 -- The spans that have number q among their points are the one that it is in and, at a start, the one before.
 module _ (p : Plan) (q : ℕ) (some : 1 ≤ p .spans) (within : q < p .spans * perSpan (p .depth) + 2) where

@@ -1,5 +1,4 @@
 -- Each number of the answer is its function's.
-use mathlib.Core.Path.{_≡_, ap, _∙_}
 use Prim.Native.Nat.{ℕ}
 use borrow.Author.Needs.{needs}
 use Rattle.asked.specs.declared.Run.{Run}

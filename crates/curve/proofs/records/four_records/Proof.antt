@@ -9,7 +9,7 @@ use lib.IntN.{ℤ, natAbs}
 use lib.ListN.{length}
 use mir.Syntax.{w64}
 use Rattle.whole.proofs.Fit.{kept, kept-is, sfits}
-use Rattle.curve.specs.Span.{firstRecord, coordinate, recordAt, recordsFrom}
+use Rattle.curve.specs.Span.{coordinate, recordAt, recordsFrom}
 use Rattle.curve.proofs.Stride.{first-few}
 use Rattle.curve.proofs.records.four_records.Statement.{statement}
 use Rattle.curve.proofs.records.four_records.Tie as tie

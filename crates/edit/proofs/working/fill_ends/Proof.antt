@@ -1,8 +1,8 @@
 -- The later stretch and then the earlier one, each from what the one before left.
-use mathlib.Core.Path.{_≡_, sym, ap, _∙_, subst}
+use mathlib.Core.Path.{_≡_, ap, _∙_}
 use mathlib.Core.List.{List}
 use mathlib.Core.Logic.{inl, inr}
-use Prim.Native.Nat.{ℕ, _+_, _*_, _-_, _^_, _≤_, _<_}
+use Prim.Native.Nat.{ℕ, _+_, _*_, _-_, _≤_}
 use native.Mathlib.Nat.{mul-le-mul, mul-le-mul-right, le-refl, zero-mul}
 use native.Mathlib.Omega.{arith}
 use borrow.Author.Needs.{needs}
@@ -14,7 +14,7 @@ use Rattle.curve.proofs.Tab.{length-tab}
 use Rattle.shape.specs.declared.Plan.{Plan}
 use Rattle.shape.specs.Shape.{mostRecords}
 use Rattle.shape.proofs.Spans.{runs-least}
-use Rattle.spans.specs.Numbers.{perSpan, remainderOf, exactIn}
+use Rattle.spans.specs.Numbers.{perSpan, remainderOf}
 use Rattle.spans.specs.Filled.{fills}
 use Rattle.spans.proofs.Rounds.{noughts-most}
 use Rattle.curve.specs.Tab.{tab}

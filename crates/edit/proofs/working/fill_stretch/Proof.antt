@@ -4,7 +4,6 @@ use Prim.Native.Nat.{ℕ, _+_, _*_, _-_, _≤_}
 use native.Mathlib.Nat.{mul-le-mul, le-refl, mul-le-mul-right, zero-mul}
 use native.Mathlib.Omega.{arith}
 use borrow.Author.Needs.{needs}
-use lib.ListN.{length}
 use lib.Pow.{pow-mono}
 use Rattle.curve.specs.Ways.{deepest}
 use Rattle.shape.specs.Shape.{mostRecords}

@@ -1,16 +1,14 @@
 -- Nothing where there is no span; else the loop's run, or the run itself.
-use mathlib.Core.Path.{_≡_, sym, ap, _∙_, subst}
+use mathlib.Core.Path.{_≡_, sym, _∙_, subst}
 use mathlib.Core.Bool.{true, false, cond}
-use Prim.Native.Nat.{ℕ, _+_, _*_, _-_, _≤_, _<_}
+use Prim.Native.Nat.{_+_, _-_, _≤_, _<_}
 use native.Mathlib.Nat.{mul-le-mul-right}
 use native.Mathlib.Omega.{arith}
 use borrow.Author.Needs.{needs}
 use Rattle.curve.specs.Span.{isLoop}
 use Rattle.spans.specs.Numbers.{perSpan}
-use Rattle.spans.specs.Filled.{fills}
 use Rattle.asked.specs.declared.Run.{Run}
 use Rattle.asked.proofs.Fresh.{open-stretch}
-use Rattle.edit.specs.Inner.{Runnable}
 use Rattle.edit.proofs.Worked.{none-refreshed, stretch-refreshed}
 use Rattle.edit.proofs.working.rework.Statement.{statement}
 use Rattle.edit.proofs.working.rework.Tie as tie

@@ -7,7 +7,6 @@ use native.Mathlib.Nat.{mul-le-mul-right}
 use native.Mathlib.Omega.{arith}
 use borrow.Author.Needs.{needs}
 use borrow.Author.Tests.{eq-eqb, ne-eqb}
-use Rattle.shape.specs.declared.Plan.{Plan}
 use Rattle.shape.proofs.Tests.{either}
 use Rattle.spans.specs.Numbers.{perSpan}
 use Rattle.spans.specs.Filled.{fills}

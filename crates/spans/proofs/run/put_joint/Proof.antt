@@ -4,7 +4,6 @@ use Prim.Native.Nat.{ℕ, _-_, _≤_}
 use native.Mathlib.Omega.{arith}
 use borrow.Author.Needs.{needs}
 use lib.Dec.{lit<}
-use Rattle.curve.specs.declared.Four.{Four}
 use Rattle.curve.specs.Span.{divisor}
 use Rattle.curve.specs.Inner.{divisorOf, mostBits}
 use Rattle.curve.proofs.Bits.{divisor-bits, bits-most}
