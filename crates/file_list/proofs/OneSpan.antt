@@ -20,7 +20,7 @@ use Rattle.curve.proofs.Tab.{length-tab, getD-tab}
 use Rattle.shape.specs.declared.Shape.{Shape}
 use Rattle.shape.specs.declared.Plan.{Plan}
 use Rattle.shape.specs.Inner.{Good, Lent}
-use Rattle.shape.specs.Shape.{lastBasis, cardinal, leastRecords, basisOf, basisIn, spansOf, recordsOf, allowed, pointsOf}
+use Rattle.shape.specs.Shape.{loop, lastBasis, cardinal, leastRecords, basisOf, basisIn, spansOf, recordsOf, allowed, pointsOf}
 use Rattle.shape.specs.Refusals.{NoRow, shapeRows, listRows, outside, planOf}
 use Rattle.shape.proofs.Refusals.{none-both, row-fails, good-plan, good-records}
 use Rattle.shape.proofs.Seek.{seek-none}
@@ -32,7 +32,7 @@ use Rattle.outline.specs.Outline.{draws, accepts, figuresOf, drawn}
 use Rattle.outline.proofs.Exactly.{none-drawn}
 use Rattle.outline.proofs.Held.{held-number, held-room}
 use Rattle.listing.specs.Listing.{pointLines}
-use Rattle.file_list.specs.Parts.{loop, aloneBasis, oneSpan, spanRoom, ownPoints, ownRecords, spanText}
+use Rattle.file_list.specs.Parts.{aloneBasis, oneSpan, spanRoom, ownPoints, ownRecords, spanText}
 use Rattle.file_list.specs.Inner.{ownNumbers}
 use Rattle.file_list.proofs.EachPart.{steps-few, own-most, records-then}
 use Rattle.file_list.proofs.OwnRecords.{among, place, own-length, own-coordinate}

@@ -13,7 +13,7 @@ use Rattle.shape.specs.declared.Shape.{Shape}
 use Rattle.shape.specs.declared.Plan.{Plan}
 use Rattle.shape.specs.declared.Judged.{Judged}
 use Rattle.shape.specs.declared.Judged.the-variants.{Sound, Unsound}
-use Rattle.shape.specs.Shape.{leastRecords}
+use Rattle.shape.specs.Shape.{bSpline, loop, leastRecords}
 use Rattle.shape.specs.Refusals.{judgeShape}
 use Rattle.outline.specs.declared.Drawn.{Drawn}
 use Rattle.outline.specs.declared.Drawn.the-variants.{Done, Refused}
@@ -25,12 +25,6 @@ use Rattle.listing.specs.Listing.{headingText, pointLines}
 use Rattle.file_list.specs.Files.{mostLine, refusedText}
 
 -- The number of the basis that a span has by itself: a loop's span is a B-spline's (document 02, request 8), and every other basis has its own.
-abbrev pub bSpline : ℕ
-bSpline = 2
-
-abbrev pub loop : ℕ
-loop = 5
-
 abbrev pub aloneBasis : ℕ → ℕ
 aloneBasis b = cond (eqb b loop) bSpline b
 

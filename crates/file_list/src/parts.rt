@@ -24,8 +24,10 @@ use listing::list_points;
 use outline::Drawn;
 use outline::by_differences;
 use record_file::Reading;
+use shape::B_SPLINE;
 use shape::Judged;
 use shape::LEAST_RECORDS;
+use shape::LOOP;
 use shape::Plan;
 use shape::Refusal;
 use shape::Shape;
@@ -38,11 +40,6 @@ const SPAN_NUMBERS: usize = 2 * SPAN_POINTS;
 
 // The numbers of a span's four records.
 const OWN_NUMBERS: usize = 2 * LEAST_RECORDS;
-
-// The bases that a loop's span has in the outline and by itself.
-const LOOP: usize = 5;
-
-const BSPLINE: usize = 2;
 
 // Room for the longest part.
 pub const MOST_PART: usize = LINE * SPAN_POINTS;
@@ -153,7 +150,7 @@ fn copy_span(controls: &[i32], basis: Basis, span: usize, own: &mut [i32]) -> bo
 fn alone_basis(number: usize) -> usize
     ensures { λ r. ⌜ r ≡ aloneBasis number ⌝ }
 {
-    if number == LOOP { BSPLINE } else { number }
+    if number == LOOP { B_SPLINE } else { number }
 }
 
 // The span drawn by itself, and the lines of its own points, numbered as in the outline; none where it is refused.

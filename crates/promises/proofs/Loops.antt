@@ -24,7 +24,7 @@ use Rattle.curve.proofs.Stride.{unit-first}
 use Rattle.shape.specs.declared.Shape.{Shape}
 use Rattle.shape.specs.declared.Plan.{Plan}
 use Rattle.shape.specs.Inner.{Good}
-use Rattle.shape.specs.Shape.{basisOf, spansOf, pointsOf, leastRecords}
+use Rattle.shape.specs.Shape.{loop, basisOf, spansOf, pointsOf, leastRecords}
 use Rattle.shape.specs.Refusals.{planOf, shapeRows, listRows}
 use Rattle.shape.proofs.Refusals.{none-earlier, none-later, good-plan, row-fails}
 use Rattle.shape.proofs.Spans.{loop-spans}
@@ -48,7 +48,7 @@ use Rattle.sequences.specs.Played.{Call, state, played}
 use Rattle.sequences.specs.Touched.{InRun, Fresh}
 use Rattle.sequences.proofs.Again.{drawn-played-redraws}
 use Rattle.sequences.proofs.Answered.{answered-shape, answered-round}
-use Rattle.promises.specs.Loops.{loop, again, repeated, opened}
+use Rattle.promises.specs.Loops.{again, repeated, opened}
 use Rattle.promises.specs.Points.{publishedValue, publishedNumber, publishedDivisor}
 use Rattle.promises.proofs.Points.{drawn-published}
 

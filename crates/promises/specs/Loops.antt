@@ -6,10 +6,6 @@ use lib.ListN.{take}
 use Rattle.curve.specs.declared.Basis.the-variants.{BSpline}
 use Rattle.shape.specs.declared.Plan.{Plan}
 
--- The number of the basis.
-abbrev pub loop : ℕ
-loop = 5
-
 -- The n records of a loop with the first three repeated at the end.
 abbrev pub again : ℕ
 again = 3

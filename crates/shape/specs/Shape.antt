@@ -12,9 +12,15 @@ use Rattle.shape.specs.declared.Shape.{Shape}
 abbrev pub lastBasis : ℕ
 lastBasis = 5
 
--- The number of the one that has a parameter.
+-- The numbers of those that are spoken of alone: the open B-spline, the one that has a parameter, and the loop.
+abbrev pub bSpline : ℕ
+bSpline = 2
+
 abbrev pub cardinal : ℕ
 cardinal = 3
+
+abbrev pub loop : ℕ
+loop = 5
 
 -- A parameter in 64ths: 0 means one half, as 32 does (document 02, request 7).
 unfoldable pub sixtyFourths : ℕ → ℕ

@@ -71,9 +71,14 @@ const FIRST_BASIS: usize = 1;
 
 const LAST_BASIS: usize = 5;
 
-// The number of the one that has a parameter, and the parameter that nought stands for, one half in 64ths.
+// The numbers of those that are spoken of alone: the open B-spline, the one that has a parameter, and the loop.
+pub const B_SPLINE: usize = 2;
+
 const CARDINAL: usize = 3;
 
+pub const LOOP: usize = 5;
+
+// The parameter that nought stands for, one half in 64ths.
 const ONE_HALF: usize = 32;
 
 // A span takes four records, whatever the basis, and a loop has four at least; n is at most 64.

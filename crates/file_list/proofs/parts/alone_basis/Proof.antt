@@ -2,7 +2,7 @@
 use mathlib.Core.Bool.{Bool, cond}
 use mathlib.Core.Path.{sym, ap}
 use borrow.Author.Tests.{eq-eqb, ne-eqb}
-use Rattle.file_list.specs.Parts.{loop, bSpline}
+use Rattle.shape.specs.Shape.{bSpline, loop}
 use Rattle.file_list.proofs.parts.alone_basis.Statement.{statement}
 use Rattle.file_list.proofs.parts.alone_basis.Tie as tie
 
