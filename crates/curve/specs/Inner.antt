@@ -35,9 +35,12 @@ divisorOf bits = 6 * 2 ^ bits
 abbrev pub mostBits : ℕ
 mostBits = 5 + 3 * deepest
 
--- A list of `len` numbers holds the four records of span s.
+-- A list of `len` numbers holds the four records from one on, as a basis counts them, and those of span s.
+abbrev pub HoldsFrom : Basis → ℕ → ℕ → Type 0
+HoldsFrom b first len = (r : ℕ) → r < 4 → 2 * recordAt b (first + r) + 2 ≤ len
+
 abbrev pub Holds : Basis → ℕ → ℕ → Type 0
-Holds b s len = (r : ℕ) → r < 4 → 2 * recordAt b (firstRecord b s + r) + 2 ≤ len
+Holds b s len = HoldsFrom b (firstRecord b s) len
 
 -- A sum and its differences that are far from the ends of 64 bits.
 pub record Small (s : Differences) : Type 0 where

@@ -5,8 +5,8 @@ ghost use lib.IntN.{natAbs};
 ghost use lib.ListN.{length};
 ghost use Rattle.curve.specs.Published.{mostParameter};
 ghost use Rattle.curve.specs.Limits.{Inside, limit, parameterOf};
-ghost use Rattle.curve.specs.Inner.{Holds};
-ghost use Rattle.curve.specs.Span.{stride, firstRecord, roundEnd, isLoop, recordAt, recount, records, coordinate, wholeControls};
+ghost use Rattle.curve.specs.Inner.{Holds, HoldsFrom};
+ghost use Rattle.curve.specs.Span.{stride, firstRecord, recordsFrom, roundEnd, isLoop, recordAt, recount, records, coordinate, wholeControls};
 use crate::Basis;
 use crate::Four;
 
@@ -88,18 +88,43 @@ fn coordinate_of(controls: &[i32], basis: Basis, place: usize, axis: usize) -> i
     controls[2 * record_at(basis, place) + axis] as i64
 }
 
-// The four records of a span on an axis.
-pub fn four_records(controls: &[i32], basis: Basis, span: usize, axis: usize) -> Four
-    requires { ⌜ (span < 2 ^ 62) × (axis < 2) × Holds basis span (length (now controls)) ⌝ }
-    ensures { λ r. ⌜ r ≡ records basis span (coordinate (now (controls .entry)) axis) ⌝ }
+// The four records from `first` on, on an axis: 0 is x, 1 is y.
+fn four_from(controls: &[i32], first: usize, axis: usize) -> Four
+    requires { ⌜ 2 * first + axis + 6 < length (now controls) ⌝ }
+    ensures { λ r. ⌜ r ≡ recordsFrom first (coordinate (now (controls .entry)) axis) ⌝ }
 {
-    let first = first_record(basis, span);
+    let at = 2 * first + axis;
+    Four {
+        a: controls[at] as i64,
+        b: controls[at + 2] as i64,
+        c: controls[at + 4] as i64,
+        d: controls[at + 6] as i64,
+    }
+}
+
+// The same as a basis counts them, each by itself.
+fn four_round(controls: &[i32], basis: Basis, first: usize, axis: usize) -> Four
+    requires { ⌜ (first ≤ 3 * 2 ^ 62) × (axis < 2) × HoldsFrom basis first (length (now controls)) ⌝ }
+    ensures { λ r. ⌜ r ≡ recordsFrom first (λ place. coordinate (now (controls .entry)) axis (recordAt basis place)) ⌝ }
+{
     Four {
         a: coordinate_of(controls, basis, first, axis),
         b: coordinate_of(controls, basis, first + 1, axis),
         c: coordinate_of(controls, basis, first + 2, axis),
         d: coordinate_of(controls, basis, first + 3, axis),
     }
+}
+
+// The four records of a span on an axis. Those of an open basis stand one after another, so that they need not be counted.
+pub fn four_records(controls: &[i32], basis: Basis, span: usize, axis: usize) -> Four
+    requires { ⌜ (span < 2 ^ 62) × (axis < 2) × Holds basis span (length (now controls)) ⌝ }
+    ensures { λ r. ⌜ r ≡ records basis span (coordinate (now (controls .entry)) axis) ⌝ }
+{
+    let first = first_record(basis, span);
+    if is_loop(basis) {
+        return four_round(controls, basis, first, axis);
+    }
+    four_from(controls, first, axis)
 }
 
 // The four Bezier controls of a span: six times, and of a cardinal one 192 times.
