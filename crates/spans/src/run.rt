@@ -134,7 +134,7 @@ fn fill_run(
     }
 }
 
-// The same by weights. Here and nowhere else the table is bound: once a call, for drawing and for edits.
+// The same by weights. Here and nowhere else the table is bound: once for a drawing and for an edit, and twice where a loop's run goes round its end.
 pub fn fill_by_weights(
     points: &mut [i32],
     controls: &[i32],
