@@ -95,7 +95,7 @@ denominator (Cardinal c) = mostParameter
 denominator Hermite = 1
 denominator (Loop n) = 6
 
--- Document 01 has a Hermite span's records as start, start tangent, end, end tangent; the matrix wants both ends first.
+-- Document 01 has a Hermite span's records as start, start tangent, end, end tangent; the matrix wants both ends first. A span of a loop is a B-spline's (004, section 3.1.2).
 unfoldable pub published : Basis → Four → ℤ → ℤ → ℤ
 published Bezier p i h = cubic bezierMatrix p i h
 published BSpline p i h = cubic bSplineMatrix p i h

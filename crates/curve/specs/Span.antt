@@ -44,7 +44,7 @@ isLoop (Cardinal c) = false
 isLoop Hermite = false
 isLoop (Loop n) = true
 
--- Record r as a basis counts its records: those of a loop run round (document 02, request 8).
+-- Record r as a basis counts its records: those of a loop run round (document 02, request 8; 004, section 3.1.2, "Joining the ends").
 abbrev pub recordAt : Basis → ℕ → ℕ
 recordAt Bezier r = r
 recordAt BSpline r = r

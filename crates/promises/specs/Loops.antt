@@ -6,7 +6,7 @@ use lib.ListN.{take}
 use Rattle.curve.specs.declared.Basis.the-variants.{BSpline}
 use Rattle.shape.specs.declared.Plan.{Plan}
 
--- The n records of a loop with the first three repeated at the end.
+-- The n records of a loop with the first three repeated at the end: so 004, section 3.1.2, joins the ends of a B-spline of order 4, by its first 4 - 1 points again.
 abbrev pub again : ℕ
 again = 3
 

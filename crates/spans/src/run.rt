@@ -149,21 +149,6 @@ pub fn fill_by_weights(
     fill_run(Way::Weights, &table, points, controls, plan, from, to)
 }
 
-// The point where the first and the last span of a loop meet, which is the end of the last one, at one of its two places. It answers how many of its numbers are exact.
-pub fn put_joint(points: &mut [i32], controls: &[i32], plan: Plan, at: usize) -> usize
-    requires { ⌜ (plan .depth ≤ deepest) × (1 ≤ plan .spans) × Drawable plan (now controls) ⌝ }
-    requires { ⌜ Joint plan at × (at + 2 ≤ length (now points)) ⌝ }
-    ensures { λ r. ⌜ outcome r (now (points .exit)) ≡ fills plan (now (controls .entry)) at 2 (now (points .entry)) ⌝ }
-{
-    let basis = plan.basis;
-    let depth = plan.depth;
-    let bits = divisor_bits(basis, depth);
-    let last = plan.spans - 1;
-    let x = span_controls(controls, plan, last, 0);
-    let y = span_controls(controls, plan, last, 1);
-    put_end(points, at, depth, bits, x, y, 0)
-}
-
 // The same by any way. Halving and differences read no table.
 pub fn fill_spans(
     way: Way,
@@ -181,4 +166,19 @@ pub fn fill_spans(
         Way::Halving => fill_run(Way::Halving, &[], points, controls, plan, from, to),
         Way::Differences => fill_run(Way::Differences, &[], points, controls, plan, from, to),
     }
+}
+
+// The point where the first and the last span of a loop meet, which is the end of the last one, at one of its two places. It answers how many of its numbers are exact.
+pub fn put_joint(points: &mut [i32], controls: &[i32], plan: Plan, at: usize) -> usize
+    requires { ⌜ (plan .depth ≤ deepest) × (1 ≤ plan .spans) × Drawable plan (now controls) ⌝ }
+    requires { ⌜ Joint plan at × (at + 2 ≤ length (now points)) ⌝ }
+    ensures { λ r. ⌜ outcome r (now (points .exit)) ≡ fills plan (now (controls .entry)) at 2 (now (points .entry)) ⌝ }
+{
+    let basis = plan.basis;
+    let depth = plan.depth;
+    let bits = divisor_bits(basis, depth);
+    let last = plan.spans - 1;
+    let x = span_controls(controls, plan, last, 0);
+    let y = span_controls(controls, plan, last, 1);
+    put_end(points, at, depth, bits, x, y, 0)
 }
