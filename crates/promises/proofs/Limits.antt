@@ -8,10 +8,10 @@ use lib.Signed.{_≤ℤ_}
 use Rattle.whole.specs.Outcome.{outcome}
 use Rattle.curve.specs.declared.Four.{Four}
 use Rattle.curve.specs.declared.Basis.{Basis}
-use Rattle.curve.specs.declared.Basis.the-variants.{Bezier, BSpline}
+use Rattle.curve.specs.declared.Basis.the-variants.{Bezier, BSpline, Loop}
 use Rattle.curve.specs.Published.{mostParameter}
 use Rattle.curve.specs.Limits.{Box, Inside, limit, reach, parameterOf}
-use Rattle.curve.specs.Span.{point}
+use Rattle.curve.specs.Span.{point, wholeControls}
 use Rattle.curve.proofs.Limits as curve
 use Rattle.shape.specs.declared.Shape.{Shape}
 use Rattle.shape.specs.Refusals.{planOf}
@@ -28,6 +28,11 @@ bezier-in-box = curve.bezier-box
 
 pub b-spline-in-box : (k i : ℕ) (q : Four) (lo hi : ℤ) → i ≤ 2 ^ k → Box lo hi q → (lo ≤ℤ point BSpline k q i) × (point BSpline k q i ≤ℤ hi)
 b-spline-in-box = curve.bSpline-box
+
+-- and so does every point of a loop, whose spans are B-spline spans
+pub loop-in-box : (n k i : ℕ) (q : Four) (lo hi : ℤ) → i ≤ 2 ^ k → Box lo hi q → (lo ≤ℤ point (Loop n) k q i) × (point (Loop n) k q i ≤ℤ hi)
+unfolding point wholeControls
+loop-in-box n = curve.bSpline-box
 
 -- every point of records inside the limits, with a parameter that is offered, lies within the reach of its basis: 5,000,000 either way, of a cardinal one 6,000,000
 pub within-reach : (b : Basis) (k i : ℕ) (q : Four) → i ≤ 2 ^ k → parameterOf b ≤ mostParameter → Inside limit q → natAbs (point b k q i) ≤ reach b
