@@ -1,16 +1,14 @@
 -- The four records stand one after another, as the basis counts them, and the list holds each.
-use mathlib.Core.Path.{_≡_, sym, ap, _∙_, subst}
+use mathlib.Core.Path.{_≡_, _∙_, subst}
 use Prim.Native.Nat.{ℕ, _+_, _*_, _^_, _≤_, _<_}
 use native.Mathlib.Nat.{add-zero}
 use native.Mathlib.Omega.{arith}
-use borrow.Author.Needs.{needs}
 use lib.Dec.{lit<}
 use lib.IntN.{ℤ, natAbs}
 use lib.ListN.{length}
 use mir.Syntax.{w64}
 use Rattle.whole.proofs.Fit.{kept, kept-is, sfits}
-use Rattle.curve.specs.Span.{coordinate, recordAt, recordsFrom}
-use Rattle.curve.proofs.Stride.{first-few}
+use Rattle.curve.specs.Span.{recordAt, recordsFrom}
 use Rattle.curve.proofs.records.four_round.Statement.{statement}
 use Rattle.curve.proofs.records.four_round.Tie as tie
 
