@@ -1,12 +1,12 @@
 -- Why the spans that are not in an edit's run need no work: such a span has the four records that its old span had, so each of its numbers is the old outline's.
 use mathlib.Core.Path.{_≡_, refl, sym, ap, _∙_, subst}
-use mathlib.Core.Bool.{true, false, cond}
+use mathlib.Core.Bool.{true, false}
 use mathlib.Core.Logic.{⊎-elim, _⊎_, inl, inr}
 use mathlib.Core.List.{List}
 use Prim.Native.Nat.{ℕ, _+_, _*_, _-_, _/_, _%_, _≤_, _<_}
 use native.Mathlib.Nat.{mul-le-mul-right}
 use native.Mathlib.Omega.{arith}
-use borrow.Author.Tests.{ltb-true, leb-true, lt-ltb, le-ltb}
+use borrow.Author.Tests.{ltb-true, leb-true}
 use lib.Dec.{ltb}
 use lib.IntN.{ℤ, pos}
 use lib.ListN.{getD, length}
@@ -34,7 +34,7 @@ use Rattle.edit.proofs.Worked.{fresh-at}
 use Rattle.edit.proofs.Rows.{records-then, place-after}
 use Rattle.sequences.specs.Touched.{recordIn, Touched, oldSpan}
 use Rattle.sequences.proofs.Touched.{AtPlace, not-past}
-use Rattle.sequences.proofs.OldSpans.{in-some-span, not-touched, stale-at}
+use Rattle.sequences.proofs.OldSpans.{old-early, old-late, in-some-span, not-touched, stale-at}
 
 -- ---- the records of the new controls, by what each of their numbers is
 
@@ -140,15 +140,11 @@ round-back (Move x y) j m s i some h past end = round-past m (s + i) end
 round-back (Insert x y) j m s i some h past end = round-past m (s - 1 + i) (omega arith) ∙ omega arith
 round-back Remove j m s i some h past end = round-past m (s + 1 + i) (omega arith) ∙ omega arith
 
--- which old span it is: itself where its records are before the place
-old-early : (e : Edit) (j s : ℕ) → s < j → oldSpan e j s ≡ s
-old-early e j s h = ap (λ v. cond v s (carriedFrom e 1 s)) (lt-ltb s j h)
-
--- and else the one that it is carried from
+-- which old span it is where they are past the place: the one that it is carried from
 old-later : (e : Edit) (b : Basis) (j s : ℕ) → offered e b ≡ true → Beyond e j (firstRecord b s) → oldSpan e j s ≡ carriedFrom e 1 s
 old-later (Move x y) b j s o h = cond-same (ltb s j) s
-old-later (Insert x y) b j s o h = ap (λ v. cond v s (s - 1)) (le-ltb s j (omega (arith, spline-first b o s)))
-old-later Remove b j s o h = ap (λ v. cond v s (s + 1)) (le-ltb s j (omega (arith, spline-first b o s)))
+old-later (Insert x y) b j s o h = old-late (Insert x y) j s (omega (arith, spline-first b o s))
+old-later Remove b j s o h = old-late Remove j s (omega (arith, spline-first b o s))
 
 -- it exists
 later-exists : (e : Edit) (b : Basis) (j m s : ℕ) → offered e b ≡ true → s < spansAfter e m → Beyond e j (firstRecord b s) → carriedFrom e 1 s < m

@@ -20,13 +20,21 @@ use Rattle.spans.specs.Numbers.{perSpan}
 use Rattle.spans.proofs.Numbers.{per-span}
 use Rattle.asked.specs.declared.Edit.{Edit}
 use Rattle.asked.specs.declared.Edit.the-variants.{Move, Insert, Remove}
-use Rattle.asked.specs.Edits.{offered, runOf, isFresh, pointAt}
+use Rattle.asked.specs.Edits.{offered, runOf, carriedFrom, isFresh, pointAt}
 use Rattle.asked.proofs.Runs.{cond-same}
 use Rattle.asked.proofs.Splines.{spline-first}
 use Rattle.asked.proofs.Fresh.{next-span}
 use Rattle.edit.proofs.Worked as worked
 use Rattle.sequences.specs.Touched.{Touched, Among, oldSpan}
 use Rattle.sequences.proofs.Touched.{AtPlace, run-touched, held-fresh}
+
+-- ---- the old span that span t holds: before the place its own, and from there on the one that is carried there
+
+pub old-early : (e : Edit) (j t : ℕ) → t < j → oldSpan e j t ≡ t
+old-early e j t early = simp (lt-ltb t j early)
+
+pub old-late : (e : Edit) (j t : ℕ) → j ≤ t → oldSpan e j t ≡ carriedFrom e 1 t
+old-late e j t late = simp (le-ltb t j late)
 
 -- ---- the span that number q of m spans belongs to
 
@@ -135,14 +143,14 @@ module _ (p : Plan) (j : ℕ) (round : RunsRound (p .basis) (p .spans)) (c lent 
       (λ (early : t < j).
       let before : span < j = ⊎-elim (λ (l : span < j). l) (λ (l : j ≤ span). absurd (not (inserted p j t round x y 1 o at (omega arith) (omega (arith, l, high))))) (either span j) in
       ap (λ v. cond v (getD lent at-place (pos 0)) (getD lent (at-place - w') (pos 0))) (lt-ltb span j before)
-      ∙ ap (λ v. getD lent (cond v t (t - 1) * w' + i) (pos 0)) (sym (lt-ltb t j early)))
+      ∙ ap (λ (n : ℕ). getD lent (n * w' + i) (pos 0)) (sym (old-early e j t early)))
       (λ (late : j ≤ t).
       let past : j < t = ⊎-elim (λ (l : j < t). l) (λ (l : t ≤ j). absurd (not (inserted p j t round x y 0 o at (omega arith) (omega arith)))) (either j t) in
       let one : t - 1 + 1 ≡ t = omega arith in
       let back : at-place - w' ≡ (t - 1) * w' + i = omega (arith, next-span (t - 1) w', ap (λ (n : ℕ). n * w') one) in
       ap (λ v. cond v (getD lent at-place (pos 0)) (getD lent (at-place - w') (pos 0))) (le-ltb span j (omega (arith, low)))
       ∙ ap (λ (n : ℕ). getD lent n (pos 0)) back
-      ∙ ap (λ v. getD lent (cond v t (t - 1) * w' + i) (pos 0)) (sym (le-ltb t j late)))
+      ∙ ap (λ (n : ℕ). getD lent (n * w' + i) (pos 0)) (sym (old-late e j t late)))
       (either t j)
   stale-at Remove o at stale =
       let not = not-touched Remove p j o round at c lent some room t i h few stale in
@@ -154,10 +162,10 @@ module _ (p : Plan) (j : ℕ) (round : RunsRound (p .basis) (p .spans)) (c lent 
       (λ (early : t < j).
       let before : span < j = ⊎-elim (λ (l : span < j). l) (λ (l : j ≤ span). absurd (not (removed p j t round o (omega (arith, l, high))))) (either span j) in
       ap (λ v. cond v (getD lent at-place (pos 0)) (getD lent (at-place + w') (pos 0))) (lt-ltb span j before)
-      ∙ ap (λ v. getD lent (cond v t (t + 1) * w' + i) (pos 0)) (sym (lt-ltb t j early)))
+      ∙ ap (λ (n : ℕ). getD lent (n * w' + i) (pos 0)) (sym (old-early Remove j t early)))
       (λ (late : j ≤ t).
       let on : at-place + w' ≡ (t + 1) * w' + i = omega (arith, next-span t w') in
       ap (λ v. cond v (getD lent at-place (pos 0)) (getD lent (at-place + w') (pos 0))) (le-ltb span j (omega (arith, low)))
       ∙ ap (λ (n : ℕ). getD lent n (pos 0)) on
-      ∙ ap (λ v. getD lent (cond v t (t + 1) * w' + i) (pos 0)) (sym (le-ltb t j late)))
+      ∙ ap (λ (n : ℕ). getD lent (n * w' + i) (pos 0)) (sym (old-late Remove j t late)))
       (either t j)

@@ -1,5 +1,5 @@
 -- After every list of calls, done ones and refused ones in any order, the points are the outline of the controls, where they were at the start.
-use mathlib.Core.Path.{_≡_, sym, ap, _∙_, subst}
+use mathlib.Core.Path.{_≡_, refl, sym, ap, _∙_, subst}
 use mathlib.Core.Logic.{⊎-elim}
 use mathlib.Core.List.{List, [], _∷_}
 use Prim.Native.Nat.{ℕ, _*_}
@@ -50,6 +50,13 @@ module _ (e : Edit) (s : Shape) (j : ℕ) (controls lent : List ℤ) where
       (λ none. subst (λ o. Outlined (stateThen s o)) (sym (none-done e s j controls lent none)) (done-outlined none out))
       (verdict (callRows e s j controls lent))
 
+  -- and it leaves the basis
+  edit-basis : stateThen s (edits e s j controls lent) .shape .basis ≡ s .basis
+  edit-basis =
+      ⊎-elim (λ (v : (r : Refusal) × First (callRows e s j controls lent) r). ap (λ o. stateThen s o .shape .basis) (first-refused e s j controls lent (v .0) (v .1)))
+      (λ none. ap (λ o. stateThen s o .shape .basis) (none-done e s j controls lent none))
+      (verdict (callRows e s j controls lent))
+
 pub called-outlined : (t : State) (c : Call) → Outlined t → Outlined (called t c)
 unfolding called
 called-outlined t c out = edit-outlined (c .edit) (t .shape) (c .place) (t .controls) (t .held) out
@@ -73,6 +80,11 @@ pub played-outlined : (t : State) (calls : List Call) → Outlined t → Outline
 unfolding played
 played-outlined t [] out = out
 played-outlined t (c ∷ calls) out = played-outlined (called t c) calls (called-outlined t c out)
+
+pub played-basis : (t : State) (calls : List Call) → played t calls .shape .basis ≡ t .shape .basis
+unfolding played called
+played-basis t [] = refl
+played-basis t (c ∷ calls) = played-basis (called t c) calls ∙ edit-basis (c .edit) (t .shape) (c .place) (t .controls) (t .held)
 
 -- ---- from the first drawing on
 
