@@ -47,7 +47,7 @@ use Rattle.edit.specs.Reading.{edits}
 use Rattle.sequences.specs.Played.{Call, state, played}
 use Rattle.sequences.specs.Touched.{InRun, Fresh}
 use Rattle.sequences.proofs.Again.{drawn-played-redraws}
-use Rattle.sequences.proofs.Played.{played-basis}
+use Rattle.sequences.proofs.Played.{played-leaves}
 use Rattle.sequences.proofs.Answered.{answered-shape, answered-round}
 use Rattle.promises.specs.Loops.{again, repeated, opened}
 use Rattle.promises.specs.Points.{publishedValue, publishedNumber, publishedDivisor}
@@ -157,7 +157,7 @@ pub played-closed : (s : Shape) (controls lent : List ℤ) (fs : Figures) (held 
     → getD (played (state s controls held) calls .held) (2 * (points (planOf (played (state s controls held) calls .shape)) - 1) + axis) (pos 0) ≡ getD (played (state s controls held) calls .held) axis (pos 0)
 played-closed s controls lent fs held calls done five axis two =
     let t = played (state s controls held) calls in
-    loop-closed (t .shape) (played-basis (state s controls held) calls ∙ five) (t .controls) (t .held) (figuresOf (planOf (t .shape)) (t .controls)) (t .held) (drawn-played-redraws s controls lent fs held calls done) axis two
+    loop-closed (t .shape) (played-leaves (λ u. u .basis) (λ e u. refl) (state s controls held) calls ∙ five) (t .controls) (t .held) (figuresOf (planOf (t .shape)) (t .controls)) (t .held) (drawn-played-redraws s controls lent fs held calls done) axis two
 
 -- ---- an accepted edit of a loop
 

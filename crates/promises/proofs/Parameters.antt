@@ -34,8 +34,8 @@ use Rattle.shape.specs.declared.Plan.{Plan}
 use Rattle.shape.specs.declared.Refusal.{Refusal}
 use Rattle.shape.specs.declared.Judged.the-variants.{Unsound}
 use Rattle.shape.specs.Shape.{lastBasis, cardinal, sixtyFourths, basisOf, spansOf, allowed}
-use Rattle.shape.specs.Refusals.{Row, row, First, NoRow, judge, basisRow, depthRow, parameterRow, countRow, shapeRows, planOf, judgeShape}
-use Rattle.shape.proofs.Refusals.{judge-append, verdict, unsound, first-unsound}
+use Rattle.shape.specs.Refusals.{Row, row, judge, basisRow, depthRow, parameterRow, countRow, shapeRows, planOf, judgeShape}
+use Rattle.shape.proofs.Refusals.{judge-append, unsound, first-unsound}
 use Rattle.spans.specs.Numbers.{sumOf, number, remainderOf, nought, noughts, exactIn}
 use Rattle.pieces.proofs.Even.{nought-times}
 use Rattle.outline.specs.declared.Figures.{Figures}
@@ -57,8 +57,8 @@ use Rattle.edit.specs.declared.Edited.the-variants as edited
 use Rattle.edit.specs.Reading as reading
 use Rattle.edit.specs.Reading.{shapeAfter, edits}
 use Rattle.edit.proofs.Rows.{shape-bad}
-use Rattle.edit.proofs.Exactly.{callRows, first-refused, none-done}
-use Rattle.sequences.specs.Played.{State, Call, stateThen, called, played}
+use Rattle.sequences.specs.Played.{State, Call, played}
+use Rattle.sequences.proofs.Played.{played-leaves}
 use Rattle.preview.specs.declared.Previewed.the-variants as previewed
 use Rattle.preview.specs.Preview as preview
 use Rattle.preview.specs.Preview.{previewing}
@@ -270,20 +270,9 @@ module _ (s : Shape) (three : s .basis ≡ cardinal) (shallow : s .depth ≤ dee
 
 -- ---- handed on
 
-once : (t : State) (c : Call) → called t c .shape .parameter ≡ t .shape .parameter
-unfolding called
-once t c =
-    let rows = callRows (c .edit) (t .shape) (c .place) (t .controls) (t .held) in
-    ⊎-elim
-    (λ (v : (r : Refusal) × First rows r). ap (λ o. stateThen (t .shape) o .shape .parameter) (first-refused (c .edit) (t .shape) (c .place) (t .controls) (t .held) (v .0) (v .1)))
-    (λ (none : NoRow rows). ap (λ o. stateThen (t .shape) o .shape .parameter) (none-done (c .edit) (t .shape) (c .place) (t .controls) (t .held) none))
-    (verdict rows)
-
 -- after any sequence of edits, refused ones among them, the shape's parameter is the one it came with
 pub handed-on : (t : State) (calls : List Call) → played t calls .shape .parameter ≡ t .shape .parameter
-unfolding played
-handed-on t [] = refl
-handed-on t (c ∷ calls) = handed-on (called t c) calls ∙ once t c
+handed-on t calls = played-leaves (λ s. s .parameter) (λ e s. refl) t calls
 
 -- ---- files without parameters
 

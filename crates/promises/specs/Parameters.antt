@@ -63,7 +63,7 @@ unfoldable pub oldRecordRows : List ℕ → ℕ → ℕ → List Row
 oldRecordRows file r zero = []
 oldRecordRows file r (suc n) = oldZerosRow file r ∷ oldAlikeRow file r ∷ oldRecordRows file (suc r) n
 
--- Then 1, 2, 3 for the shape, which is one with parameter 0, and 7, 8.
+-- Then 1, 2, 3 for the shape, which is one with parameter 0, and 7, 8. Rows 1 and 2 are those of today, with the basis and the depths that came with requests 8 and 10.
 abbrev pub oldShape : List ℕ → ℕ → Shape
 oldShape file n = record { basis = byte file 0 0; depth = byte file 0 1; count = n; parameter = 0 }
 

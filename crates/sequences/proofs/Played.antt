@@ -50,13 +50,6 @@ module _ (e : Edit) (s : Shape) (j : ℕ) (controls lent : List ℤ) where
       (λ none. subst (λ o. Outlined (stateThen s o)) (sym (none-done e s j controls lent none)) (done-outlined none out))
       (verdict (callRows e s j controls lent))
 
-  -- and it leaves the basis
-  edit-basis : stateThen s (edits e s j controls lent) .shape .basis ≡ s .basis
-  edit-basis =
-      ⊎-elim (λ (v : (r : Refusal) × First (callRows e s j controls lent) r). ap (λ o. stateThen s o .shape .basis) (first-refused e s j controls lent (v .0) (v .1)))
-      (λ none. ap (λ o. stateThen s o .shape .basis) (none-done e s j controls lent none))
-      (verdict (callRows e s j controls lent))
-
 pub called-outlined : (t : State) (c : Call) → Outlined t → Outlined (called t c)
 unfolding called
 called-outlined t c out = edit-outlined (c .edit) (t .shape) (c .place) (t .controls) (t .held) out
@@ -81,10 +74,21 @@ unfolding played
 played-outlined t [] out = out
 played-outlined t (c ∷ calls) out = played-outlined (called t c) calls (called-outlined t c out)
 
-pub played-basis : (t : State) (calls : List Call) → played t calls .shape .basis ≡ t .shape .basis
-unfolding played called
-played-basis t [] = refl
-played-basis t (c ∷ calls) = played-basis (called t c) calls ∙ edit-basis (c .edit) (t .shape) (c .place) (t .controls) (t .held)
+-- what an accepted edit leaves of a shape, so does every list of calls
+module _ (part : Shape → ℕ) (left : (e : Edit) (s : Shape) → part (shapeAfter e s) ≡ part s) where
+  called-leaves : (t : State) (c : Call) → part (called t c .shape) ≡ part (t .shape)
+  unfolding called
+  called-leaves t c =
+      let rows = callRows (c .edit) (t .shape) (c .place) (t .controls) (t .held) in
+      ⊎-elim
+      (λ (v : (r : Refusal) × First rows r). ap (λ o. part (stateThen (t .shape) o .shape)) (first-refused (c .edit) (t .shape) (c .place) (t .controls) (t .held) (v .0) (v .1)))
+      (λ (none : NoRow rows). ap (λ o. part (stateThen (t .shape) o .shape)) (none-done (c .edit) (t .shape) (c .place) (t .controls) (t .held) none) ∙ left (c .edit) (t .shape))
+      (verdict rows)
+
+  pub played-leaves : (t : State) (calls : List Call) → part (played t calls .shape) ≡ part (t .shape)
+  unfolding played
+  played-leaves t [] = refl
+  played-leaves t (c ∷ calls) = played-leaves (called t c) calls ∙ called-leaves t c
 
 -- ---- from the first drawing on
 
