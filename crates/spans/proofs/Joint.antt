@@ -1,5 +1,5 @@
 -- A loop is closed: its last point is its first one again, coordinate by coordinate, with what is left over of each (document 02, request 8).
-use mathlib.Core.Bool.{true, cond}
+use mathlib.Core.Bool.{true}
 use mathlib.Core.List.{List}
 use mathlib.Core.Logic.{⊎-elim}
 use mathlib.Core.Path.{_≡_, sym, ap, _∙_, subst}
@@ -9,7 +9,6 @@ use native.Mathlib.Omega.{arith}
 use lib.IntN.{ℤ}
 use Rattle.whole.specs.Nearest.{nearest, remainder}
 use Rattle.curve.specs.declared.Basis.{Basis}
-use Rattle.curve.specs.declared.Basis.the-variants.{Bezier, BSpline, Cardinal, Hermite, Loop}
 use Rattle.curve.specs.Span.{coordinate, isLoop, records, divisor, sumAt}
 use Rattle.curve.specs.Tab.{tab}
 use Rattle.curve.proofs.Round.{loop-closes}
@@ -17,18 +16,14 @@ use Rattle.curve.proofs.Span.{joint}
 use Rattle.curve.proofs.Tab.{tab-same}
 use Rattle.shape.specs.declared.Plan.{Plan}
 use Rattle.shape.specs.Inner.{RunsRound}
+use Rattle.shape.proofs.Spans.{loop-is, runs-least}
 use Rattle.spans.specs.Numbers.{sumOf, number, remainderOf, perSpan}
 use Rattle.spans.specs.Inner.{Joint, ending}
 use Rattle.spans.proofs.Numbers.{spanControls, span-sum, end-sum, last-two}
 
 -- past its last span comes its first again
 closes : (b : Basis) (m : ℕ) (at : ℕ → ℤ) → RunsRound b m → isLoop b ≡ true → records b m at ≡ records b 0 at
-closes Bezier m at round e = absurd (subst (λ t. cond t ⊥ Unit) e tt)
-closes BSpline m at round e = absurd (subst (λ t. cond t ⊥ Unit) e tt)
-closes (Cardinal c) m at round e = absurd (subst (λ t. cond t ⊥ Unit) e tt)
-closes Hermite m at round e = absurd (subst (λ t. cond t ⊥ Unit) e tt)
-closes (Loop n) m at (is, least) e =
-    ap (λ (s : ℕ). records (Loop n) s at) (sym is) ∙ loop-closes n at (omega (arith, is, least))
+closes b m at round loop = subst (λ x. records x m at ≡ records x 0 at) (sym (loop-is b m round loop)) (loop-closes m at (runs-least b m round loop))
 
 module _ (p : Plan) (controls : List ℤ) (round : RunsRound (p .basis) (p .spans)) (loop : isLoop (p .basis) ≡ true) (some : 1 ≤ p .spans) where
   abbrev b : Basis
