@@ -13,6 +13,5 @@ pub mod Ways
 pub mod Table
 pub mod Limits
 pub mod Machine
-pub mod Common
 pub mod Equal
 pub mod Examples

@@ -3,28 +3,28 @@
 -- Cardinal and Hermite weights have both signs. Of Hermite their sizes sum to 6h^3 + 6i(h-i)h, at most 5/4 of 6h^3; of a cardinal curve with parameter c to 192h^3 + 6c·i(h-i)h, at c = 64 at most 3/2 of 192h^3.
 use mathlib.Core.Path.{◌≡◌, refl, sym, ap, ◌∙◌, subst, subst₂}
 use mathlib.Core.List.{List, [], ◌∷◌}
-use Prim.Native.Nat.{ℕ, ◌+◌, ◌*◌, ◌-◌, ◌^◌, ◌≤◌, ◌<◌}
-use native.Mathlib.Nat.{le_refl, le_of_eq, le_trans, le-mul_of_pos_right, add_comm, mul_comm, mul_right_comm}
+use Prim.Native.Nat.{ℕ, ◌+◌, ◌*◌, ◌-◌, ◌^◌, ◌≤◌}
+use native.Mathlib.Nat.{le_refl, le_of_eq, le_trans, add_comm, mul_comm, mul_right_comm}
 use native.Mathlib.Decide.{dec_le}
 use native.Mathlib.Omega.{arith}
-use lib.Dec.{T, leb, lit<, lit≤}
+use lib.Dec.{T, leb, lit≤}
 use lib.IntN.{ℤ, pos, nat_abs, ◌+ℤ◌, ◌*ℤ◌}
 use lib.Signed.{◌≤ℤ◌}
 use Rattle.whole.proofs.Ring.{Ex, var, lit, ◌⊕◌, ◌⊖◌, ◌⊗◌, ev, solve}
 use Rattle.whole.proofs.Order.{le-gap, le_of, +-mono, *-mono, pos-injective}
 use Rattle.whole.proofs.Nearest.{nearest-above, nearest-below, nearest-size}
-use Rattle.whole.proofs.Fit.{Bounded, size, ev-size, nat_abs_mul}
+use Rattle.whole.proofs.Fit.{Bounded, size, ev-size}
 use Rattle.curve.specs.declared.Four.{Four}
 use Rattle.curve.specs.declared.Basis.{Basis}
 use Rattle.curve.specs.declared.Basis.TheVariants.{Bezier, BSpline, Cardinal, Hermite, Loop}
-use Rattle.curve.specs.Four.{four, dot, times}
+use Rattle.curve.specs.Four.{four, dot}
 use Rattle.curve.specs.Published.{most_parameter, weights}
 use Rattle.curve.specs.Span.{fold, whole_controls, weighted, divisor, sum_at, point}
 use Rattle.curve.specs.Limits.{limit, reach, parameter_of, Inside, AtMost, all, Box}
-use Rattle.curve.specs.Inner.{common_controls, to_common, widest}
+use Rattle.curve.specs.Inner.{widest}
 use Rattle.curve.proofs.Powers.{cube, thrice}
 use Rattle.curve.proofs.Span.{divisor-pos}
-use Rattle.curve.proofs.Reflect.{Fourᵉ, fourᵉ, num, p, taut, timesᵉ, values_with, weightedᵉ, wholeᵉ}
+use Rattle.curve.proofs.Reflect.{Fourᵉ, fourᵉ, num, p, taut, values_with, weightedᵉ, wholeᵉ}
 
 -- ---- boxes
 
@@ -275,31 +275,11 @@ module _ (b : Basis) (q : Four) (offered : parameter_of b ≤ most_parameter) (i
         d = le_trans (ev-size r limits ok e.d) (lit≤ w);
       }
 
--- so the common controls of each basis are
-pub common-inside : (b : Basis) (q : Four) → parameter_of b ≤ most_parameter → Inside limit q → Inside widest (common_controls b q)
-unfolding common_controls times whole_controls r
-common-inside Bezier q offered inside = sized Bezier q offered inside (timesᵉ (num 32) (wholeᵉ Bezier p)) tt tt tt tt
-common-inside BSpline q offered inside = sized BSpline q offered inside (timesᵉ (num 32) (wholeᵉ BSpline p)) tt tt tt tt
-common-inside (Cardinal c) q offered inside = sized (Cardinal c) q offered inside (timesᵉ (num 1) (wholeᵉ (Cardinal c) p)) tt tt tt tt
-common-inside Hermite q offered inside = sized Hermite q offered inside (timesᵉ (num 32) (wholeᵉ Hermite p)) tt tt tt tt
-common-inside (Loop n) q offered inside = sized (Loop n) q offered inside (timesᵉ (num 32) (wholeᵉ (Loop n) p)) tt tt tt tt
-
--- a number is no larger than so many times it
-less : (m n : ℕ) → 0 < m → (z : ℤ) → nat_abs (pos m *ℤ z) ≤ n → nat_abs z ≤ n
-less m n some z h = le_trans (le-mul_of_pos_right (nat_abs z) some) (subst (λ (k : ℕ). k ≤ n) (nat_abs_mul (pos m) z ∙ mul_comm m (nat_abs z)) h)
-
-pub some-common : (b : Basis) → 0 < to_common b
-some-common Bezier = lit< tt
-some-common BSpline = lit< tt
-some-common (Cardinal c) = lit< tt
-some-common Hermite = lit< tt
-some-common (Loop n) = lit< tt
-
--- and so are the whole controls
+-- so the whole controls of each basis are
 pub controls-inside : (b : Basis) (q : Four) → parameter_of b ≤ most_parameter → Inside limit q → Inside widest (whole_controls b q)
-unfolding common_controls times
-controls-inside b q offered inside =
-    let common = common-inside b q offered inside in
-    let on = less (to_common b) widest (some-common b) in
-    let c = whole_controls b q in
-    record { a = on c.a common.a; b = on c.b common.b; c = on c.c common.c; d = on c.d common.d }
+unfolding whole_controls r
+controls-inside Bezier q offered inside = sized Bezier q offered inside (wholeᵉ Bezier p) tt tt tt tt
+controls-inside BSpline q offered inside = sized BSpline q offered inside (wholeᵉ BSpline p) tt tt tt tt
+controls-inside (Cardinal c) q offered inside = sized (Cardinal c) q offered inside (wholeᵉ (Cardinal c) p) tt tt tt tt
+controls-inside Hermite q offered inside = sized Hermite q offered inside (wholeᵉ Hermite p) tt tt tt tt
+controls-inside (Loop n) q offered inside = sized (Loop n) q offered inside (wholeᵉ (Loop n) p) tt tt tt tt

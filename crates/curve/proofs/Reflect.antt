@@ -45,9 +45,6 @@ values_with b q x y = q.a ∷ q.b ∷ q.c ∷ q.d ∷ x ∷ y ∷ pos (parameter
 abbrev pub num : ℕ → Ex
 num n = lit (pos n)
 
-abbrev pub timesᵉ : Ex → Fourᵉ → Fourᵉ
-timesᵉ m q = fourᵉ (m ⊗ q.a) (m ⊗ q.b) (m ⊗ q.c) (m ⊗ q.d)
-
 abbrev pub dotᵉ : Fourᵉ → Fourᵉ → Ex
 dotᵉ w q = w.a ⊗ q.a ⊕ w.b ⊗ q.b ⊕ w.c ⊗ q.c ⊕ w.d ⊗ q.d
 

@@ -1,6 +1,6 @@
 -- The table of weights. Row i·2^(8-k) serves depth k: its sum is that of depth k, the cube of 2^(8-k) times as large. And the four numbers read for a row, two of them in the mirrored
 -- row, are the published weights there.
-use mathlib.Core.Path.{◌≡◌, sym, ap, ◌∙◌, subst}
+use mathlib.Core.Path.{◌≡◌, sym, ap, ◌∙◌}
 use Prim.Native.Nat.{ℕ, zero, suc, ◌+◌, ◌*◌, ◌-◌, ◌/◌, ◌%◌, ◌^◌, ◌≤◌, ◌<◌}
 use native.Mathlib.Nat.{le_trans, le_of_eq, lt_of_lt_of_le, zero-add, mul_comm, suc-mul, mul-le-mul_right, mod-add-div, add-mod_right, add-div_right, div-lt_iff_lt-mul, div-eq_of_eq-mul_left}
 use native.Mathlib.Omega.{arith}
@@ -28,7 +28,7 @@ weighted-scale m q x y = solve (q.a ∷ q.b ∷ q.c ∷ q.d ∷ x ∷ y ∷ m �
 
 -- ---- the rows of a depth, each a multiple of how far apart they are
 
-pub rows_all : (k : ℕ) → k ≤ deepest → 2 ^ deepest ≡ 2 ^ k * apart k
+rows_all : (k : ℕ) → k ≤ deepest → 2 ^ deepest ≡ 2 ^ k * apart k
 rows_all k b = ap (λ (n : ℕ). 2 ^ n) whole ∙ pow-add 2 k (deepest - k)
   where
     whole : deepest ≡ k + (deepest - k)
@@ -49,10 +49,6 @@ some-apart k = pow_pos (deepest - k)
 pub row_step : (k m : ℕ) → m % apart k ≡ 0 → m ≡ row k (m / apart k)
 unfolding row
 row_step k m e = omega (arith, mod-add-div m (apart k), mul_comm (apart k) (m / apart k))
-
--- no step's row is past the last
-pub row-most : (k i : ℕ) → k ≤ deepest → i ≤ 2 ^ k → i * apart k ≤ 2 ^ deepest
-row-most k i b l = subst (λ (n : ℕ). i * apart k ≤ n) (sym (rows_all k b)) (mul-le-mul_right {m = i} {n = 2 ^ k} (apart k) l)
 
 -- a row before the last is that of a step before the last
 pub step-below : (k m : ℕ) → k ≤ deepest → m < 2 ^ deepest → m / apart k < 2 ^ k

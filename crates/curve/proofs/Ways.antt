@@ -1,7 +1,7 @@
 -- Halving and differences list the same exact sums as the weights, at any depth. Halving: the two halves of a span are the span itself at twice the steps, so an
 -- induction on the depth joins them. Differences: after x steps the state holds the sum at x and its differences there, so an induction on the steps lists them.
 use mathlib.Core.Path.{◌≡◌, refl, sym, ap, ◌∙◌, subst}
-use mathlib.Core.List.{List, [], ◌∷◌, ◌++◌}
+use mathlib.Core.List.{[], ◌∷◌, ◌++◌}
 use Prim.Native.Nat.{ℕ, zero, suc, ◌+◌, ◌*◌, ◌^◌, ◌≤◌}
 use native.Mathlib.Nat.{zero-add, le_trans}
 use native.Mathlib.Numerals.{add-one}
@@ -76,94 +76,81 @@ halving-agrees k q =
 
 -- ---- differences
 
--- the state that holds the sum at x and its differences there, for steps of e
-unfoldable pub state : Four → ℤ → ℤ → ℤ → Differences
-state q e x y =
+-- the state that holds the sum at x and its differences there
+unfoldable pub state : Four → ℤ → ℤ → Differences
+state q x y =
     record {
       value = weighted q x y;
-      first = weighted q (x +ℤ e) y -ℤ weighted q x y;
-      second = weighted q (x +ℤ pos 2 *ℤ e) y -ℤ pos 2 *ℤ weighted q (x +ℤ e) y +ℤ weighted q x y;
-      third = weighted q (x +ℤ pos 3 *ℤ e) y -ℤ pos 3 *ℤ weighted q (x +ℤ pos 2 *ℤ e) y +ℤ pos 3 *ℤ weighted q (x +ℤ e) y -ℤ weighted q x y;
+      first = weighted q (x +ℤ pos 1) y -ℤ weighted q x y;
+      second = weighted q (x +ℤ pos 2) y -ℤ pos 2 *ℤ weighted q (x +ℤ pos 1) y +ℤ weighted q x y;
+      third = weighted q (x +ℤ pos 3) y -ℤ pos 3 *ℤ weighted q (x +ℤ pos 2) y +ℤ pos 3 *ℤ weighted q (x +ℤ pos 1) y -ℤ weighted q x y;
     }
-
--- the variables: the controls, x, y and e
-abbrev numbers : Four → ℤ → ℤ → ℤ → List ℤ
-numbers q e x y = q.a ∷ q.b ∷ q.c ∷ q.d ∷ x ∷ y ∷ e ∷ []
-
-step : Ex
-step = var 6
 
 at : Ex → Ex
 at x = weightedᵉ p x h
 
 firstᵉ : Ex → Ex
-firstᵉ x = at (x ⊕ step) ⊖ at x
+firstᵉ x = at (x ⊕ num 1) ⊖ at x
 
 secondᵉ : Ex → Ex
-secondᵉ x = at (x ⊕ num 2 ⊗ step) ⊖ num 2 ⊗ at (x ⊕ step) ⊕ at x
+secondᵉ x = at (x ⊕ num 2) ⊖ num 2 ⊗ at (x ⊕ num 1) ⊕ at x
 
 thirdᵉ : Ex → Ex
-thirdᵉ x = at (x ⊕ num 3 ⊗ step) ⊖ num 3 ⊗ at (x ⊕ num 2 ⊗ step) ⊕ num 3 ⊗ at (x ⊕ step) ⊖ at x
-
--- the algebraic coefficients
-cubed : Ex
-cubed = dotᵉ (litᵉ bezier_matrix.cubed) p
-
-squared : Ex
-squared = dotᵉ (litᵉ bezier_matrix.squared) p
-
-single : Ex
-single = dotᵉ (litᵉ bezier_matrix.single) p
+thirdᵉ x = at (x ⊕ num 3) ⊖ num 3 ⊗ at (x ⊕ num 2) ⊕ num 3 ⊗ at (x ⊕ num 1) ⊖ at x
 
 same-state : {s t : Differences} → s.value ≡ t.value → s.first ≡ t.first → s.second ≡ t.second → s.third ≡ t.third → s ≡ t
 same-state e f g k = λ j. record { value = e j; first = f j; second = g j; third = k j }
 
 -- the start values of 000 (12) are the differences at 0
-pub begins : (q : Four) (e y : ℤ) → differences q e y ≡ state q e (pos 0) y
-unfolding differences state weighted weights dot step at firstᵉ secondᵉ thirdᵉ cubed squared single
-begins q e y =
-    let r = numbers q e (pos 0) y in
+pub begins : (q : Four) (y : ℤ) → differences q y ≡ state q (pos 0) y
+unfolding differences state weighted weights dot at firstᵉ secondᵉ thirdᵉ
+begins q y =
+    let r = R.values q (pos 0) y in
+    let a = dotᵉ (litᵉ bezier_matrix.cubed) p in
+    let b = dotᵉ (litᵉ bezier_matrix.squared) p in
+    let c = dotᵉ (litᵉ bezier_matrix.single) p in
     same-state
     (solve r (p.a ⊗ h ⊗ h ⊗ h) (at (num 0)) tt)
-    (solve r (cubed ⊗ step ⊗ step ⊗ step ⊕ squared ⊗ step ⊗ step ⊗ h ⊕ single ⊗ step ⊗ h ⊗ h) (firstᵉ (num 0)) tt)
-    (solve r (num 6 ⊗ cubed ⊗ step ⊗ step ⊗ step ⊕ num 2 ⊗ squared ⊗ step ⊗ step ⊗ h) (secondᵉ (num 0)) tt)
-    (solve r (num 6 ⊗ cubed ⊗ step ⊗ step ⊗ step) (thirdᵉ (num 0)) tt)
+    (solve r (a ⊕ b ⊗ h ⊕ c ⊗ h ⊗ h) (firstᵉ (num 0)) tt)
+    (solve r (num 6 ⊗ a ⊕ num 2 ⊗ b ⊗ h) (secondᵉ (num 0)) tt)
+    (solve r (num 6 ⊗ a) (thirdᵉ (num 0)) tt)
 
 -- three additions go on to the next step
-pub advances : (q : Four) (e x y : ℤ) → advance (state q e x y) ≡ state q e (x +ℤ e) y
-unfolding advance state weighted weights dot step at firstᵉ secondᵉ thirdᵉ
-advances q e x y =
-    let r = numbers q e x y in
+pub advances : (q : Four) (x y : ℤ) → advance (state q x y) ≡ state q (x +ℤ pos 1) y
+unfolding advance state weighted weights dot at firstᵉ secondᵉ thirdᵉ
+advances q x y =
+    let r = R.values q x y in
     same-state
-    (solve r (at i ⊕ firstᵉ i) (at (i ⊕ step)) tt)
-    (solve r (firstᵉ i ⊕ secondᵉ i) (firstᵉ (i ⊕ step)) tt)
-    (solve r (secondᵉ i ⊕ thirdᵉ i) (secondᵉ (i ⊕ step)) tt)
-    (solve r (thirdᵉ i) (thirdᵉ (i ⊕ step)) tt)
+    (solve r (at i ⊕ firstᵉ i) (at (i ⊕ num 1)) tt)
+    (solve r (firstᵉ i ⊕ secondᵉ i) (firstᵉ (i ⊕ num 1)) tt)
+    (solve r (secondᵉ i ⊕ thirdᵉ i) (secondᵉ (i ⊕ num 1)) tt)
+    (solve r (thirdᵉ i) (thirdᵉ (i ⊕ num 1)) tt)
 
-pub values-are-sums : (q : Four) (m j n : ℕ) → values n (state q (pos 1) (pos j) (pos m)) ≡ tab (sum q m) j n
+pub values-are-sums : (q : Four) (m j n : ℕ) → values n (state q (pos j) (pos m)) ≡ tab (sum q m) j n
 unfolding values tab state
 values-are-sums q m j zero = refl
 values-are-sums q m j (suc n) =
-    ap (λ l. sum q m j ∷ l) (ap (values n) (advances q (pos 1) (pos j) (pos m) ∙ ap (λ (k : ℕ). state q (pos 1) (pos k) (pos m)) (add-one j)) ∙ values-are-sums q m (suc j) n)
+    ap (λ l. sum q m j ∷ l) (ap (values n) (advances q (pos j) (pos m) ∙ ap (λ (k : ℕ). state q (pos k) (pos m)) (add-one j)) ∙ values-are-sums q m (suc j) n)
 
 pub differences-agree : (k : ℕ) (q : Four) → by_differences k q ≡ by_weights k q
 unfolding by_differences by_weights
-differences-agree k q = ap (values (suc (2 ^ k))) (begins q (pos 1) (pos (2 ^ k))) ∙ values-are-sums q (2 ^ k) 0 (suc (2 ^ k))
+differences-agree k q = ap (values (suc (2 ^ k))) (begins q (pos (2 ^ k))) ∙ values-are-sums q (2 ^ k) 0 (suc (2 ^ k))
 
 -- no state on the way through a span is near the ends of 64 bits
-pub state-small : (q : Four) (e j m : ℕ) → Inside widest q → e ≤ 2 ^ deepest → j ≤ 2 ^ deepest → m ≤ 2 ^ deepest → Small (state q (pos e) (pos j) (pos m))
-unfolding state weighted weights dot step at firstᵉ secondᵉ thirdᵉ cubed squared single
-state-small q e j m inside he hj hm =
-    let r = numbers q (pos e) (pos j) (pos m) in
-    let bs = widest ∷ widest ∷ widest ∷ widest ∷ 2 ^ deepest ∷ 2 ^ deepest ∷ 2 ^ deepest ∷ [] in
-    let ok : Bounded r bs = (inside.a, (inside.b, (inside.c, (inside.d, (hj, (hm, (he, tt))))))) in
-    let first = cubed ⊗ step ⊗ (num 3 ⊗ (i ⊗ i) ⊕ num 3 ⊗ (i ⊗ step) ⊕ step ⊗ step) ⊕ squared ⊗ step ⊗ h ⊗ (num 2 ⊗ i ⊕ step) ⊕ single ⊗ step ⊗ h ⊗ h in
-    let second = num 6 ⊗ cubed ⊗ step ⊗ step ⊗ (i ⊕ step) ⊕ num 2 ⊗ squared ⊗ step ⊗ step ⊗ h in
-    let third = num 6 ⊗ cubed ⊗ step ⊗ step ⊗ step in
+pub state-small : (q : Four) (j m : ℕ) → Inside widest q → j ≤ 2 ^ deepest → m ≤ 2 ^ deepest → Small (state q (pos j) (pos m))
+unfolding state weighted weights dot at firstᵉ secondᵉ thirdᵉ
+state-small q j m inside hj hm =
+    let r = R.values q (pos j) (pos m) in
+    let bs = widest ∷ widest ∷ widest ∷ widest ∷ 2 ^ deepest ∷ 2 ^ deepest ∷ [] in
+    let ok : Bounded r bs = (inside.a, (inside.b, (inside.c, (inside.d, (hj, (hm, tt)))))) in
+    let a = dotᵉ (litᵉ bezier_matrix.cubed) p in
+    let b = dotᵉ (litᵉ bezier_matrix.squared) p in
+    let second = num 6 ⊗ a ⊗ (i ⊕ num 1) ⊕ num 2 ⊗ b ⊗ h in
+    let third = num 6 ⊗ a in
     record {
       value = le_trans (ev-size r bs ok (at i)) (lit≤ tt);
-      first = subst (λ z. nat_abs z ≤ 2 ^ 61) (solve r first (firstᵉ i) tt) (le_trans (ev-size r bs ok first) (lit≤ tt));
-      second = subst (λ z. nat_abs z ≤ 2 ^ 62) (solve r second (secondᵉ i) tt) (le_trans (ev-size r bs ok second) (lit≤ tt));
+      first = le_trans (ev-size r bs ok (firstᵉ i)) (lit≤ tt);
+      second = subst (λ z. nat_abs z ≤ 2 ^ 61) (solve r second (secondᵉ i) tt) (le_trans (ev-size r bs ok second) (lit≤ tt));
       third = subst (λ z. nat_abs z ≤ 2 ^ 61) (solve r third (thirdᵉ i) tt) (le_trans (ev-size r bs ok third) (lit≤ tt));
     }
 

@@ -5,10 +5,6 @@ use Rattle.curve.specs.declared.Four.{Four}
 abbrev pub four : ℤ → ℤ → ℤ → ℤ → Four
 four a b c d = record { a = a; b = b; c = c; d = d }
 
--- Four numbers, each so many times as large.
-unfoldable pub times : ℤ → Four → Four
-times m q = four (m *ℤ q.a) (m *ℤ q.b) (m *ℤ q.c) (m *ℤ q.d)
-
 -- A row of weights times a column of four numbers.
 unfoldable pub dot : Four → Four → ℤ
 dot w p = w.a *ℤ p.a +ℤ w.b *ℤ p.b +ℤ w.c *ℤ p.c +ℤ w.d *ℤ p.d

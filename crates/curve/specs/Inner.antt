@@ -1,13 +1,11 @@
 -- For contracts inside the project alone: no public contract uses what is here.
 -- How large sums on the way may be, and divisors as the machine has them.
-use Rattle.std.specs.Prelude.{ℕ, ◌+◌, ◌*◌, ◌^◌, ◌≤◌, ◌<◌, pos, nat_abs}
+use Rattle.std.specs.Prelude.{ℕ, ◌+◌, ◌*◌, ◌^◌, ◌≤◌, ◌<◌, nat_abs}
 use Rattle.curve.specs.declared.Basis.{Basis}
 use Rattle.curve.specs.declared.Basis.TheVariants.{Bezier, BSpline, Cardinal, Hermite, Loop}
-use Rattle.curve.specs.declared.Four.{Four}
 use Rattle.curve.specs.declared.Differences.{Differences}
-use Rattle.curve.specs.Four.{times}
 use Rattle.curve.specs.Limits.{limit}
-use Rattle.curve.specs.Span.{first_record, record_at, whole_controls}
+use Rattle.curve.specs.Span.{first_record, record_at}
 use Rattle.curve.specs.Ways.{deepest}
 
 -- Whole controls of records inside the limit are within this: 320 times the limit, by the cardinal row at parameter 64.
@@ -36,21 +34,6 @@ divisor_of bits = 6 * 2 ^ bits
 abbrev pub most_bits : ℕ
 most_bits = 5 + 3 * deepest
 
--- One divisor for every sum, 192 · 2^24, that of a cardinal curve at the deepest: any other divides it. Whole controls of a basis are six times the Bezier controls, of a cardinal one 192
--- times; the common ones are 192 times those of every basis.
-abbrev pub common_divisor : ℕ
-common_divisor = divisor_of most_bits
-
-abbrev pub to_common : Basis → ℕ
-to_common Bezier = 32
-to_common BSpline = 32
-to_common (Cardinal c) = 1
-to_common Hermite = 32
-to_common (Loop n) = 32
-
-unfoldable pub common_controls : Basis → Four → Four
-common_controls b p = times (pos (to_common b)) (whole_controls b p)
-
 -- A list of `len` numbers holds the four records from one on, as a basis counts them, and those of span s.
 abbrev pub HoldsFrom : Basis → ℕ → ℕ → Type 0
 HoldsFrom b first len = (r : ℕ) → r < 4 → 2 * record_at b (first + r) + 2 ≤ len
@@ -62,5 +45,5 @@ Holds b s len = HoldsFrom b (first_record b s) len
 pub record Small (s : Differences) : Type 0 where
   pub value : nat_abs s.value ≤ 2 ^ 61
   pub first : nat_abs s.first ≤ 2 ^ 61
-  pub second : nat_abs s.second ≤ 2 ^ 62
+  pub second : nat_abs s.second ≤ 2 ^ 61
   pub third : nat_abs s.third ≤ 2 ^ 61

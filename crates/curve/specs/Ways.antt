@@ -71,18 +71,18 @@ starts (suc k) q = starts k (left_half q) ++ starts k (right_half q)
 unfoldable pub by_halving : ℕ → Four → List ℤ
 by_halving k q = starts k q ++ ((pos (8 ^ k) *ℤ q.d) ∷ [])
 
--- ---- forward differences: 000 chapter 2 (11) to (13) with the step e / h, all times h^3. The algebraic coefficients are those of the Bezier matrix.
+-- ---- forward differences: 000 chapter 2 (11) to (13) with the step e = 1 / h, all times h^3. The algebraic coefficients are those of the Bezier matrix.
 
-unfoldable pub differences : Four → ℤ → ℤ → Differences
-differences q e h =
+unfoldable pub differences : Four → ℤ → Differences
+differences q h =
     let a = dot bezier_matrix.cubed q in
     let b = dot bezier_matrix.squared q in
     let c = dot bezier_matrix.single q in
     record {
       value = q.a *ℤ h *ℤ h *ℤ h;
-      first = a *ℤ e *ℤ e *ℤ e +ℤ b *ℤ e *ℤ e *ℤ h +ℤ c *ℤ e *ℤ h *ℤ h;
-      second = pos 6 *ℤ a *ℤ e *ℤ e *ℤ e +ℤ pos 2 *ℤ b *ℤ e *ℤ e *ℤ h;
-      third = pos 6 *ℤ a *ℤ e *ℤ e *ℤ e;
+      first = a +ℤ b *ℤ h +ℤ c *ℤ h *ℤ h;
+      second = pos 6 *ℤ a +ℤ pos 2 *ℤ b *ℤ h;
+      third = pos 6 *ℤ a;
     }
 
 -- 000's algorithm DRCURVE, step 3.1: three additions.
@@ -94,4 +94,4 @@ values zero s = []
 values (suc n) s = s.value ∷ values n (advance s)
 
 unfoldable pub by_differences : ℕ → Four → List ℤ
-by_differences k q = values (suc (2 ^ k)) (differences q (pos 1) (pos (2 ^ k)))
+by_differences k q = values (suc (2 ^ k)) (differences q (pos (2 ^ k)))

@@ -46,5 +46,3 @@ pub const LIMIT: i32 = 4_000_000;
 pub const DEEPEST: usize = 8;
 // The steps of a span at that depth.
 pub const MOST_STEPS: usize = 1 << DEEPEST;
-// Their cube, which every weighted sum at that depth is times a point.
-pub const MOST_STEPS_CUBED: i64 = 1 << (3 * DEEPEST);

@@ -2,15 +2,10 @@
 ghost use Rattle.std.specs.Prelude.{◌≡◌, ◌+◌, ◌*◌, ◌^◌, ◌≤◌, ◌<◌, nat_abs, length};
 ghost use Rattle.curve.specs.Published.{most_parameter};
 ghost use Rattle.curve.specs.Limits.{Inside, limit, parameter_of};
-ghost use Rattle.curve.specs.Four.{times};
-ghost use Rattle.curve.specs.Ways.{deepest};
-ghost use Rattle.curve.specs.Inner.{Holds, HoldsFrom, common_controls, widest};
+ghost use Rattle.curve.specs.Inner.{Holds, HoldsFrom};
 ghost use Rattle.curve.specs.Span.{stride, first_record, records_from, round_end, is_loop, record_at, recount, records, coordinate, whole_controls};
 
 use crate::{Basis, Four};
-
-// 192 is 32 times six.
-const SIX_TO_192: i64 = 32;
 
 // How many records after a span's first the next span's first is: the one number of a basis that counts and places follow from.
 pub fn stride_of(basis: Basis) -> usize
@@ -140,40 +135,6 @@ pub fn whole_controls(basis: Basis, p: Four) -> Four
         Basis::Cardinal(parameter) => cardinal_controls(parameter, p),
         Basis::Hermite => hermite_controls(p),
         Basis::Loop(_) => bspline_controls(p),
-    }
-}
-
-// The same 192 times for every basis, so that one divisor serves them all.
-pub fn common_controls(basis: Basis, p: Four) -> Four
-    requires { (parameter_of basis ≤ most_parameter) × Inside limit p }
-    ensures { result ≡ common_controls basis p }
-{
-    match basis {
-        Basis::Bezier => bezier_controls(p).times(SIX_TO_192),
-        Basis::BSpline => bspline_controls(p).times(SIX_TO_192),
-        Basis::Cardinal(parameter) => cardinal_controls(parameter, p),
-        Basis::Hermite => hermite_controls(p).times(SIX_TO_192),
-        Basis::Loop(_) => bspline_controls(p).times(SIX_TO_192),
-    }
-}
-
-impl Four {
-    // The four numbers so many times as large.
-    pub fn times(self, multiple: i64) -> Four
-        requires inside { Inside widest self }
-        requires multiple_bound { nat_abs multiple ≤ 2 ^ (3 * deepest) }
-        ensures { result ≡ times multiple self }
-    {
-        let a = self.a;
-        let b = self.b;
-        let c = self.c;
-        let d = self.d;
-        Four {
-            a: multiple * a,
-            b: multiple * b,
-            c: multiple * c,
-            d: multiple * d,
-        }
     }
 }
 

@@ -4,7 +4,7 @@ ghost use Rattle.whole.specs.Nearest.{rounding};
 ghost use Rattle.curve.specs.Inner.{bits_of, divisor_of, far_reach, most_bits};
 ghost use Rattle.curve.specs.Ways.{deepest};
 
-use crate::{Basis, DEEPEST, SIX};
+use crate::{Basis, SIX};
 use whole::{Rounding, round_over};
 
 // A divisor is 6 · 2^bits: these are the bits of a basis' divisor at a depth. For a cardinal span it is 192 = 6 · 2^5 times the power of two.
@@ -21,9 +21,6 @@ pub fn divisor_bits(basis: Basis, depth: usize) -> u32
         Basis::Loop(_) => cubed,
     }
 }
-
-// The bits of the one divisor that the sums of every basis at every depth can be over, 192 · 2^24: a literal, so that no shift or test by it waits for a number.
-pub const COMMON_BITS: u32 = 5 + 3 * DEEPEST as u32;
 
 // The coordinate of a sum, the whole number nearest to sum / (6 · 2^bits), and what is left over of the sum.
 pub fn rounded(sum: i64, bits: u32) -> Rounding

@@ -5,7 +5,7 @@ ghost use Rattle.curve.specs.Inner.{widest};
 ghost use Rattle.curve.specs.Span.{weighted};
 ghost use Rattle.curve.specs.Ways.{deepest, table_size, weight_table};
 
-use crate::{Four, MOST_STEPS, MOST_STEPS_CUBED};
+use crate::{Four, MOST_STEPS};
 
 // Rows 0 to 256, of two weights each.
 const TABLE_SIZE: usize = 2 * (MOST_STEPS + 1);
@@ -78,8 +78,7 @@ fn weight(table: &[i32], entry: usize) -> i64
     table[entry] as i64
 }
 
-// The weighted sum of four controls by a row of the table: at t = row / 256, times 256^3. The last two weights are read in the mirrored row, the other way round. The four of a row sum to 256^3,
-// so that three products are enough: of the other controls less the first, and that many times the first.
+// The weighted sum of four controls by a row of the table: at t = row / 256, times 256^3. The last two weights are read in the mirrored row, the other way round.
 pub fn weighted_sum(table: &[i32], q: Four, row: usize) -> i64
     requires table_value { table.now ≡ weight_table }
     requires inside { Inside widest q }
@@ -88,12 +87,9 @@ pub fn weighted_sum(table: &[i32], q: Four, row: usize) -> i64
 {
     let at = 2 * row;
     let mirrored = 2 * (MOST_STEPS - row);
+    let w = weight(table, at);
     let x = weight(table, at + 1);
     let y = weight(table, mirrored + 1);
     let z = weight(table, mirrored);
-    let a = q.a;
-    let b = q.b;
-    let c = q.c;
-    let d = q.d;
-    MOST_STEPS_CUBED * a + x * (b - a) + y * (c - a) + z * (d - a)
+    w * q.a + x * q.b + y * q.c + z * q.d
 }

@@ -15,7 +15,7 @@ use asked::Edit;
 use asked::counts::{past_fresh, run_of};
 use curve::records::is_loop;
 use shape::Plan;
-use spans::run::{fill_by_differences, put_joint};
+use spans::run::{fill_by_weights, put_joint};
 
 // The spans of a loop from `from` up to, and not with, `to`, and the end of the last of them; where there is none, the point where the first and the last span meet.
 fn fill_stretch(points: &mut [i32], controls: &[i32], plan: Plan, from: usize, to: usize) -> usize
@@ -24,7 +24,7 @@ fn fill_stretch(points: &mut [i32], controls: &[i32], plan: Plan, from: usize, t
     ensures { outcome result points.new ≡ fills plan controls.now (from * per_span plan.depth) ((to - from) * per_span plan.depth + 2) points.old }
 {
     if from < to {
-        return fill_by_differences(points, controls, plan, from, to);
+        return fill_by_weights(points, controls, plan, from, to);
     }
     put_joint(points, controls, plan, from * (2 * plan.steps()))
 }
@@ -66,12 +66,12 @@ fn rework_round(
 {
     let spans = plan.spans;
     if spans <= count {
-        return fill_by_differences(points, controls, plan, 0, spans);
+        return fill_by_weights(points, controls, plan, 0, spans);
     }
     let from = first_or_end(first, spans);
     let past = from + count;
     if past < spans {
-        return fill_by_differences(points, controls, plan, from, past);
+        return fill_by_weights(points, controls, plan, from, past);
     }
     fill_ends(points, controls, plan, from, past - spans)
 }
@@ -89,7 +89,7 @@ fn rework(points: &mut [i32], controls: &[i32], plan: Plan, first: usize, count:
     if is_loop(basis) {
         return rework_round(points, controls, plan, first, count);
     }
-    fill_by_differences(points, controls, plan, first, first + count)
+    fill_by_weights(points, controls, plan, first, first + count)
 }
 
 // All points of the outline that an edit asks for, from the points it was given: `plan` and `controls` are the new ones. It answers how many numbers of the fresh spans are exact.

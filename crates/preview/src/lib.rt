@@ -45,22 +45,7 @@ fn put_point(points: &mut [f64], at: usize, p: Pair)
     points[at + 1] = p.y;
 }
 
-// The first points of the two halves of four controls, from number `at` on: where the piece starts, and its middle.
-fn put_two(points: &mut [f64], at: usize, a: Pair, b: Pair, c: Pair, d: Pair)
-    requires { at + 4 ≤ length points.old }
-    ensures { points.new ≡ sets points.old at (pieces 1 a b c d) }
-{
-    let m = midpoint_pair(a, b);
-    let n = midpoint_pair(b, c);
-    let o = midpoint_pair(c, d);
-    let u = midpoint_pair(m, n);
-    let v = midpoint_pair(n, o);
-    put_point(points, at, a);
-    put_point(points, at + 2, midpoint_pair(u, v));
-}
-
-// The first points of the 2^left pieces of four controls, from number `at` on: cut at the middle by midpoints until no cut is left. Where at most
-// two cuts are left it writes the points, at most four, and does not call itself: so there are fewer such calls than points.
+// The first points of the 2^left pieces of four controls, from number `at` on: cut at the middle by midpoints until no cut is left.
 fn fill_pieces(points: &mut [f64], at: usize, left: usize, a: Pair, b: Pair, c: Pair, d: Pair)
     requires { (left ≤ deepest) × (at + 2 * 2 ^ left ≤ length points.old) }
     ensures { points.new ≡ sets points.old at (pieces left a b c d) }
@@ -69,21 +54,12 @@ fn fill_pieces(points: &mut [f64], at: usize, left: usize, a: Pair, b: Pair, c: 
         put_point(points, at, a);
         return;
     }
-    if left == 1 {
-        put_two(points, at, a, b, c, d);
-        return;
-    }
     let m = midpoint_pair(a, b);
     let n = midpoint_pair(b, c);
     let o = midpoint_pair(c, d);
     let u = midpoint_pair(m, n);
     let v = midpoint_pair(n, o);
     let w = midpoint_pair(u, v);
-    if left == 2 {
-        put_two(points, at, a, m, u, w);
-        put_two(points, at + 4, w, v, o, d);
-        return;
-    }
     let half: usize = 1 << left;
     fill_pieces(points, at, left - 1, a, m, u, w);
     fill_pieces(points, at + half, left - 1, w, v, o, d);

@@ -3,31 +3,29 @@ use mathlib.Core.Path.{◌≡◌, refl, sym, ap, ◌∙◌, subst}
 use mathlib.Core.Bool.{Bool, true, false, cond}
 use mathlib.Core.List.{List, [], ◌∷◌, ◌++◌}
 use Prim.Native.Nat.{ℕ, suc, ◌+◌, ◌*◌, ◌-◌, ◌/◌, ◌%◌, ◌^◌, ◌≤◌, ◌<◌}
-use native.Mathlib.Nat.{pow-suc, le_refl, le_of_eq, le_trans, le-mul_of_pos_right, one-le-pow, pow-le-pow_right, mul_comm, mul-le-mul_left, mul-le-mul_right}
+use native.Mathlib.Nat.{pow-suc, le_refl, le_trans, le-mul_of_pos_right, one-le-pow, pow-le-pow_right, mul-le-mul_left}
 use native.Mathlib.Omega.{arith}
 use lib.Dec.{eqb, lit≤, lit<}
-use lib.IntN.{ℤ, pos, nat_abs, ◌*ℤ◌}
+use lib.IntN.{ℤ, pos, nat_abs}
 use lib.ListN.{length}
 use lib.Pow.{pow_pos}
 use mir.Syntax.{w64}
+use mir.Val.{SFits}
 use Rattle.whole.specs.Outcome.{Outcome}
 use Rattle.whole.proofs.Ring.{var, lit, ◌⊗◌, solve}
-use Rattle.whole.proofs.Fit.{kept, kept-is, nat_abs_mul, sfits}
+use Rattle.whole.proofs.Fit.{sfits}
 use Rattle.curve.specs.declared.Four.{Four}
 use Rattle.curve.specs.Tab.{tab}
 use Rattle.curve.specs.Limits.{Inside}
 use Rattle.curve.specs.Inner.{widest, far_reach}
 use Rattle.curve.specs.Span.{weighted}
-use Rattle.curve.specs.Four.{times}
-use Rattle.curve.specs.Ways.{deepest, left_half, right_half, row}
-use Rattle.curve.proofs.Common.{weighted-times}
-use Rattle.curve.proofs.Table.{by-table, row-most}
+use Rattle.curve.specs.Ways.{deepest, left_half, right_half}
 use Rattle.curve.proofs.Tab.{tab-append, tab-same, length-tab}
 use Rattle.curve.proofs.Span.{weighted-start}
-use Rattle.curve.proofs.Powers.{cube, doubled, eights, half-width, thrice}
+use Rattle.curve.proofs.Powers.{doubled, half-width}
 use Rattle.curve.proofs.Ways.{eightfold, left-half, right-half}
 use Rattle.spans.specs.Numbers.{per_span}
-use Rattle.spans.specs.Inner.{at_rows, on_axis, paired, rounds, Ready, Cuttable}
+use Rattle.spans.specs.Inner.{on_axis, paired, rounds, Ready, Cuttable}
 use Rattle.spans.proofs.Pairs.{paired-x, paired-y}
 use Rattle.spans.proofs.Rounds.{onward, rounds-append}
 
@@ -81,37 +79,6 @@ ready-cuttable k d q ready =
       inside = record { a = le_trans i.a more; b = le_trans i.b more; c = le_trans i.c more; d = le_trans i.d more };
       near = λ j b. ready.near j (omega arith);
     }
-
--- a span that is ready, so many times as large that its depth's cuts make it as large as the deepest's do, can be cut to its depth
-abbrev pub to_cut : ℕ → ℤ
-to_cut k = pos (2 ^ (3 * (deepest - k)))
-
-cut-times : (k : ℕ) → 2 ^ (3 * (deepest - k)) ≡ 8 ^ (deepest - k)
-cut-times k = thrice (deepest - k) ∙ sym (eights (deepest - k))
-
-larger : (k : ℕ) (z : ℤ) → nat_abs z ≤ widest → nat_abs (to_cut k *ℤ z) ≤ widest * 8 ^ (deepest - k)
-larger k z h = le_trans (le_of_eq (nat_abs_mul (to_cut k) z ∙ ap (λ (n : ℕ). n * nat_abs z) (cut-times k) ∙ mul_comm (8 ^ (deepest - k)) (nat_abs z))) (mul-le-mul_right {m = nat_abs z} {n = widest} (8 ^ (deepest - k)) h)
-
--- its sums are those at the rows of the deepest
-larger-sum : (k : ℕ) → k ≤ deepest → (q : Four) (i : ℕ) → weighted (times (to_cut k) q) (pos i) (pos (2 ^ k)) ≡ weighted q (pos (row k i)) (pos (2 ^ deepest))
-larger-sum k h q i = weighted-times (to_cut k) q (pos i) (pos (2 ^ k)) ∙ sym (by-table k h q i)
-
-pub larger-cuttable : (k d : ℕ) (q : Four) → k ≤ deepest → Ready deepest d q → Cuttable k d (times (to_cut k) q)
-unfolding times row
-larger-cuttable k d q h ready =
-    let i = ready.inside in
-    record {
-      inside = record { a = larger k q.a i.a; b = larger k q.b i.b; c = larger k q.c i.c; d = larger k q.d i.d };
-      near = λ j b. subst (λ z. nat_abs z ≤ d * far_reach) (sym (larger-sum k h q j)) (ready.near (row k j) (row-most k j h (omega arith)));
-    }
-
-axis-times : (m : ℤ) (b : Bool) (x y : Four) → cond b (times m x) (times m y) ≡ times m (cond b x y)
-axis-times m true x y = refl
-axis-times m false x y = refl
-
-pub larger-sums : (k : ℕ) → k ≤ deepest → (x y : Four) (j : ℕ) → paired k (times (to_cut k) x) (times (to_cut k) y) j ≡ at_rows k x y j
-unfolding paired at_rows
-larger-sums k h x y j = ap (λ q. weighted q (pos (j / 2)) (pos (2 ^ k))) (axis-times (to_cut k) (eqb (j % 2) 0) x y) ∙ larger-sum k h (on_axis x y j) (j / 2)
 
 -- before a cut no control is past 2^59
 pub cuttable-small : (l d : ℕ) (q : Four) → Cuttable l d q → Inside (2 ^ 59) q
@@ -198,13 +165,9 @@ halves-rounded left d x y at n l h {first} {second} e f =
     ∙ ap (λ (k : ℕ). rounds d (piece_sums k x y) at n l) (sym whole)
 
 -- and that start is within the divisor's reach
-leaf-near : (left d : ℕ) (q : Four) → left ≡ 0 → Cuttable left d q → nat_abs q.a ≤ d * far_reach
+pub leaf-near : (left d : ℕ) (q : Four) → left ≡ 0 → Cuttable left d q → nat_abs q.a ≤ d * far_reach
 leaf-near left d q e cut = subst (λ z. nat_abs z ≤ d * far_reach) (ap (λ (n : ℕ). weighted q (pos 0) (pos (2 ^ n))) e ∙ uncut q) (cut.near 0 (pow_pos left))
 
--- the machine keeps a first control as it is
-pub leaf-kept : (left d : ℕ) (q : Four) → Cuttable left d q → kept w64 q.a ≡ q.a
-leaf-kept left d q cut = kept-is w64 q.a (sfits w64 q.a (2 ^ 59) (cuttable-small left d q cut).a tt)
-
--- what it keeps is within the reach
-pub leaf-kept-near : (left d : ℕ) (q : Four) → left ≡ 0 → Cuttable left d q → nat_abs (kept w64 q.a) ≤ d * far_reach
-leaf-kept-near left d q e cut = subst (λ z. nat_abs z ≤ d * far_reach) (sym (leaf-kept left d q cut)) (leaf-near left d q e cut)
+-- a first control is inside 64 bits
+pub leaf-fits : (left d : ℕ) (q : Four) → Cuttable left d q → SFits w64 q.a
+leaf-fits left d q cut = sfits w64 q.a (2 ^ 59) (cuttable-small left d q cut).a tt

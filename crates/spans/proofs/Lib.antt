@@ -4,7 +4,6 @@ pub mod Pairs
 pub mod Halves
 pub mod Steps
 pub mod Numbers
-pub mod Common
 pub mod Totals
 pub mod Joint
 pub mod Alone

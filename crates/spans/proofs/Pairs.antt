@@ -8,9 +8,7 @@ use Rattle.whole.specs.Outcome.{Outcome, outcome}
 use Rattle.curve.specs.declared.Four.{Four}
 use Rattle.curve.specs.Tab.{tab}
 use Rattle.curve.specs.Span.{weighted}
-use Rattle.curve.specs.Ways.{apart, deepest}
-use Rattle.curve.proofs.Table.{row_step}
-use Rattle.spans.specs.Inner.{at_rows, paired, rounds}
+use Rattle.spans.specs.Inner.{paired, rounds}
 use Rattle.spans.proofs.Rounds.{onward, rounds-append, rounds-none}
 
 -- before the first step all pairs are still to come
@@ -46,23 +44,6 @@ pair_step f d q n l i m h o e =
 pub pair-done : (f : ℕ → ℤ) (d q n : ℕ) (l : List ℤ) (i m : ℕ) → m ≤ i → rounds d (tab f (2 * i) (2 * (m - i))) q n l ≡ outcome n l
 unfolding tab
 pair-done f d q n l i m h = let e : 2 * (m - i) ≡ 0 = omega arith in ap (λ (k : ℕ). rounds d (tab f (2 * i) k) q n l) e ∙ rounds-none d q n l
-
--- the sums of a row that is one of the depth's
-pub rows-x : (k : ℕ) (x y : Four) (m : ℕ) → m % apart k ≡ 0 → at_rows k x y (2 * (m / apart k)) ≡ weighted x (pos m) (pos (2 ^ deepest))
-unfolding at_rows
-rows-x k x y m e =
-    let i = m / apart k in
-    let f : 2 * i % 2 ≡ 0 = omega arith in
-    let g : 2 * i / 2 ≡ i = omega arith in
-    rw (f, g, sym (row_step k m e))
-
-pub rows-y : (k : ℕ) (x y : Four) (m : ℕ) → m % apart k ≡ 0 → at_rows k x y (2 * (m / apart k) + 1) ≡ weighted y (pos m) (pos (2 ^ deepest))
-unfolding at_rows
-rows-y k x y m e =
-    let i = m / apart k in
-    let f : (2 * i + 1) % 2 ≡ 1 = omega arith in
-    let g : (2 * i + 1) / 2 ≡ i = omega arith in
-    rw (f, g, sym (row_step k m e))
 
 -- the sums of a step
 pub paired-x : (left : ℕ) (x y : Four) (i : ℕ) → paired left x y (2 * i) ≡ weighted x (pos i) (pos (2 ^ left))

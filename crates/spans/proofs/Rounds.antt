@@ -1,18 +1,14 @@
 -- Exact sums rounded one after another: two lists of them, one after the other, are one list. So what a loop or a recursion still has to round, added to what it holds, makes the whole.
 use mathlib.Core.Path.{◌≡◌, refl, sym, ap, ◌∙◌}
 use mathlib.Core.List.{List, [], ◌∷◌, ◌++◌, map}
-use Prim.Native.Nat.{ℕ, zero, suc, ◌+◌, ◌*◌, ◌≤◌, ◌<◌}
-use native.Mathlib.Nat.{add-zero, zero-add, add_assoc, mul-pos}
+use Prim.Native.Nat.{ℕ, zero, suc, ◌+◌, ◌≤◌}
+use native.Mathlib.Nat.{add-zero, zero-add, add_assoc}
 use native.Mathlib.Omega.{arith}
-use lib.IntN.{ℤ, pos, negsuc, nat_abs, ◌*ℤ◌}
+use lib.IntN.{ℤ, pos, negsuc}
 use lib.ListN.{length}
 use lib.Seq.{sets}
 use Rattle.whole.specs.Nearest.{nearest, remainder}
 use Rattle.whole.specs.Outcome.{Outcome, outcome}
-use Rattle.whole.proofs.Fit.{nat_abs_mul}
-use Rattle.whole.proofs.Nearest.{nearest-scale}
-use Rattle.whole.proofs.Remainder.{remainder-scale}
-use Rattle.whole.proofs.Ring.{var, lit, ◌⊗◌, solve}
 use Rattle.whole.proofs.Writes.{sets-append}
 use Rattle.curve.specs.Tab.{tab}
 use Rattle.curve.specs.Span.{divisor}
@@ -63,34 +59,10 @@ length-map : (f : ℤ → ℤ) (l : List ℤ) → length (map f l) ≡ length l
 length-map f [] = refl
 length-map f (z ∷ l) = ap suc (length-map f l)
 
-pub map-tab : (f : ℤ → ℤ) (g : ℕ → ℤ) (i n : ℕ) → map f (tab g i n) ≡ tab (λ (j : ℕ). f (g j)) i n
+map-tab : (f : ℤ → ℤ) (g : ℕ → ℤ) (i n : ℕ) → map f (tab g i n) ≡ tab (λ (j : ℕ). f (g j)) i n
 unfolding tab
 map-tab f g i zero = refl
 map-tab f g i (suc n) = ap (λ r. f (g i) ∷ r) (map-tab f g (suc i) n)
-
--- ---- sums and their divisor so many times as large
-
-module _ (m d : ℕ) (some : 0 < m) (divides : 0 < d) where
-  large : (n : ℕ) → 0 < n → m * n ≡ 0 → ⊥
-  large n h e = let more : 0 < m * n = mul-pos some h in omega arith
-
-  nought-scale : (z : ℤ) → nought (pos m *ℤ z) ≡ nought z
-  nought-scale (pos zero) = ap nought (solve (pos m ∷ []) (var 0 ⊗ lit (pos 0)) (lit (pos 0)) tt)
-  nought-scale (pos (suc n)) = not-nought (pos m *ℤ pos (suc n)) (λ e. large (suc n) (omega arith) (ap nat_abs e))
-  nought-scale (negsuc n) = not-nought (pos m *ℤ negsuc n) (λ e. large (suc n) (omega arith) (sym (nat_abs_mul (pos m) (negsuc n)) ∙ ap nat_abs e))
-
-  -- the numbers are the same, and what is left over of them is nought alike
-  pub wholes-scale : (l : List ℤ) → wholes (m * d) (map (λ z. pos m *ℤ z) l) ≡ wholes d l
-  wholes-scale [] = refl
-  wholes-scale (z ∷ l) = λ i. nearest-scale m z d some divides i ∷ wholes-scale l i
-
-  noughts-scale : (l : List ℤ) → noughts (remainders (m * d) (map (λ z. pos m *ℤ z) l)) ≡ noughts (remainders d l)
-  unfolding noughts
-  noughts-scale [] = refl
-  noughts-scale (z ∷ l) = λ i. (ap nought (remainder-scale m z d some divides) ∙ nought-scale (remainder z d)) i + noughts-scale l i
-
-  pub rounds-scale : (l : List ℤ) (q n : ℕ) (held : List ℤ) → rounds (m * d) (map (λ z. pos m *ℤ z) l) q n held ≡ rounds d l q n held
-  rounds-scale l q n held = λ i. outcome (n + noughts-scale l i) (sets held q (wholes-scale l i))
 
 -- ---- sums rounded
 

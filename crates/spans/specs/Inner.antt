@@ -7,7 +7,7 @@ use Rattle.whole.specs.Outcome.{Outcome, outcome}
 use Rattle.curve.specs.declared.Four.{Four}
 use Rattle.curve.specs.declared.Differences.{Differences}
 use Rattle.curve.specs.Span.{coordinate, is_loop, records, weighted}
-use Rattle.curve.specs.Ways.{advance, deepest, row, weight_table}
+use Rattle.curve.specs.Ways.{advance, deepest, weight_table}
 use Rattle.curve.specs.Published.{most_parameter}
 use Rattle.curve.specs.Limits.{Inside, limit, parameter_of}
 use Rattle.curve.specs.Inner.{Small, Holds, widest, far_reach}
@@ -38,10 +38,6 @@ on_axis x y j = cond (eqb (j % 2) 0) x y
 
 unfoldable pub paired : ℕ → Four → Four → ℕ → ℤ
 paired left x y j = weighted (on_axis x y j) (pos (j / 2)) (pos (2 ^ left))
-
--- The same by the rows of the deepest: a depth's steps are so many of them apart.
-unfoldable pub at_rows : ℕ → Four → Four → ℕ → ℤ
-at_rows k x y j = weighted (on_axis x y j) (pos (row k (j / 2))) (pos (2 ^ deepest))
 
 -- the two of its end, at t = 1
 abbrev pub ending : ℕ → Four → Four → List ℤ

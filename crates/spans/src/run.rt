@@ -2,20 +2,20 @@
 ghost use Rattle.std.specs.Prelude.{◌≡◌, ◌+◌, ◌^◌, ◌≤◌, ◌<◌, pos, length};
 ghost use Rattle.whole.specs.Outcome.{outcome};
 ghost use Rattle.curve.specs.Limits.{Inside};
-ghost use Rattle.curve.specs.Inner.{common_divisor, widest};
+ghost use Rattle.curve.specs.Inner.{widest, divisor_of, most_bits};
 ghost use Rattle.curve.specs.Tab.{tab};
 ghost use Rattle.curve.specs.Span.{coordinate, records, whole_controls, weighted};
 ghost use Rattle.curve.specs.Ways.{deepest};
 ghost use Rattle.spans.specs.Numbers.{per_span};
 ghost use Rattle.spans.specs.Filled.{fills, fills_run};
-ghost use Rattle.spans.specs.Inner.{at_rows, ending, rounds, Drawable, Fillable, Joint, Ready, TableFor};
+ghost use Rattle.spans.specs.Inner.{ending, paired, rounds, Drawable, Fillable, Joint, Ready, TableFor};
 
 use crate::point::put_point;
 use crate::{halving, stepping, weights};
-use curve::records::{common_controls, four_records, whole_controls};
-use curve::rounding::COMMON_BITS;
+use curve::Four;
+use curve::records::{four_records, whole_controls};
+use curve::rounding::divisor_bits;
 use curve::weights::weight_table;
-use curve::{Four, MOST_STEPS_CUBED};
 use shape::Plan;
 
 // The three ways of document 01.
@@ -43,38 +43,57 @@ fn fill_span(
     points: &mut [i32],
     at: usize,
     depth: usize,
+    bits: u32,
     x: Four,
     y: Four,
     exact: usize,
 ) -> usize
-    requires depth_le_deepest { depth ≤ deepest }
-    requires ready { Ready deepest common_divisor x × Ready deepest common_divisor y }
+    requires depth_le_deepest { (depth ≤ deepest) × (bits ≤ most_bits) }
+    requires ready { Ready depth (divisor_of bits) x × Ready depth (divisor_of bits) y }
     requires depth_in_bounds { (at + per_span depth ≤ length points.old) × (exact ≤ at) }
     requires table_for { TableFor way table.now }
-    ensures { outcome result points.new ≡ rounds common_divisor (tab (at_rows depth x y) 0 (per_span depth)) at exact points.old }
+    ensures { outcome result points.new ≡ rounds (divisor_of bits) (tab (paired depth x y) 0 (per_span depth)) at exact points.old }
 {
     match way {
-        Way::Weights => weights::fill_span(table, points, at, depth, x, y, exact),
-        Way::Halving => halving::fill_span(points, at, depth, x, y, exact),
-        Way::Differences => stepping::fill_span(points, at, depth, x, y, exact),
+        Way::Weights => weights::fill_span(table, points, at, depth, bits, x, y, exact),
+        Way::Halving => halving::fill_span(points, at, depth, bits, x, y, exact),
+        Way::Differences => stepping::fill_span(points, at, depth, bits, x, y, exact),
     }
 }
 
-// The sum at the end of a span, which is its last control alone, times 2^24 as every sum is.
-fn end_sum(q: Four) -> i64
-    requires { Inside widest q }
-    ensures { result ≡ weighted q (pos (2 ^ deepest)) (pos (2 ^ deepest)) }
+// The sum at the end of a span, which is its last control alone, times 2^(3 depth) as every sum is.
+fn end_sum(q: Four, depth: usize) -> i64
+    requires depth_le_deepest { depth ≤ deepest }
+    requires inside { Inside widest q }
+    ensures { result ≡ weighted q (pos (2 ^ depth)) (pos (2 ^ depth)) }
 {
-    MOST_STEPS_CUBED * q.d
+    let cubed: i64 = 1 << (3 * depth);
+    cubed * q.d
 }
 
 // The end of a span, and how many numbers are exact with it.
-fn put_end(points: &mut [i32], at: usize, x: Four, y: Four, exact: usize) -> usize
-    requires ready { Ready deepest common_divisor x × Ready deepest common_divisor y }
+fn put_end(
+    points: &mut [i32],
+    at: usize,
+    depth: usize,
+    bits: u32,
+    x: Four,
+    y: Four,
+    exact: usize,
+) -> usize
+    requires depth_le_deepest { (depth ≤ deepest) × (bits ≤ most_bits) }
+    requires ready { Ready depth (divisor_of bits) x × Ready depth (divisor_of bits) y }
     requires at_in_bounds { (at + 2 ≤ length points.old) × (exact ≤ at) }
-    ensures { outcome result points.new ≡ rounds common_divisor (ending deepest x y) at exact points.old }
+    ensures { outcome result points.new ≡ rounds (divisor_of bits) (ending depth x y) at exact points.old }
 {
-    put_point(points, at, COMMON_BITS, end_sum(x), end_sum(y), exact)
+    put_point(
+        points,
+        at,
+        bits,
+        end_sum(x, depth),
+        end_sum(y, depth),
+        exact,
+    )
 }
 
 // The spans from `from` up to, and not with, `to`, and the end of the last of them, where the table is lent to the way that reads it. It answers how many of their numbers are exact.
@@ -91,27 +110,28 @@ fn fill_run(
     requires table_for { TableFor way table.now }
     ensures { outcome result points.new ≡ fills_run plan from to controls.now points.old }
 {
+    let basis = plan.basis;
     let depth = plan.depth;
+    let bits = divisor_bits(basis, depth);
     let stride: usize = 2 << depth;
     let mut span = from;
     let mut at = from * stride;
     let mut exact = 0;
     loop {
-        let basis = plan.basis;
-        let x = common_controls(basis, four_records(controls, basis, span, 0));
-        let y = common_controls(basis, four_records(controls, basis, span, 1));
-        exact = fill_span(way, table, points, at, depth, x, y, exact);
+        let x = span_controls(controls, plan, span, 0);
+        let y = span_controls(controls, plan, span, 1);
+        exact = fill_span(way, table, points, at, depth, bits, x, y, exact);
         span += 1;
         at += stride;
         // The run has a span at least, and the last one's controls give its end.
         if to <= span {
-            return put_end(points, at, x, y, exact);
+            return put_end(points, at, depth, bits, x, y, exact);
         }
     }
 }
 
-// The same by weights. Here and nowhere else the table is bound, once for a drawing.
-fn fill_by_weights(
+// The same by weights. Here and nowhere else the table is bound: once for a drawing and for an edit, and twice where a loop's run goes round its end.
+pub fn fill_by_weights(
     points: &mut [i32],
     controls: &[i32],
     plan: Plan,
@@ -123,20 +143,6 @@ fn fill_by_weights(
 {
     let table = weight_table();
     fill_run(Way::Weights, &table, points, controls, plan, from, to)
-}
-
-// The same by differences, which take the least time a point.
-pub fn fill_by_differences(
-    points: &mut [i32],
-    controls: &[i32],
-    plan: Plan,
-    from: usize,
-    to: usize,
-) -> usize
-    requires { Fillable plan from to controls.now (length points.old) }
-    ensures { outcome result points.new ≡ fills_run plan from to controls.now points.old }
-{
-    fill_run(Way::Differences, &[], points, controls, plan, from, to)
 }
 
 // The same by any way. Halving and differences read no table.
@@ -154,7 +160,7 @@ pub fn fill_spans(
     match way {
         Way::Weights => fill_by_weights(points, controls, plan, from, to),
         Way::Halving => fill_run(Way::Halving, &[], points, controls, plan, from, to),
-        Way::Differences => fill_by_differences(points, controls, plan, from, to),
+        Way::Differences => fill_run(Way::Differences, &[], points, controls, plan, from, to),
     }
 }
 
@@ -165,8 +171,10 @@ pub fn put_joint(points: &mut [i32], controls: &[i32], plan: Plan, at: usize) ->
     ensures { outcome result points.new ≡ fills plan controls.now at 2 points.old }
 {
     let basis = plan.basis;
+    let depth = plan.depth;
+    let bits = divisor_bits(basis, depth);
     let last = plan.spans - 1;
-    let x = common_controls(basis, four_records(controls, basis, last, 0));
-    let y = common_controls(basis, four_records(controls, basis, last, 1));
-    put_end(points, at, x, y, 0)
+    let x = span_controls(controls, plan, last, 0);
+    let y = span_controls(controls, plan, last, 1);
+    put_end(points, at, depth, bits, x, y, 0)
 }

@@ -1,4 +1,4 @@
--- Two numbers within 2^61, or one within 2^62, have a sum inside 64 bits, and the four are the definition's.
+-- Two numbers within 2^61 have a sum inside 64 bits, and the four are the definition's.
 use mathlib.Core.Path.{◌≡◌}
 use mathlib.Core.List.{List, [], ◌∷◌}
 use Prim.Native.Nat.{ℕ, ◌^◌}
@@ -15,7 +15,7 @@ values : tie.After-struct-told4 → List ℤ
 values c = let s = c.before.before.before.before.args.self in s.value ∷ s.first ∷ s.second ∷ s.third ∷ []
 
 bounds : List ℕ
-bounds = 2 ^ 61 ∷ 2 ^ 61 ∷ 2 ^ 62 ∷ 2 ^ 61 ∷ []
+bounds = 2 ^ 61 ∷ 2 ^ 61 ∷ 2 ^ 61 ∷ 2 ^ 61 ∷ []
 
 bounded : (c : tie.After-struct-told4) → Bounded (values c) bounds
 unfolding values bounds

@@ -1,21 +1,20 @@
--- The three entries read are the definition's weights of the row (`row-entry`), the fourth is what they leave of 256^3, and the sum fits by the bounds of weights and controls.
+-- The four entries read are the definition's weights of the row (`row-entry`), and the sum fits by the bounds of weights and controls.
 use mathlib.Core.Path.{◌≡◌, refl, sym, ap, ◌∙◌, subst}
 use mathlib.Core.List.{List, [], ◌∷◌}
-use Prim.Native.Nat.{ℕ, ◌*◌, ◌^◌, ◌≤◌}
+use Prim.Native.Nat.{ℕ, ◌^◌, ◌≤◌}
 use native.Mathlib.Omega.{arith}
 use borrow.Author.Rules.{rules}
 use lib.Dec.{T, lit≤}
-use lib.IntN.{ℤ, pos, nat_abs, ◌+ℤ◌, ◌-ℤ◌, ◌*ℤ◌}
+use lib.IntN.{ℤ, pos, nat_abs, ◌+ℤ◌, ◌*ℤ◌}
 use lib.ListN.{get_or}
 use mir.Syntax.{w64}
-use Rattle.whole.proofs.Ring.{Ex, var, ◌⊕◌, ◌⊖◌, ◌⊗◌, solve}
+use Rattle.whole.proofs.Ring.{Ex, var, ◌⊕◌, ◌⊗◌}
 use Rattle.whole.proofs.Fit.{Bounded, Need, safe, need, exact}
 use Rattle.curve.specs.Four.{dot}
 use Rattle.curve.specs.Published.{weights}
 use Rattle.curve.specs.Inner.{widest}
 use Rattle.curve.specs.Span.{weighted}
 use Rattle.curve.specs.Ways.{deepest, weight_table, entry_of, nth}
-use Rattle.curve.proofs.Reflect.{num, p, i, weightsᵉ, weightedᵉ}
 use Rattle.curve.proofs.Table.{row-entry, heaviest, weight-size}
 use Rattle.curve.proofs.weights.weighted_sum.Statement.{statement}
 use Rattle.curve.proofs.weights.weighted_sum.Tie as tie
@@ -29,140 +28,127 @@ sub-mirrored c = search rules
 mul-mirrored : tie.Need-overflow-mul-mirrored
 mul-mirrored c = search rules
 
-add-weight : tie.Need-overflow-add-weight
-add-weight c = search rules
-
 weight-requires : tie.Need-weight-requires
 weight-requires c κs = search rules
 
-add-weight-2 : tie.Need-overflow-add-weight-2
-add-weight-2 c = search rules
+add-weight : tie.Need-overflow-add-weight
+add-weight c = search rules
 
 weight-requires-2 : tie.Need-weight-requires-2
 weight-requires-2 c κs = search rules
 
+add-weight-2 : tie.Need-overflow-add-weight-2
+add-weight-2 c = search rules
+
 weight-requires-3 : tie.Need-weight-requires-3
 weight-requires-3 c κs = search rules
 
--- the seven numbers: three of the row's weights, and the controls
-values : tie.After-weight3 → List ℤ
+weight-requires-4 : tie.Need-weight-requires-4
+weight-requires-4 c κs = search rules
+
+-- the eight numbers: the row's weights and the controls
+values : tie.After-weight4 → List ℤ
 values c =
-    let q = c.before.before.before.args.q in
-    c.before.before.weight.result ∷ c.before.weight2.result ∷ c.weight3.result ∷ q.a ∷ q.b ∷ q.c ∷ q.d ∷ []
+    let q = c.before.before.before.before.args.q in
+    c.before.before.before.weight.result ∷ c.before.before.weight2.result ∷ c.before.weight3.result ∷ c.weight4.result ∷ q.a ∷ q.b ∷ q.c ∷ q.d ∷ []
 
 bounds : List ℕ
-bounds = heaviest ∷ heaviest ∷ heaviest ∷ widest ∷ widest ∷ widest ∷ widest ∷ []
+bounds = heaviest ∷ heaviest ∷ heaviest ∷ heaviest ∷ widest ∷ widest ∷ widest ∷ widest ∷ []
 
-row : tie.After-weight3 → ℕ
-row c = c.before.before.before.args.row
+row : tie.After-weight4 → ℕ
+row c = c.before.before.before.before.args.row
 
 -- what was read, as the definition has it
 read : (m r : ℕ) → m ≤ 2 ^ deepest → r ≤ 3 → {e : ℕ} → e ≡ entry_of m r → {x : ℤ} → x ≡ get_or weight_table e (pos 0) → x ≡ nth (weights (pos m) (pos (2 ^ deepest))) r
 read m r b k f g = g ∙ ap (λ (n : ℕ). get_or weight_table n (pos 0)) f ∙ row-entry m r b k
 
-within : (c : tie.After-weight3) → row c ≤ 2 ^ deepest
+within : (c : tie.After-weight4) → row c ≤ 2 ^ deepest
 unfolding row
-within c = c.before.before.before.requires.1.1
+within c = c.before.before.before.before.requires.1.1
 
-second : (c : tie.After-weight3) → c.before.before.weight.result ≡ nth (weights (pos (row c)) (pos (2 ^ deepest))) 1
+first : (c : tie.After-weight4) → c.before.before.before.weight.result ≡ nth (weights (pos (row c)) (pos (2 ^ deepest))) 0
 unfolding row entry_of
-second c = read (row c) 1 (within c) (lit≤ tt) refl c.before.before.weight.ensures
+first c = read (row c) 0 (within c) (lit≤ tt) (omega arith) c.before.before.before.weight.ensures
 
-third : (c : tie.After-weight3) → c.before.weight2.result ≡ nth (weights (pos (row c)) (pos (2 ^ deepest))) 2
+second : (c : tie.After-weight4) → c.before.before.weight2.result ≡ nth (weights (pos (row c)) (pos (2 ^ deepest))) 1
 unfolding row entry_of
-third c = read (row c) 2 (within c) (lit≤ tt) refl c.before.weight2.ensures
+second c = read (row c) 1 (within c) (lit≤ tt) refl c.before.before.weight2.ensures
 
-fourth : (c : tie.After-weight3) → c.weight3.result ≡ nth (weights (pos (row c)) (pos (2 ^ deepest))) 3
+third : (c : tie.After-weight4) → c.before.weight3.result ≡ nth (weights (pos (row c)) (pos (2 ^ deepest))) 2
 unfolding row entry_of
-fourth c = read (row c) 3 (within c) (lit≤ tt) (omega arith) c.weight3.ensures
+third c = read (row c) 2 (within c) (lit≤ tt) refl c.before.weight3.ensures
+
+fourth : (c : tie.After-weight4) → c.weight4.result ≡ nth (weights (pos (row c)) (pos (2 ^ deepest))) 3
+unfolding row entry_of
+fourth c = read (row c) 3 (within c) (lit≤ tt) (omega arith) c.weight4.ensures
 
 small : (m r : ℕ) → m ≤ 2 ^ deepest → {x : ℤ} → x ≡ nth (weights (pos m) (pos (2 ^ deepest))) r → nat_abs x ≤ heaviest
 small m r k e = subst (λ z. nat_abs z ≤ heaviest) (sym e) (weight-size m r k)
 
-bounded : (c : tie.After-weight3) → Bounded (values c) bounds
+bounded : (c : tie.After-weight4) → Bounded (values c) bounds
 unfolding values bounds row
 bounded c =
     let m = row c in
-    let inside = c.before.before.before.requires.1.0 in
-    (small m 1 (within c) (second c), (small m 2 (within c) (third c), (small m 3 (within c) (fourth c), (inside.a, (inside.b, (inside.c, (inside.d, tt)))))))
+    let inside = c.before.before.before.before.requires.1.0 in (
+      small m 0 (within c) (first c),
+      (small m 1 (within c) (second c), (small m 2 (within c) (third c), (small m 3 (within c) (fourth c), (inside.a, (inside.b, (inside.c, (inside.d, tt))))))),
+    )
 
-abbrev told : tie.After-struct-told4 → tie.After-weight3
-told c = c.before.before.before.before
+fits : (c : tie.After-weight4) (e : Ex) → T (safe w64 bounds e) → Need w64 (values c) e
+fits c = need w64 (values c) bounds (bounded c)
 
-fits : (c : tie.After-struct-told4) (e : Ex) → T (safe w64 bounds e) → Need w64 (values (told c)) e
-fits c = need w64 (values (told c)) bounds (bounded (told c))
-
--- the row's sum times the first control, and one product after another
+-- the sum of the first products
 one : Ex
-one = num (2 ^ (3 * deepest)) ⊗ var 3
+one = var 0 ⊗ var 4
 
 two : Ex
-two = one ⊕ var 0 ⊗ (var 4 ⊖ var 3)
+two = one ⊕ var 1 ⊗ var 5
 
 three : Ex
-three = two ⊕ var 1 ⊗ (var 5 ⊖ var 3)
+three = two ⊕ var 2 ⊗ var 6
 
 whole : Ex
-whole = three ⊕ var 2 ⊗ (var 6 ⊖ var 3)
+whole = three ⊕ var 3 ⊗ var 7
 
 mul-result : tie.Need-overflow-mul-result
 unfolding values bounds one
-mul-result c = fits c (one) tt
-
-sub-result : tie.Need-overflow-sub-result
-unfolding values bounds
-sub-result c = fits c (var 4 ⊖ var 3) tt
+mul-result c = fits c.before.before one tt
 
 mul-result-2 : tie.Need-overflow-mul-result-2
 unfolding values bounds
-mul-result-2 c = fits c (var 0 ⊗ (var 4 ⊖ var 3)) tt
+mul-result-2 c = fits c.before.before.before.before (var 1 ⊗ var 5) tt
 
 add-result : tie.Need-overflow-add-result
 unfolding values bounds one two
-add-result c = fits c (two) tt
-
-sub-result-2 : tie.Need-overflow-sub-result-2
-unfolding values bounds
-sub-result-2 c = fits c (var 5 ⊖ var 3) tt
+add-result c = fits c.before.before.before.before two tt
 
 mul-result-3 : tie.Need-overflow-mul-result-3
 unfolding values bounds
-mul-result-3 c = fits c (var 1 ⊗ (var 5 ⊖ var 3)) tt
+mul-result-3 c = fits c.before.before.before.before.before.before (var 2 ⊗ var 6) tt
 
 add-result-2 : tie.Need-overflow-add-result-2
 unfolding values bounds one two three
-add-result-2 c = fits c (three) tt
-
-sub-result-3 : tie.Need-overflow-sub-result-3
-unfolding values bounds
-sub-result-3 c = fits c (var 6 ⊖ var 3) tt
+add-result-2 c = fits c.before.before.before.before.before.before three tt
 
 mul-result-4 : tie.Need-overflow-mul-result-4
 unfolding values bounds
-mul-result-4 c = fits c (var 2 ⊗ (var 6 ⊖ var 3)) tt
+mul-result-4 c = fits c.before.before.before.before.before.before.before.before (var 3 ⊗ var 7) tt
 
 add-result-3 : tie.Need-overflow-add-result-3
 unfolding values bounds one two three whole
-add-result-3 c = fits c (whole) tt
+add-result-3 c = fits c.before.before.before.before.before.before.before.before whole tt
 
 returns : tie.Need-returns
-unfolding values bounds one two three whole row nth weights weighted dot
+unfolding values bounds one two three whole row nth weighted dot
 returns c =
-    let t = told c in
-    let q = t.before.before.before.args.q in
-    let w = weightsᵉ i (num (2 ^ deepest)) in
-    exact w64 (values t) bounds (bounded t) whole tt
-    ∙ same q.a q.b q.c q.d (second t) (third t) (fourth t)
-    ∙ solve (q.a ∷ q.b ∷ q.c ∷ q.d ∷ pos (row t) ∷ [])
-    (num (2 ^ (3 * deepest)) ⊗ p.a ⊕ w.b ⊗ (p.b ⊖ p.a) ⊕ w.c ⊗ (p.c ⊖ p.a) ⊕ w.d ⊗ (p.d ⊖ p.a))
-    (weightedᵉ p i (num (2 ^ deepest)))
-    tt
+    let c⁴ = c.before.before.before.before.before.before.before.before in
+    let q = c⁴.before.before.before.before.args.q in
+    exact w64 (values c⁴) bounds (bounded c⁴) whole tt ∙ same q.a q.b q.c q.d (first c⁴) (second c⁴) (third c⁴) (fourth c⁴)
   where
-    same : (a b e f : ℤ) {x y z x' y' z' : ℤ} → x ≡ x' → y ≡ y' → z ≡ z'
-        → pos (2 ^ (3 * deepest)) *ℤ a +ℤ x *ℤ (b -ℤ a) +ℤ y *ℤ (e -ℤ a) +ℤ z *ℤ (f -ℤ a) ≡ pos (2 ^ (3 * deepest)) *ℤ a +ℤ x' *ℤ (b -ℤ a) +ℤ y' *ℤ (e -ℤ a) +ℤ z' *ℤ (f -ℤ a)
-    same a b e f h k l = cc
+    same : (a b e f : ℤ) {w x y z w' x' y' z' : ℤ} → w ≡ w' → x ≡ x' → y ≡ y' → z ≡ z' → w *ℤ a +ℤ x *ℤ b +ℤ y *ℤ e +ℤ z *ℤ f ≡ w' *ℤ a +ℤ x' *ℤ b +ℤ y' *ℤ e +ℤ z' *ℤ f
+    same a b e f g h k l = cc
 
 pub weighted-sum-spec : {M : Type 1} → statement M
 weighted-sum-spec =
     tie.close
-    (tie.spec mul_at sub-mirrored mul-mirrored add-weight weight-requires add-weight-2 weight-requires-2 weight-requires-3 mul-result sub-result mul-result-2 add-result sub-result-2 mul-result-3 add-result-2 sub-result-3 mul-result-4 add-result-3 returns)
+    (tie.spec mul_at sub-mirrored mul-mirrored weight-requires add-weight weight-requires-2 add-weight-2 weight-requires-3 weight-requires-4 mul-result mul-result-2 add-result mul-result-3 add-result-2 mul-result-4 add-result-3 returns)

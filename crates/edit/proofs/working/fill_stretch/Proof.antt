@@ -13,8 +13,8 @@ use Rattle.spans.specs.Inner.{Joint}
 use Rattle.edit.proofs.working.fill_stretch.Statement.{statement}
 use Rattle.edit.proofs.working.fill_stretch.Tie as tie
 
-fill-by-differences-requires : tie.Need-fill-by-differences-requires
-fill-by-differences-requires c κs = search rules
+fill-by-weights-requires : tie.Need-fill-by-weights-requires
+fill-by-weights-requires c κs = search rules
 
 same_length : tie.Need-same-length
 same_length c = search rules
@@ -72,7 +72,7 @@ pub fill-stretch-spec : {M : Type 1} → statement M
 fill-stretch-spec =
     tie.close
     (tie.spec
-    fill-by-differences-requires
+    fill-by-weights-requires
     same_length
     returns
     steps-requires

@@ -46,11 +46,11 @@ same_length c = search rules
 returns-2 : tie.Need-returns-2
 returns-2 c = search rules
 
-add-fill-by-differences : tie.Need-overflow-add-fill-by-differences
-add-fill-by-differences c = let i = c.before.before in let s = i.before.before in omega (arith, ends s (sym i.is_Loop.ensures ∙ c.before.if2.false), s.requires.0.1.few)
+add-fill-by-weights : tie.Need-overflow-add-fill-by-weights
+add-fill-by-weights c = let i = c.before.before in let s = i.before.before in omega (arith, ends s (sym i.is_Loop.ensures ∙ c.before.if2.false), s.requires.0.1.few)
 
-fill-by-differences-requires : tie.Need-fill-by-differences-requires
-fill-by-differences-requires c κs =
+fill-by-weights-requires : tie.Need-fill-by-weights-requires
+fill-by-weights-requires c κs =
     let i = c.before.before in
     let s = i.before.before in
     let a = s.args in
@@ -74,7 +74,7 @@ returns-3 c =
     let s = i.before.before in
     let a = s.args in
     let none = sym i.is_Loop.ensures ∙ t.if2.false in
-    f.fill-by-differences.ensures
+    f.fill-by-weights.ensures
     ∙ stretch-refreshed (run s) a.plan a.controls.now a.points.now s.requires.1 a.first (a.first + a.count) (open-stretch (run s) a.plan none (omega (arith, i.before.if1.false)) (ends s none))
 
 pub rework-spec : {M : Type 1} → statement M
@@ -86,7 +86,7 @@ rework-spec =
     rework-round-requires
     same_length
     returns-2
-    add-fill-by-differences
-    fill-by-differences-requires
+    add-fill-by-weights
+    fill-by-weights-requires
     same-length-2
     returns-3)

@@ -19,8 +19,8 @@ use Rattle.edit.proofs.working.rework_round.Tie as tie
 abbrev run : tie.Start → Run
 run s = record { first = s.args.first; count = s.args.count }
 
-fill-by-differences-requires : tie.Need-fill-by-differences-requires
-fill-by-differences-requires c κs = search rules
+fill-by-weights-requires : tie.Need-fill-by-weights-requires
+fill-by-weights-requires c κs = search rules
 
 same_length : tie.Need-same-length
 same_length c = search rules
@@ -30,7 +30,7 @@ returns c =
     let f = c.before in
     let s = f.before.before.before in
     let a = s.args in
-    f.fill-by-differences.ensures
+    f.fill-by-weights.ensures
     ∙ stretch-refreshed (run s) a.plan a.controls.now a.points.now s.requires.1.1 0 a.plan.spans (loop-whole (run s) a.plan s.requires.0.2 s.requires.1.0.0 s.requires.1.0.1 (omega (arith, f.before.before.if1.true)))
 
 first-or-end-requires : tie.Need-first-or-end-requires
@@ -51,8 +51,8 @@ most c = ⊎_elim (λ (is, some). omega (arith, is, c.before.before.requires.1.0
 add-past : tie.Need-overflow-add-past
 add-past c = let s = c.before.before in omega (arith, most c, s.requires.0.1.few, s.requires.1.0.2)
 
-fill-by-differences-requires-2 : tie.Need-fill-by-differences-requires-2
-fill-by-differences-requires-2 c κs =
+fill-by-weights-requires-2 : tie.Need-fill-by-weights-requires-2
+fill-by-weights-requires-2 c κs =
     let t = c.before in
     let s = t.before.before.before in
     let a = s.args in
@@ -78,7 +78,7 @@ returns-2 c =
     let a = s.args in
     let w = per_span a.plan.depth in
     let own = ⊎_elim (λ (own : (e.first-or-end.result ≡ a.first) × (0 < a.first)). own) (λ (is, none). absurd (omega (arith, is, t.if2.true))) (begins e) in
-    f.fill-by-differences2.ensures
+    f.fill-by-weights2.ensures
     ∙ ap (λ (n : ℕ). fills a.plan a.controls.now (n * w) ((n + a.count - n) * w + 2) a.points.now) own.0
     ∙ stretch-refreshed (run s) a.plan a.controls.now a.points.now s.requires.1.1 a.first (a.first + a.count) (loop-stretch (run s) a.plan s.requires.0.2 s.requires.1.0.0 s.requires.1.0.1 own.1 (omega (arith, own.0, t.if2.true)))
 
@@ -119,12 +119,12 @@ pub rework-round-spec : {M : Type 1} → statement M
 rework-round-spec =
     tie.close
     (tie.spec
-    fill-by-differences-requires
+    fill-by-weights-requires
     same_length
     returns
     first-or-end-requires
     add-past
-    fill-by-differences-requires-2
+    fill-by-weights-requires-2
     same-length-2
     returns-2
     fill-ends-requires

@@ -10,7 +10,7 @@ use lib.IntN.{nat_abs}
 use lib.ListN.{length}
 use mir.Syntax.{w64}
 use Rattle.whole.specs.Outcome.{outcome}
-use Rattle.whole.proofs.Fit.{kept}
+use Rattle.whole.proofs.Fit.{kept, kept-is}
 use Rattle.curve.specs.declared.Four.{Four}
 use Rattle.curve.specs.declared.Basis.{Basis}
 use Rattle.curve.specs.Span.{divisor}
@@ -21,7 +21,7 @@ use Rattle.curve.proofs.rounding.divisor_bits.Reads as divisor-bits-reads
 use Rattle.curve.proofs.Four.left_half.Reads as left-half-reads
 use Rattle.curve.proofs.Four.right_half.Reads as right-half-reads
 use Rattle.spans.specs.Inner.{rounds, Cuttable}
-use Rattle.spans.proofs.Halves.{leaf-kept}
+use Rattle.spans.proofs.Halves.{leaf-fits}
 use Rattle.spans.proofs.point.put_point.Reads as put-point-reads
 use Rattle.pieces.specs.Tree.{finest, piece, Flat, Cut, Sound}
 use Rattle.pieces.specs.Values.{starts}
@@ -63,7 +63,7 @@ flat t c = let a = c.before.before.args in at-flat a.basis a.tolerance a.level a
 
 -- a first control as the machine keeps it
 kept_near : (b : Basis) (level : ℕ) (q : Four) → level ≤ finest → Cuttable (finest - level) (divisor b finest) q → nat_abs (kept w64 q.a) ≤ divisor b level * far_reach
-kept_near b level q h cut = subst (λ z. nat_abs z ≤ divisor b level * far_reach) (sym (leaf-kept (finest - level) (divisor b finest) q cut)) (start-near b level q h cut)
+kept_near b level q h cut = subst (λ z. nat_abs z ≤ divisor b level * far_reach) (sym (kept-is w64 q.a (leaf-fits (finest - level) (divisor b finest) q cut))) (start-near b level q h cut)
 
 divisor-bits-requires : (t : ℕ) → lts.Need-divisor-bits-requires (callees t) (here t) reads.Post
 divisor-bits-requires t c κs = omega (arith, c.before.before.requires.1.0.0.shallow)
@@ -103,8 +103,8 @@ returns t c =
     let s = f.before.before in
     let a = s.args in
     let w = s.requires.1.0.0 in
-    let x = leaf-kept (finest - a.level) (divisor a.basis finest) a.x w.on-x in
-    let y = leaf-kept (finest - a.level) (divisor a.basis finest) a.y w.on-y in
+    let x = kept-is w64 a.x.a (leaf-fits (finest - a.level) (divisor a.basis finest) a.x w.on-x) in
+    let y = kept-is w64 a.y.a (leaf-fits (finest - a.level) (divisor a.basis finest) a.y w.on-y) in
     writes-both (divisor a.basis a.level) a.x.a a.y.a a.filled a.points.now _
     (c.before.put-point.ensures ∙ (λ i. rounds (over t d i) (x i ∷ y i ∷ []) a.filled.next a.filled.exact a.points.now))
     ∙ ap (λ values. writes values a.filled a.points.now) (sym (starts-flat (divisor a.basis) _ _ (flat t f)))

@@ -1,4 +1,4 @@
--- An induction on the cuts left. None left: the piece's first controls are its one pair of sums. One left: both starts in one call. Else the left half's and then the right half's are the piece's, rounded one after the
+-- An induction on the cuts left. None left: the piece's first controls are its one pair of sums. Else the left half's and then the right half's are the piece's, rounded one after the
 -- other (`halves-rounded`).
 use mathlib.Core.Path.{◌≡◌, sym, ap, ◌∙◌, subst}
 use mathlib.Core.List.{[], ◌∷◌}
@@ -7,26 +7,28 @@ use native.Mathlib.Nat.{mul-le-mul, le_refl}
 use native.Mathlib.Omega.{arith}
 use borrow.Fn.Kinds.{In}
 use borrow.Fn.PlainCycle.{Measures, is, falls, and}
+use lib.IntN.{nat_abs}
 use lib.ListN.{length}
 use lib.Pow.{pow_mono}
+use mir.Syntax.{w64}
 use Rattle.whole.specs.Outcome.{outcome}
+use Rattle.whole.proofs.Fit.{kept, kept-is}
 use Rattle.curve.specs.declared.Four.{Four}
 use Rattle.curve.proofs.Tab.{length-tab}
-use Rattle.curve.specs.Inner.{common_divisor, most_bits}
+use Rattle.curve.specs.Inner.{far_reach, divisor_of}
 use Rattle.curve.specs.Ways.{deepest, left_half, right_half}
 use Rattle.curve.proofs.Four.left_half.Reads as left-half-reads
 use Rattle.curve.proofs.Four.right_half.Reads as right-half-reads
 use Rattle.spans.specs.Numbers.{per_span}
 use Rattle.spans.specs.Inner.{paired, rounds, Cuttable}
 use Rattle.curve.proofs.Powers.{shift_one}
-use Rattle.spans.proofs.Halves.{piece_sums, cut_on, cuttable-small, leaf-kept, leaf-kept-near, leaf-sums, halves-rounded, halved}
+use Rattle.spans.proofs.Halves.{piece_sums, cut_on, cuttable-small, leaf-fits, leaf-near, leaf-sums, halves-rounded, halved}
 use Rattle.spans.proofs.Rounds.{rounds-from, rounds-most}
 use Rattle.spans.proofs.halving.fill_pieces.Reads as reads
 use Rattle.spans.proofs.halving.fill_pieces.Kinds as kinds
 use Rattle.spans.proofs.halving.+fill_pieces.Lts-fill_pieces as lts
 use Rattle.spans.proofs.halving.+fill_pieces.{statement}
 use Rattle.spans.proofs.halving.+fill_pieces.Tie.{close}
-use Rattle.spans.proofs.halving.put_halves.Reads as put-halves-reads
 use Rattle.spans.proofs.point.put_point.Reads as put-point-reads
 
 -- the cuts left fall at each call
@@ -40,7 +42,11 @@ abbrev below : ℕ → In 1 kinds.ps
 below t = and 1 kinds.ps (falls 1 kinds.ps ◌<◌ μ t) reads.Pre
 
 abbrev callees : ℕ → lts.Claims
-callees t = (put-point-reads.Asked, put-point-reads.Learnt, put-halves-reads.Asked, put-halves-reads.Learnt, left-half-reads.Asked, left-half-reads.Learnt, below t, reads.Post, right-half-reads.Asked, right-half-reads.Learnt)
+callees t = (put-point-reads.Asked, put-point-reads.Learnt, left-half-reads.Asked, left-half-reads.Learnt, below t, reads.Post, right-half-reads.Asked, right-half-reads.Learnt)
+
+-- a first control as the machine keeps it
+near : (left d : ℕ) (q : Four) → left ≡ 0 → Cuttable left d q → nat_abs (kept w64 q.a) ≤ d * far_reach
+near left d q e cut = subst (λ z. nat_abs z ≤ d * far_reach) (sym (kept-is w64 q.a (leaf-fits left d q cut))) (leaf-near left d q e cut)
 
 put-point-requires : (t : ℕ) → lts.Need-put-point-requires (callees t) (here t) reads.Post
 put-point-requires t c κs =
@@ -48,7 +54,7 @@ put-point-requires t c κs =
     let a = s.args in
     let p = s.requires.1 in
     let e = c.before.before.before.if1.true in
-    (le_refl most_bits, ((leaf-kept-near a.left common_divisor a.x e p.1.0.0, leaf-kept-near a.left common_divisor a.y e p.1.0.1), (omega (arith, p.1.1, ap (λ (n : ℕ). 2 ^ n) e), omega arith)))
+    (p.0.1, ((near a.left (divisor_of a.bits) a.x e p.1.0.0, near a.left (divisor_of a.bits) a.y e p.1.0.1), (omega (arith, p.1.1, ap (λ (n : ℕ). 2 ^ n) e), omega arith)))
 
 same_length : (t : ℕ) → lts.Need-same-length (callees t) (here t) reads.Post
 same_length t c = c.before.put-point.auto.0
@@ -58,28 +64,12 @@ returns t c =
     let s = c.before.before.before.before.before.before in
     let a = s.args in
     let p = s.requires.1 in
-    let d = common_divisor in
-    let x = leaf-kept a.left d a.x p.1.0.0 in
-    let y = leaf-kept a.left d a.y p.1.0.1 in
+    let d = divisor_of a.bits in
+    let x = kept-is w64 a.x.a (leaf-fits a.left d a.x p.1.0.0) in
+    let y = kept-is w64 a.y.a (leaf-fits a.left d a.y p.1.0.1) in
     c.before.put-point.ensures
     ∙ (λ i. rounds d (x i ∷ y i ∷ []) a.at 0 a.points.now)
     ∙ ap (λ sums. rounds d sums a.at 0 a.points.now) (leaf-sums a.left a.x a.y c.before.before.before.before.before.if1.true)
-
--- the last cut
-put-halves-requires : (t : ℕ) → lts.Need-put-halves-requires (callees t) (here t) reads.Post
-put-halves-requires t c κs =
-    let s = c.before.before.before in
-    let p = s.requires.1 in
-    subst (λ (n : ℕ). (Cuttable n common_divisor s.args.x × Cuttable n common_divisor s.args.y) × (s.args.at + per_span n ≤ length s.args.points.now)) c.before.if2.true p.1
-
-same-length-2 : (t : ℕ) → lts.Need-same-length-2 (callees t) (here t) reads.Post
-same-length-2 t c = c.before.put-halves.auto.0
-
-returns-2 : (t : ℕ) → lts.Need-returns-2 (callees t) (here t) reads.Post
-returns-2 t c =
-    let s = c.before.before.before.before.before in
-    let a = s.args in
-    c.before.put-halves.ensures ∙ ap (λ (n : ℕ). rounds common_divisor (piece_sums n a.x a.y) a.at 0 a.points.now) (sym c.before.before.before.if2.true)
 
 shl-half : (t : ℕ) → lts.Need-overflow-shl-half (callees t) (here t) reads.Post
 shl-half t c = omega arith
@@ -88,22 +78,22 @@ sub-fill-pieces : (t : ℕ) → lts.Need-overflow-sub-fill-pieces (callees t) (h
 sub-fill-pieces t c = omega arith
 
 left-half-requires : (t : ℕ) → lts.Need-left-half-requires (callees t) (here t) reads.Post
-left-half-requires t c κs = let s = c.before.before.before in cuttable-small s.args.left common_divisor s.args.x s.requires.1.1.0.0
+left-half-requires t c κs = let s = c.before.before in cuttable-small s.args.left (divisor_of s.args.bits) s.args.x s.requires.1.1.0.0
 
 left-half-requires-2 : (t : ℕ) → lts.Need-left-half-requires-2 (callees t) (here t) reads.Post
-left-half-requires-2 t c κs = let s = c.before.before.before.before in cuttable-small s.args.left common_divisor s.args.y s.requires.1.1.0.1
+left-half-requires-2 t c κs = let s = c.before.before.before in cuttable-small s.args.left (divisor_of s.args.bits) s.args.y s.requires.1.1.0.1
 
 fill-pieces-requires : (t : ℕ) → lts.Need-fill-pieces-requires (callees t) (here t) reads.Post
 fill-pieces-requires t c κs =
-    let s = c.before.before.before.before.before in
+    let s = c.before.before.before.before in
     let a = s.args in
-    let x = (cut_on a.left common_divisor a.x (omega arith) (omega arith) s.requires.1.1.0.0).0 in
-    let y = (cut_on a.left common_divisor a.y (omega arith) (omega arith) s.requires.1.1.0.1).0 in (
+    let x = (cut_on a.left (divisor_of a.bits) a.x (omega arith) (omega arith) s.requires.1.1.0.0).0 in
+    let y = (cut_on a.left (divisor_of a.bits) a.y (omega arith) (omega arith) s.requires.1.1.0.1).0 in (
       omega (arith, s.requires.0),
       (
-        omega arith,
+        (omega arith, s.requires.1.0.1),
         (
-          (subst (Cuttable (a.left - 1) common_divisor) (sym c.before.left-half.ensures) x, subst (Cuttable (a.left - 1) common_divisor) (sym c.left-half2.ensures) y),
+          (subst (Cuttable (a.left - 1) (divisor_of a.bits)) (sym c.before.left-half.ensures) x, subst (Cuttable (a.left - 1) (divisor_of a.bits)) (sym c.left-half2.ensures) y),
           omega (arith, halved a.left (omega arith)),
         ),
       ),
@@ -111,33 +101,33 @@ fill-pieces-requires t c κs =
 
 -- what the left half comes to
 left-rounded : (t : ℕ) (c : lts.After-fill-pieces (callees t) (here t) reads.Post) → outcome c.fill-pieces.result c.fill-pieces.new.0
-    ≡ rounds common_divisor
-    (piece_sums (c.before.before.before.before.before.before.args.left - 1) (left_half c.before.before.before.before.before.before.args.x) (left_half c.before.before.before.before.before.before.args.y))
-    c.before.before.before.before.before.before.args.at 0 c.before.before.before.before.before.before.args.points.now
+    ≡ rounds (divisor_of c.before.before.before.before.before.args.bits)
+    (piece_sums (c.before.before.before.before.before.args.left - 1) (left_half c.before.before.before.before.before.args.x) (left_half c.before.before.before.before.before.args.y))
+    c.before.before.before.before.before.args.at 0 c.before.before.before.before.before.args.points.now
 left-rounded t c =
-    let a = c.before.before.before.before.before.before.args in
+    let a = c.before.before.before.before.before.args in
     let x = c.before.before.left-half.ensures in
     let y = c.before.left-half2.ensures in
-    c.fill-pieces.ensures ∙ (λ i. rounds common_divisor (piece_sums (a.left - 1) (x i) (y i)) a.at 0 a.points.now)
+    c.fill-pieces.ensures ∙ (λ i. rounds (divisor_of a.bits) (piece_sums (a.left - 1) (x i) (y i)) a.at 0 a.points.now)
 
 add-fill-pieces : (t : ℕ) → lts.Need-overflow-add-fill-pieces (callees t) (here t) reads.Post
-add-fill-pieces t c = let a = c.before.before.before.before.before.before.before.before.args in omega (arith, shift_one a.left (omega arith), halved a.left (omega arith))
+add-fill-pieces t c = let a = c.before.before.before.before.before.before.before.args in omega (arith, shift_one a.left (omega arith), halved a.left (omega arith))
 
 sub-fill-pieces-2 : (t : ℕ) → lts.Need-overflow-sub-fill-pieces-2 (callees t) (here t) reads.Post
 sub-fill-pieces-2 t c = omega arith
 
 right-half-requires : (t : ℕ) → lts.Need-right-half-requires (callees t) (here t) reads.Post
-right-half-requires t c κs = let s = c.before.before.before.before.before.before.before.before in cuttable-small s.args.left common_divisor s.args.x s.requires.1.1.0.0
+right-half-requires t c κs = let s = c.before.before.before.before.before.before.before in cuttable-small s.args.left (divisor_of s.args.bits) s.args.x s.requires.1.1.0.0
 
 right-half-requires-2 : (t : ℕ) → lts.Need-right-half-requires-2 (callees t) (here t) reads.Post
-right-half-requires-2 t c κs = let s = c.before.before.before.before.before.before.before.before.before in cuttable-small s.args.left common_divisor s.args.y s.requires.1.1.0.1
+right-half-requires-2 t c κs = let s = c.before.before.before.before.before.before.before.before in cuttable-small s.args.left (divisor_of s.args.bits) s.args.y s.requires.1.1.0.1
 
 fill-pieces-requires-2 : (t : ℕ) → lts.Need-fill-pieces-requires-2 (callees t) (here t) reads.Post
 fill-pieces-requires-2 t c κs =
     let l = c.before.before.before.before in
-    let s = l.before.before.before.before.before.before in
+    let s = l.before.before.before.before.before in
     let a = s.args in
-    let d = common_divisor in
+    let d = divisor_of a.bits in
     let m = a.left - 1 in
     let x = (cut_on a.left d a.x (omega arith) (omega arith) s.requires.1.1.0.0).1 in
     let y = (cut_on a.left d a.y (omega arith) (omega arith) s.requires.1.1.0.1).1 in
@@ -145,7 +135,7 @@ fill-pieces-requires-2 t c κs =
     let half = halved a.left (omega arith) in (
       omega (arith, s.requires.0),
       (
-        omega arith,
+        (omega arith, s.requires.1.0.1),
         (
           (subst (Cuttable m d) (sym c.before.right-half.ensures) x, subst (Cuttable m d) (sym c.right-half2.ensures) y),
           omega (arith, shift, half, l.fill-pieces.auto.0),
@@ -153,8 +143,8 @@ fill-pieces-requires-2 t c κs =
       ),
     )
 
-same-length-3 : (t : ℕ) → lts.Need-same-length-3 (callees t) (here t) reads.Post
-same-length-3 t c = c.before.fill-pieces2.auto.0 ∙ c.before.before.before.before.before.before.fill-pieces.auto.0
+same-length-2 : (t : ℕ) → lts.Need-same-length-2 (callees t) (here t) reads.Post
+same-length-2 t c = c.before.fill-pieces2.auto.0 ∙ c.before.before.before.before.before.before.fill-pieces.auto.0
 
 -- the left half's call before the right half's
 abbrev left : {t : ℕ} → lts.After-fill-pieces2 (callees t) (here t) reads.Post → lts.After-fill-pieces (callees t) (here t) reads.Post
@@ -162,25 +152,25 @@ left c = c.before.before.before.before.before
 
 -- and what the right half comes to, after it
 right-rounded : (t : ℕ) (c : lts.After-fill-pieces2 (callees t) (here t) reads.Post) → outcome c.fill-pieces2.result c.fill-pieces2.new.0
-    ≡ rounds common_divisor
-    (piece_sums ((left c).before.before.before.before.before.before.args.left - 1) (right_half (left c).before.before.before.before.before.before.args.x) (right_half (left c).before.before.before.before.before.before.args.y))
-    ((left c).before.before.before.before.before.before.args.at + 2 ^ (left c).before.before.before.before.before.before.args.left) 0 (left c).fill-pieces.new.0
+    ≡ rounds (divisor_of (left c).before.before.before.before.before.args.bits)
+    (piece_sums ((left c).before.before.before.before.before.args.left - 1) (right_half (left c).before.before.before.before.before.args.x) (right_half (left c).before.before.before.before.before.args.y))
+    ((left c).before.before.before.before.before.args.at + 2 ^ (left c).before.before.before.before.before.args.left) 0 (left c).fill-pieces.new.0
 right-rounded t c =
     let l = left c in
-    let s = l.before.before.before.before.before.before in
+    let s = l.before.before.before.before.before in
     let a = s.args in
     let half = shift_one a.left (omega (arith, s.pre.1.0)) in
     let x = c.before.before.right-half.ensures in
     let y = c.before.right-half2.ensures in
-    c.fill-pieces2.ensures ∙ (λ i. rounds common_divisor (piece_sums (a.left - 1) (x i) (y i)) (a.at + half i) 0 l.fill-pieces.last.0)
+    c.fill-pieces2.ensures ∙ (λ i. rounds (divisor_of a.bits) (piece_sums (a.left - 1) (x i) (y i)) (a.at + half i) 0 l.fill-pieces.last.0)
 
 add-result : (t : ℕ) → lts.Need-overflow-add-result (callees t) (here t) reads.Post
 add-result t c =
     let r = c.before in
     let l = left r in
-    let s = l.before.before.before.before.before.before in
+    let s = l.before.before.before.before.before in
     let a = s.args in
-    let d = common_divisor in
+    let d = divisor_of a.bits in
     let m = a.left - 1 in
     let first = rounds-most d (piece_sums m (left_half a.x) (left_half a.y)) a.at 0 a.points.now (outcome l.fill-pieces.result l.fill-pieces.last.0) (left-rounded t l) in
     let second = rounds-most d (piece_sums m (right_half a.x) (right_half a.y)) (a.at + 2 ^ a.left) 0 l.fill-pieces.last.0 (outcome r.fill-pieces2.result r.fill-pieces2.new.0) (right-rounded t r) in
@@ -188,14 +178,14 @@ add-result t c =
     let sums : (x y : Four) → length (piece_sums m x y) ≡ per_span m = λ x y. length-tab (paired m x y) 0 (per_span m) in
     omega (arith, first, second, sums (left_half a.x) (left_half a.y), sums (right_half a.x) (right_half a.y), most)
 
-returns-3 : (t : ℕ) → lts.Need-returns-3 (callees t) (here t) reads.Post
-returns-3 t c =
+returns-2 : (t : ℕ) → lts.Need-returns-2 (callees t) (here t) reads.Post
+returns-2 t c =
     let r = c.before in
     let l = left r in
-    let s = l.before.before.before.before.before.before in
+    let s = l.before.before.before.before.before in
     let a = s.args in
-    let d = common_divisor in
-    let some : 0 < a.left = omega (arith, l.before.before.before.before.before.if1.left) in
+    let d = divisor_of a.bits in
+    let some : 0 < a.left = omega (arith, l.before.before.before.before.if1.left) in
     halves-rounded a.left d a.x a.y a.at 0 a.points.now some (left-rounded t l)
     (rounds-from d (piece_sums (a.left - 1) (right_half a.x) (right_half a.y)) (a.at + 2 ^ a.left) l.fill-pieces.result l.fill-pieces.last.0 (outcome r.fill-pieces2.result r.fill-pieces2.new.0) (right-rounded t r))
 
@@ -203,4 +193,4 @@ pub +fill-pieces-spec : {M : Type 1} → statement M
 +fill-pieces-spec =
     close μ
     λ t.
-    lts.spec (callees t) (here t) reads.Post (put-point-requires t) (same_length t) (returns t) (put-halves-requires t) (same-length-2 t) (returns-2 t) (shl-half t) (sub-fill-pieces t) (left-half-requires t) (left-half-requires-2 t) (fill-pieces-requires t) (add-fill-pieces t) (sub-fill-pieces-2 t) (right-half-requires t) (right-half-requires-2 t) (fill-pieces-requires-2 t) (add-result t) (same-length-3 t) (returns-3 t)
+    lts.spec (callees t) (here t) reads.Post (put-point-requires t) (same_length t) (returns t) (shl-half t) (sub-fill-pieces t) (left-half-requires t) (left-half-requires-2 t) (fill-pieces-requires t) (add-fill-pieces t) (sub-fill-pieces-2 t) (right-half-requires t) (right-half-requires-2 t) (fill-pieces-requires-2 t) (add-result t) (same-length-2 t) (returns-2 t)

@@ -1,35 +1,62 @@
--- At t = 1 the sum is 2^24 times the last control (`weighted-end`), and 64 bits hold it.
+-- At t = 1 the sum is the cube of 2^depth times the last control (`weighted-end`), and 64 bits hold it.
 use mathlib.Core.Path.{◌≡◌, sym, ap, ◌∙◌, subst}
-use Prim.Native.Nat.{◌*◌, ◌^◌}
-use native.Mathlib.Nat.{le_trans, le_of_eq, le_refl, mul-le-mul}
+use Prim.Native.Nat.{ℕ, ◌*◌, ◌%◌, ◌^◌, ◌≤◌}
+use native.Mathlib.Nat.{le_trans, le_of_eq, mul-le-mul, lt_of_le_of_lt}
+use native.Mathlib.Omega.{arith}
+use borrow.Author.Rules.{rules}
+use lib.Dec.{lit<}
 use lib.IntN.{pos, ◌*ℤ◌}
+use lib.Pow.{pow_mono}
 use mir.Syntax.{w64}
-use mir.Val.{SFits}
+use mir.Val.{SFits, to_z}
+use mir.ValLaws.{to_z_pos}
 use Rattle.whole.proofs.Fit.{kept, kept-is, nat_abs_mul, sfits}
 use Rattle.curve.specs.declared.Four.{Four}
 use Rattle.curve.specs.Limits.{Inside}
-use Rattle.curve.specs.Inner.{widest}
+use Rattle.curve.specs.Inner.{widest, most_bits}
 use Rattle.curve.specs.Ways.{deepest}
+use Rattle.curve.proofs.Powers.{cube, thrice, shift_one}
 use Rattle.curve.proofs.Span.{weighted-end}
 use Rattle.spans.proofs.run.end_sum.Statement.{statement}
 use Rattle.spans.proofs.run.end_sum.Tie as tie
 
-module _ (q : Four) (inside : Inside widest q) where
-  -- the machine's product is of the power of two and the control
-  product : pos (2 ^ (3 * deepest)) *ℤ kept w64 q.d ≡ pos (2 ^ (3 * deepest)) *ℤ q.d
-  product = ap (λ x. pos (2 ^ (3 * deepest)) *ℤ x) (kept-is w64 q.d (sfits w64 q.d widest inside.d tt))
+module _ (k : ℕ) (q : Four) (h : k ≤ deepest) (inside : Inside widest q) where
+  power : 2 ^ (3 * k) ≤ 2 ^ most_bits
+  power = pow_mono {i = 3 * k} {j = most_bits} (omega arith)
 
-  fits : SFits w64 (pos (2 ^ (3 * deepest)) *ℤ q.d)
-  fits = sfits w64 (pos (2 ^ (3 * deepest)) *ℤ q.d) (2 ^ (3 * deepest) * widest) (le_trans (le_of_eq (nat_abs_mul (pos (2 ^ (3 * deepest))) q.d)) (mul-le-mul (le_refl (2 ^ (3 * deepest))) inside.d)) tt
+  -- the machine's product is of the power of two and the control
+  product : to_z w64 (1 * 2 ^ (3 * k) % 2 ^ 64) *ℤ kept w64 q.d ≡ pos (2 ^ (3 * k)) *ℤ q.d
+  product =
+      ap (λ x. x *ℤ kept w64 q.d) (ap (to_z w64) (shift_one (3 * k) (omega arith)) ∙ to_z_pos w64 (2 ^ (3 * k)) (lt_of_le_of_lt power (lit< tt)))
+      ∙ ap (λ x. pos (2 ^ (3 * k)) *ℤ x) (kept-is w64 q.d (sfits w64 q.d widest inside.d tt))
+
+  fits : SFits w64 (pos (2 ^ (3 * k)) *ℤ q.d)
+  fits = sfits w64 (pos (2 ^ (3 * k)) *ℤ q.d) (2 ^ most_bits * widest) (le_trans (le_of_eq (nat_abs_mul (pos (2 ^ (3 * k))) q.d)) (mul-le-mul power inside.d)) tt
+
+mul-cubed : tie.Need-overflow-mul-cubed
+mul-cubed c = search rules
+
+cast-cubed : tie.Need-overflow-cast-cubed
+cast-cubed c = search rules
+
+shl-cubed : tie.Need-overflow-shl-cubed
+shl-cubed c = search rules
 
 mul-result : tie.Need-overflow-mul-result
-mul-result c = let s = c.before.before in subst (SFits w64) (sym (product s.args.q s.requires)) (fits s.args.q s.requires)
+mul-result c =
+    let a = c.before.before.args in
+    let p = c.before.before.requires in
+    subst (SFits w64) (sym (product a.depth a.q p.0 p.1)) (fits a.depth a.q p.0 p.1)
 
 returns : tie.Need-returns
+unfolding cube
 returns c =
-    let s = c.before.before in
-    let q = s.args.q in
-    ap (kept w64) (product q s.requires) ∙ kept-is w64 (pos (2 ^ (3 * deepest)) *ℤ q.d) (fits q s.requires) ∙ sym (weighted-end q (pos (2 ^ deepest)))
+    let a = c.before.before.args in
+    let p = c.before.before.requires in
+    ap (kept w64) (product a.depth a.q p.0 p.1)
+    ∙ kept-is w64 (pos (2 ^ (3 * a.depth)) *ℤ a.q.d) (fits a.depth a.q p.0 p.1)
+    ∙ ap (λ (n : ℕ). pos n *ℤ a.q.d) (thrice a.depth)
+    ∙ sym (weighted-end a.q (pos (2 ^ a.depth)))
 
 pub end-sum-spec : {M : Type 1} → statement M
-end-sum-spec = tie.close (tie.spec mul-result returns)
+end-sum-spec = tie.close (tie.spec mul-cubed cast-cubed shl-cubed mul-result returns)

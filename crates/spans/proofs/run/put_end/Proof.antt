@@ -7,9 +7,8 @@ use borrow.Author.Rules.{rules}
 use lib.IntN.{pos, nat_abs}
 use mir.Syntax.{w64}
 use Rattle.whole.proofs.Fit.{kept, kept-is}
-use Rattle.curve.specs.Inner.{common_divisor, far_reach, most_bits}
+use Rattle.curve.specs.Inner.{far_reach, divisor_of}
 use Rattle.curve.specs.Span.{weighted}
-use Rattle.curve.specs.Ways.{deepest}
 use Rattle.spans.specs.Inner.{rounds}
 use Rattle.spans.proofs.run.put_end.Statement.{statement}
 use Rattle.spans.proofs.run.put_end.Tie as tie
@@ -21,18 +20,19 @@ end-sum-requires-2 : tie.Need-end-sum-requires-2
 end-sum-requires-2 c κs = search rules
 
 -- the sums as the machine keeps them
-sum-x : (c : tie.After-end-sum) → kept w64 c.end-sum.result ≡ weighted c.before.before.args.x (pos (2 ^ deepest)) (pos (2 ^ deepest))
+sum-x : (c : tie.After-end-sum) → kept w64 c.end-sum.result ≡ weighted c.before.before.args.x (pos (2 ^ c.before.before.args.depth)) (pos (2 ^ c.before.before.args.depth))
 sum-x c = kept-is w64 c.end-sum.result (record { sfits = c.end-sum.type-inv }) ∙ c.end-sum.ensures
 
-sum-y : (c : tie.After-end-sum2) → kept w64 c.end-sum2.result ≡ weighted c.before.before.before.args.y (pos (2 ^ deepest)) (pos (2 ^ deepest))
+sum-y : (c : tie.After-end-sum2) → kept w64 c.end-sum2.result ≡ weighted c.before.before.before.args.y (pos (2 ^ c.before.before.before.args.depth)) (pos (2 ^ c.before.before.before.args.depth))
 sum-y c = kept-is w64 c.end-sum2.result (record { sfits = c.end-sum2.type-inv }) ∙ c.end-sum2.ensures
 
 put-point-requires : tie.Need-put-point-requires
 put-point-requires c κs =
-    let p = c.before.before.before.requires in
-    let n = common_divisor * far_reach in
-    let last = le_refl (2 ^ deepest) in
-    (le_refl most_bits, ((subst (λ z. nat_abs z ≤ n) (sym (sum-x c.before)) (p.0.0.near _ last), subst (λ z. nat_abs z ≤ n) (sym (sum-y c)) (p.0.1.near _ last)), p.1))
+    let s = c.before.before.before in
+    let n = divisor_of s.args.bits * far_reach in
+    let p = s.requires in
+    let last = le_refl (2 ^ s.args.depth) in
+    (p.0.1, ((subst (λ z. nat_abs z ≤ n) (sym (sum-x c.before)) (p.1.0.0.near _ last), subst (λ z. nat_abs z ≤ n) (sym (sum-y c)) (p.1.0.1.near _ last)), p.1.1))
 
 same_length : tie.Need-same-length
 same_length c = search rules
@@ -41,7 +41,7 @@ returns : tie.Need-returns
 returns c =
     let t = c.before.before in
     let a = t.before.before.before.args in
-    c.before.put-point.ensures ∙ (λ i. rounds common_divisor (sum-x t.before i ∷ sum-y t i ∷ []) a.at a.exact a.points.now)
+    c.before.put-point.ensures ∙ (λ i. rounds (divisor_of a.bits) (sum-x t.before i ∷ sum-y t i ∷ []) a.at a.exact a.points.now)
 
 pub put-end-spec : {M : Type 1} → statement M
 put-end-spec = tie.close (tie.spec end-sum-requires end-sum-requires-2 put-point-requires same_length returns)

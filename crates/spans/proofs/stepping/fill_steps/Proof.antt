@@ -2,7 +2,6 @@
 use mathlib.Core.Path.{◌≡◌, refl, sym, ap, ◌∙◌, subst}
 use mathlib.Core.List.{[], ◌∷◌}
 use Prim.Native.Nat.{ℕ, ◌+◌, ◌*◌, ◌-◌, ◌/◌, ◌^◌, ◌≤◌, ◌<◌}
-use native.Mathlib.Nat.{le_refl}
 use native.Mathlib.Omega.{arith}
 use lib.IntN.{nat_abs}
 use lib.ListN.{length}
@@ -11,7 +10,7 @@ use Rattle.whole.specs.Outcome.{outcome}
 use Rattle.whole.proofs.Fit.{kept, kept-is}
 use Rattle.curve.specs.declared.Differences.{Differences}
 use Rattle.curve.specs.Tab.{tab}
-use Rattle.curve.specs.Inner.{Small, common_divisor, far_reach, most_bits}
+use Rattle.curve.specs.Inner.{Small, far_reach, divisor_of}
 use Rattle.curve.specs.Ways.{advance}
 use Rattle.spans.specs.Numbers.{per_span}
 use Rattle.spans.specs.Inner.{after, rounds, stepped, Steady}
@@ -27,7 +26,7 @@ abbrev taken : ℕ → ℕ → ℕ
 taken at j = (j - at) / 2
 
 abbrev invariant-loop : tie.invariant-loop
-invariant-loop points₀ at depth exact end on-x₀ on-y₀ so-far₀ j₀ points on-x on-y so_far j =
+invariant-loop points₀ at depth bits exact end on-x₀ on-y₀ so-far₀ j₀ points on-x on-y so_far j =
     (end ≡ at + per_span depth)
     × (taken at j ≤ 2 ^ depth)
     × (j ≡ at + 2 * taken at j)
@@ -35,16 +34,16 @@ invariant-loop points₀ at depth exact end on-x₀ on-y₀ so-far₀ j₀ point
     × (on-x ≡ after (taken at j) on-x₀)
     × (on-y ≡ after (taken at j) on-y₀)
     × (so_far ≤ j)
-    × (rounds common_divisor (tab (stepped on-x₀ on-y₀) (2 * taken at j) (2 * (2 ^ depth - taken at j))) j so_far points ≡ rounds common_divisor (tab (stepped on-x₀ on-y₀) 0 (per_span depth)) at exact points₀)
+    × (rounds (divisor_of bits) (tab (stepped on-x₀ on-y₀) (2 * taken at j) (2 * (2 ^ depth - taken at j))) j so_far points ≡ rounds (divisor_of bits) (tab (stepped on-x₀ on-y₀) 0 (per_span depth)) at exact points₀)
 
 abbrev decreases-loop : tie.decreases-loop
-decreases-loop points₀ at depth exact end on-x₀ on-y₀ so-far₀ j₀ points on-x on-y so_far j = end - j
+decreases-loop points₀ at depth bits exact end on-x₀ on-y₀ so-far₀ j₀ points on-x on-y so_far j = end - j
 
 shl-end : tie.Need-overflow-shl-end invariant-loop decreases-loop
 shl-end c = omega arith
 
 add-end : tie.Need-overflow-add-end invariant-loop decreases-loop
-add-end c = omega (arith, stride-is c.args.depth c.requires.0)
+add-end c = omega (arith, stride-is c.args.depth c.requires.0.0)
 
 loop-holds : tie.Need-loop-init invariant-loop decreases-loop
 unfolding after
@@ -52,14 +51,14 @@ loop-holds c =
     let a = c.args in
     let k = a.depth in
     let none : taken a.at a.at ≡ 0 = omega arith in (
-      ap (λ (n : ℕ). a.at + n) (stride-is k c.requires.0),
+      ap (λ (n : ℕ). a.at + n) (stride-is k c.requires.0.0),
       omega (arith, none),
       omega (arith, none),
       refl,
       sym (ap (λ (n : ℕ). after n a.x) none),
       sym (ap (λ (n : ℕ). after n a.y) none),
       omega (arith, c.requires.1.1),
-      pair-none (stepped a.x a.y) common_divisor a.at a.exact a.points.now (taken a.at a.at) (2 ^ k) none,
+      pair-none (stepped a.x a.y) (divisor_of a.bits) a.at a.exact a.points.now (taken a.at a.at) (2 ^ k) none,
     )
 
 -- a state of the loop is one of the steady run
@@ -69,20 +68,20 @@ steady k d i s t h e run =
     (small, subst (λ z. nat_abs z ≤ d * far_reach) (ap (λ (u : Differences). u.value) (sym e) ∙ sym (kept-is w64 t.value (value-fits t small))) (run.near i h))
 
 -- the loop's test and invariant, at a turn's start
-turn-x : (c : tie.In-loop invariant-loop decreases-loop) → Small c.before.loop.on-x × (nat_abs (kept w64 c.before.loop.on-x.value) ≤ common_divisor * far_reach)
+turn-x : (c : tie.In-loop invariant-loop decreases-loop) → Small c.before.loop.on-x × (nat_abs (kept w64 c.before.loop.on-x.value) ≤ divisor_of c.before.before.args.bits * far_reach)
 turn-x c =
     let s = c.before.before in
     let l = c.before.loop in
-    steady s.args.depth common_divisor (taken s.args.at l.j) s.args.x l.on-x (omega arith) l.invariant.4 s.requires.1.0.0
+    steady s.args.depth (divisor_of s.args.bits) (taken s.args.at l.j) s.args.x l.on-x (omega arith) l.invariant.4 s.requires.1.0.0
 
-turn-y : (c : tie.In-loop invariant-loop decreases-loop) → Small c.before.loop.on-y × (nat_abs (kept w64 c.before.loop.on-y.value) ≤ common_divisor * far_reach)
+turn-y : (c : tie.In-loop invariant-loop decreases-loop) → Small c.before.loop.on-y × (nat_abs (kept w64 c.before.loop.on-y.value) ≤ divisor_of c.before.before.args.bits * far_reach)
 turn-y c =
     let s = c.before.before in
     let l = c.before.loop in
-    steady s.args.depth common_divisor (taken s.args.at l.j) s.args.y l.on-y (omega arith) l.invariant.5 s.requires.1.0.1
+    steady s.args.depth (divisor_of s.args.bits) (taken s.args.at l.j) s.args.y l.on-y (omega arith) l.invariant.5 s.requires.1.0.1
 
 put-point-requires : tie.Need-put-point-requires invariant-loop decreases-loop
-put-point-requires c κs = let t = c.before.before.before in (le_refl most_bits, (((turn-x t).1, (turn-y t).1), (omega arith, t.before.loop.invariant.6)))
+put-point-requires c κs = let t = c.before.before.before in (t.before.before.requires.0.1, (((turn-x t).1, (turn-y t).1), (omega arith, t.before.loop.invariant.6)))
 
 next-requires : tie.Need-next-requires invariant-loop decreases-loop
 next-requires c κs = (turn-x c.before.before.before.before.before).0
@@ -106,7 +105,7 @@ turn c = c.before.before.before.before
 
 -- a turn rounds the rule's next pair
 rounded : (c : tie.After-put-point invariant-loop decreases-loop) → outcome c.put-point.result c.put-point.new.0
-    ≡ rounds common_divisor
+    ≡ rounds (divisor_of (turn c).before.before.args.bits)
     (stepped (turn c).before.before.args.x (turn c).before.before.args.y (2 * taken (turn c).before.before.args.at (turn c).before.loop.j)
     ∷ stepped (turn c).before.before.args.x (turn c).before.before.args.y (2 * taken (turn c).before.before.args.at (turn c).before.loop.j + 1)
     ∷ [])
@@ -118,7 +117,7 @@ rounded c =
     let i = taken a.at l.j in
     let x = sum i a.x l.on-x l.inv.4 (turn-x t).0 ∙ sym (stepped-x a.x a.y i) in
     let y = sum i a.y l.on-y l.inv.5 (turn-y t).0 ∙ sym (stepped-y a.x a.y i) in
-    c.put-point.ensures ∙ (λ k. rounds common_divisor (x k ∷ y k ∷ []) l.j l.so_far l.points)
+    c.put-point.ensures ∙ (λ k. rounds (divisor_of a.bits) (x k ∷ y k ∷ []) l.j l.so_far l.points)
 
 loop-again : tie.Need-loop-preserved invariant-loop decreases-loop
 loop-again c =
@@ -127,7 +126,7 @@ loop-again c =
     let l = t.before.loop in
     let a = t.before.before.args in
     let k = a.depth in
-    let d = common_divisor in
+    let d = divisor_of a.bits in
     let i = taken a.at l.j in
     let f = stepped a.x a.y in
     let o = outcome p.put-point.result p.put-point.new.0 in
@@ -152,7 +151,7 @@ returns : tie.Need-returns invariant-loop decreases-loop
 returns c =
     let l = c.before.loop in
     let a = c.before.before.args in
-    sym (pair-done (stepped a.x a.y) common_divisor l.j l.so_far l.points (taken a.at l.j) (2 ^ a.depth) (omega arith)) ∙ l.invariant.7
+    sym (pair-done (stepped a.x a.y) (divisor_of a.bits) l.j l.so_far l.points (taken a.at l.j) (2 ^ a.depth) (omega arith)) ∙ l.invariant.7
 
 pub fill-steps-spec : {M : Type 1} → statement M
 fill-steps-spec = tie.close (tie.spec invariant-loop decreases-loop shl-end add-end loop-holds put-point-requires next-requires next-requires-2 add-j loop-less loop-again same_length returns)

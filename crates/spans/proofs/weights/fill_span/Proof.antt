@@ -2,7 +2,7 @@
 use mathlib.Core.Path.{◌≡◌, refl, sym, ap, ◌∙◌, subst}
 use mathlib.Core.List.{[], ◌∷◌}
 use Prim.Native.Nat.{ℕ, ◌+◌, ◌*◌, ◌-◌, ◌/◌, ◌%◌, ◌^◌, ◌≤◌, ◌<◌}
-use native.Mathlib.Nat.{le_refl, zero-div, zero-mod}
+use native.Mathlib.Nat.{zero-div, zero-mod}
 use native.Mathlib.Omega.{arith}
 use lib.IntN.{pos, nat_abs}
 use lib.ListN.{length}
@@ -10,31 +10,31 @@ use lib.Pow.{pow_pos}
 use mir.Syntax.{w64}
 use Rattle.whole.specs.Outcome.{outcome}
 use Rattle.whole.proofs.Fit.{kept, kept-is}
-use Rattle.curve.specs.Inner.{common_divisor, far_reach, most_bits}
+use Rattle.curve.specs.Inner.{far_reach, divisor_of}
 use Rattle.curve.specs.Tab.{tab}
 use Rattle.curve.specs.Span.{weighted}
 use Rattle.curve.specs.Ways.{deepest, apart}
 use Rattle.spans.specs.Numbers.{per_span}
-use Rattle.spans.specs.Inner.{at_rows, rounds}
+use Rattle.spans.specs.Inner.{paired, rounds}
 use Rattle.spans.proofs.Rounds.{rounds-most}
-use Rattle.spans.proofs.Pairs.{pair-none, pair_step, pair-done, rows-x, rows-y}
+use Rattle.spans.proofs.Pairs.{pair-none, pair_step, pair-done, paired-x, paired-y}
 use Rattle.curve.proofs.Powers.{shift_one}
 use Rattle.curve.proofs.Table.{step-below, last_step, next_row, next-whole, next-step}
 use Rattle.spans.proofs.weights.fill_span.Statement.{statement}
 use Rattle.spans.proofs.weights.fill_span.Tie as tie
 
 abbrev invariant-loop : tie.invariant-loop
-invariant-loop table points₀ at depth x y exact between so-far₀ row₀ j₀ points so_far row j =
+invariant-loop table points₀ at depth bits x y exact between so-far₀ row₀ j₀ points so_far row j =
     (between ≡ apart depth)
     × (row % apart depth ≡ 0)
     × (row ≤ 2 ^ deepest)
     × (j ≡ at + 2 * (row / apart depth))
     × (length points ≡ length points₀)
     × (so_far ≤ j)
-    × (rounds common_divisor (tab (at_rows depth x y) (2 * (row / apart depth)) (2 * (2 ^ depth - row / apart depth))) j so_far points ≡ rounds common_divisor (tab (at_rows depth x y) 0 (per_span depth)) at exact points₀)
+    × (rounds (divisor_of bits) (tab (paired depth x y) (2 * (row / apart depth)) (2 * (2 ^ depth - row / apart depth))) j so_far points ≡ rounds (divisor_of bits) (tab (paired depth x y) 0 (per_span depth)) at exact points₀)
 
 abbrev decreases-loop : tie.decreases-loop
-decreases-loop table points₀ at depth x y exact between so-far₀ row₀ j₀ points so_far row j = 2 ^ deepest - row
+decreases-loop table points₀ at depth bits x y exact between so-far₀ row₀ j₀ points so_far row j = 2 ^ deepest - row
 
 -- 1 shifted left is how far apart the rows are
 apart-is : (k : ℕ) → k ≤ deepest → 1 * 2 ^ (deepest - k) % 2 ^ 64 ≡ apart k
@@ -51,50 +51,55 @@ loop-holds c =
     let a = c.args in
     let k = a.depth in
     let none : 0 / apart k ≡ 0 = zero-div (apart k) in
-    (apart-is k c.requires.0, zero-mod (apart k), omega arith, omega (arith, none), refl, c.requires.1.1.0.1, pair-none (at_rows k a.x a.y) (common_divisor) a.at a.exact a.points.now (0 / apart k) (2 ^ k) none)
+    (apart-is k c.requires.0.0, zero-mod (apart k), omega arith, omega (arith, none), refl, c.requires.1.1.0.1, pair-none (paired k a.x a.y) (divisor_of a.bits) a.at a.exact a.points.now (0 / apart k) (2 ^ k) none)
 
-weighted-sum-requires : tie.Need-weighted-sum-requires invariant-loop decreases-loop
-weighted-sum-requires c κs =
+table-sum-requires : tie.Need-table-sum-requires invariant-loop decreases-loop
+table-sum-requires c κs =
     let p = c.before.before.before.requires in
-    (p.1.1.1, (p.1.0.0.inside, c.before.before.loop.invariant.2))
+    let l = c.before.before.loop in
+    ((p.1.1.1, p.1.0.0.inside), (p.0.0, l.invariant.2, l.invariant.1))
 
-weighted-sum-requires-2 : tie.Need-weighted-sum-requires-2 invariant-loop decreases-loop
-weighted-sum-requires-2 c κs = let r = weighted-sum-requires c.before κs in (r.0, (c.before.before.before.before.requires.1.0.1.inside, r.1.1))
+table-sum-requires-2 : tie.Need-table-sum-requires-2 invariant-loop decreases-loop
+table-sum-requires-2 c κs = let r = table-sum-requires c.before κs in ((r.0.0, c.before.before.before.before.requires.1.0.1.inside), r.1)
 
 -- the sums of a turn, as the machine keeps them
-sum-x : (c : tie.After-weighted-sum invariant-loop decreases-loop) → kept w64 c.weighted-sum.result ≡ weighted c.before.before.before.before.args.x (pos c.before.before.before.loop.row) (pos (2 ^ deepest))
-sum-x c = kept-is w64 c.weighted-sum.result (record { sfits = c.weighted-sum.type-inv }) ∙ c.weighted-sum.ensures
+sum-x : (c : tie.After-table-sum invariant-loop decreases-loop) → kept w64 c.table-sum.result
+    ≡ weighted c.before.before.before.before.args.x (pos (c.before.before.before.loop.row / apart c.before.before.before.before.args.depth)) (pos (2 ^ c.before.before.before.before.args.depth))
+sum-x c = kept-is w64 c.table-sum.result (record { sfits = c.table-sum.type-inv }) ∙ c.table-sum.ensures
 
-sum-y : (c : tie.After-weighted-sum2 invariant-loop decreases-loop) → kept w64 c.weighted-sum2.result ≡ weighted c.before.before.before.before.before.args.y (pos c.before.before.before.before.loop.row) (pos (2 ^ deepest))
-sum-y c = kept-is w64 c.weighted-sum2.result (record { sfits = c.weighted-sum2.type-inv }) ∙ c.weighted-sum2.ensures
+sum-y : (c : tie.After-table-sum2 invariant-loop decreases-loop) → kept w64 c.table-sum2.result
+    ≡ weighted c.before.before.before.before.before.args.y (pos (c.before.before.before.before.loop.row / apart c.before.before.before.before.before.args.depth)) (pos (2 ^ c.before.before.before.before.before.args.depth))
+sum-y c = kept-is w64 c.table-sum2.result (record { sfits = c.table-sum2.type-inv }) ∙ c.table-sum2.ensures
 
 put-point-requires : tie.Need-put-point-requires invariant-loop decreases-loop
 put-point-requires c κs =
     let s = c.before.before.before.before.before in
     let l = c.before.before.before.before.loop in
-    let n = common_divisor * far_reach in
+    let n = divisor_of s.args.bits * far_reach in
     let p = s.requires in
-    let below : l.row / apart s.args.depth < 2 ^ s.args.depth = step-below s.args.depth l.row p.0 (omega arith) in
-    (le_refl most_bits, ((subst (λ z. nat_abs z ≤ n) (sym (sum-x c.before)) (p.1.0.0.near l.row l.invariant.2), subst (λ z. nat_abs z ≤ n) (sym (sum-y c)) (p.1.0.1.near l.row l.invariant.2)), (omega arith, l.invariant.5)))
+    let i = l.row / apart s.args.depth in
+    let below : i < 2 ^ s.args.depth = step-below s.args.depth l.row p.0.0 (omega arith) in
+    let within : i ≤ 2 ^ s.args.depth = omega arith in
+    (p.0.1, ((subst (λ z. nat_abs z ≤ n) (sym (sum-x c.before)) (p.1.0.0.near i within), subst (λ z. nat_abs z ≤ n) (sym (sum-y c)) (p.1.0.1.near i within)), (omega arith, l.invariant.5)))
 
 add_row : tie.Need-overflow-add-row invariant-loop decreases-loop
 add_row c =
     let t = c.before.before.before.before.before.before in
     let k = t.before.args.depth in
-    let p = t.before.requires.0 in
+    let p = t.before.requires.0.0 in
     omega (arith, apart-is k p, next_row k t.loop.row p t.loop.invariant.1 (omega arith))
 
 add-j : tie.Need-overflow-add-j invariant-loop decreases-loop
 add-j c =
     let t = c.before.before.before.before.before.before in
     let k = t.before.args.depth in
-    omega (arith, step-below k t.loop.row t.before.requires.0 (omega arith))
+    omega (arith, step-below k t.loop.row t.before.requires.0.0 (omega arith))
 
 loop-less : tie.Need-loop-smaller invariant-loop decreases-loop
 loop-less c =
     let t = c.before.before.before.before.before.before in
     let k = t.before.args.depth in
-    let p = t.before.requires.0 in
+    let p = t.before.requires.0.0 in
     omega (arith, apart-is k p, pow_pos (deepest - k), next_row k t.loop.row p t.loop.invariant.1 (omega arith))
 
 -- the turn that puts a point
@@ -103,18 +108,19 @@ turn c = c.before.before.before.before.before
 
 -- a turn rounds the rule's next pair
 rounded : (c : tie.After-put-point invariant-loop decreases-loop) → outcome c.put-point.result c.put-point.new.0
-    ≡ rounds common_divisor
-    (at_rows (turn c).before.args.depth (turn c).before.args.x (turn c).before.args.y (2 * ((turn c).loop.row / apart (turn c).before.args.depth))
-    ∷ at_rows (turn c).before.args.depth (turn c).before.args.x (turn c).before.args.y (2 * ((turn c).loop.row / apart (turn c).before.args.depth) + 1)
+    ≡ rounds (divisor_of (turn c).before.args.bits)
+    (paired (turn c).before.args.depth (turn c).before.args.x (turn c).before.args.y (2 * ((turn c).loop.row / apart (turn c).before.args.depth))
+    ∷ paired (turn c).before.args.depth (turn c).before.args.x (turn c).before.args.y (2 * ((turn c).loop.row / apart (turn c).before.args.depth) + 1)
     ∷ [])
     (turn c).loop.j (turn c).loop.so_far (turn c).loop.points
 rounded c =
     let t = c.before in
     let l = (turn c).loop in
     let a = (turn c).before.args in
-    let x = sum-x t.before ∙ sym (rows-x a.depth a.x a.y l.row l.inv.1) in
-    let y = sum-y t ∙ sym (rows-y a.depth a.x a.y l.row l.inv.1) in
-    c.put-point.ensures ∙ (λ k. rounds common_divisor (x k ∷ y k ∷ []) l.j l.so_far l.points)
+    let i = l.row / apart a.depth in
+    let x = sum-x t.before ∙ sym (paired-x a.depth a.x a.y i) in
+    let y = sum-y t ∙ sym (paired-y a.depth a.x a.y i) in
+    c.put-point.ensures ∙ (λ k. rounds (divisor_of a.bits) (x k ∷ y k ∷ []) l.j l.so_far l.points)
 
 loop-again : tie.Need-loop-preserved invariant-loop decreases-loop
 loop-again c =
@@ -123,21 +129,21 @@ loop-again c =
     let s = (turn p).before in
     let a = s.args in
     let k = a.depth in
-    let d = common_divisor in
+    let d = divisor_of a.bits in
     let i = l.row / apart k in
-    let f = at_rows k a.x a.y in
+    let f = paired k a.x a.y in
     let o = outcome p.put-point.result p.put-point.new.0 in
-    let e = apart-is k s.pre.0 in
+    let e = apart-is k s.pre.0.0 in
     let before : l.row < 2 ^ deepest = omega arith in
     let next : (l.row + 1 * 2 ^ (deepest - k) % 2 ^ 64) / apart k ≡ i + 1 = ap (λ (n : ℕ). (l.row + n) / apart k) e ∙ next-step k l.row in (
       l.inv.0,
       ap (λ (n : ℕ). (l.row + n) % apart k) e ∙ next-whole k l.row l.inv.1,
-      omega (arith, e, next_row k l.row s.pre.0 l.inv.1 before),
+      omega (arith, e, next_row k l.row s.pre.0.0 l.inv.1 before),
       omega (arith, next),
       p.put-point.auto.0 ∙ l.inv.4,
       omega (arith, l.inv.5, rounds-most d (f (2 * i) ∷ f (2 * i + 1) ∷ []) l.j l.so_far l.points o (rounded p)),
       ap (λ (m : ℕ). rounds d (tab f (2 * m) (2 * (2 ^ k - m))) (l.j + 2) p.put-point.result p.put-point.new.0) next
-          ∙ pair_step f d l.j l.so_far l.points i (2 ^ k) (step-below k l.row s.pre.0 before) o (rounded p)
+          ∙ pair_step f d l.j l.so_far l.points i (2 ^ k) (step-below k l.row s.pre.0.0 before) o (rounded p)
           ∙ l.inv.6,
     )
 
@@ -150,8 +156,8 @@ returns c =
     let a = c.before.before.args in
     let k = a.depth in
     let last : l.row ≡ 2 ^ deepest = omega arith in
-    let all : l.row / apart k ≡ 2 ^ k = ap (λ (n : ℕ). n / apart k) last ∙ last_step k c.before.before.requires.0 in
-    sym (pair-done (at_rows k a.x a.y) (common_divisor) l.j l.so_far l.points (l.row / apart k) (2 ^ k) (omega (arith, all))) ∙ l.invariant.6
+    let all : l.row / apart k ≡ 2 ^ k = ap (λ (n : ℕ). n / apart k) last ∙ last_step k c.before.before.requires.0.0 in
+    sym (pair-done (paired k a.x a.y) (divisor_of a.bits) l.j l.so_far l.points (l.row / apart k) (2 ^ k) (omega (arith, all))) ∙ l.invariant.6
 
 pub fill-span-spec : {M : Type 1} → statement M
-fill-span-spec = tie.close (tie.spec invariant-loop decreases-loop sub-apart shl-apart loop-holds weighted-sum-requires weighted-sum-requires-2 put-point-requires add_row add-j loop-less loop-again same_length returns)
+fill-span-spec = tie.close (tie.spec invariant-loop decreases-loop sub-apart shl-apart loop-holds table-sum-requires table-sum-requires-2 put-point-requires add_row add-j loop-less loop-again same_length returns)
