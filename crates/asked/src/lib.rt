@@ -1,5 +1,7 @@
 // What an edit asks for: its controls, its counts and the spans that it works afresh; and the carrying of numbers inside one list. The calls are for crates of this
 // project: some require what those have checked.
+#![tactic(auto)]
+
 pub mod asking;
 pub mod carrying;
 pub mod counts;

@@ -1,4 +1,6 @@
 // What the programs share: their arguments, standard input and output, and the lines that they write. No call has a `requires`.
+#![tactic(auto)]
+
 mod argument;
 mod input;
 mod line;

@@ -1,5 +1,7 @@
 // The curve, exactly, on one axis: what a span's records mean and the three ways to its sums. No call here refuses anything: each says what it requires, and the
 // crates above it check that before they call.
+#![tactic(auto)]
+
 pub mod bounds;
 pub mod forward;
 pub mod halving;

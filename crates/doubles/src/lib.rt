@@ -1,4 +1,6 @@
 // Doubles: midpoints of exact doubles, and a drawing number in millimetres as whole micrometres. No public call has a `requires`.
+#![tactic(auto)]
+
 ghost use Rattle.std.specs.Prelude.{◌≡◌, ◌*◌, ◌^◌, ◌<◌};
 ghost use Rattle.std.specs.Float.{binary64};
 ghost use Rattle.std.specs.Float.Ieee.{of_bits};

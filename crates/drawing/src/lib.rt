@@ -1,5 +1,7 @@
 // A drawing, step by step (document 01, "Preview and drawing"): the drawing state goes in by value, the next state comes back, and the records that a step adds
 // are written to the lent controls. No public call has a `requires`: any state, step and list can be passed.
+#![tactic(auto)]
+
 mod controls;
 mod numbers;
 

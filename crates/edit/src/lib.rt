@@ -1,5 +1,7 @@
 // Editing an outline: move, insert and remove of one record, and what they leave in the lent controls and points. Every public call takes any input to an end: none
 // has a `requires`.
+#![tactic(auto)]
+
 mod carrying;
 mod checks;
 mod working;

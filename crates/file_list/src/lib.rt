@@ -1,5 +1,7 @@
 // The listing of a record file: what outline-list writes for it, part by part, and what outline-cut writes. The public calls have no `requires`: they are total on any bytes, any reading
 // and any controls.
+#![tactic(auto)]
+
 ghost use Rattle.std.specs.Prelude.{◌≡◌};
 ghost use Rattle.whole.specs.Outcome.{outcome};
 ghost use Rattle.listing.specs.Written.{written};

@@ -5,6 +5,8 @@
 //
 // A shape goes as its four numbers. An answer's `number` is 0 where the call accepted; then `place` is 0, and the figures are the call's. Else `number` and `place` are the refusal's, every figure is 0,
 // and the lists are as they came. No refusal has number 0.
+#![tactic(auto)]
+
 ghost use Rattle.std.specs.Prelude.{◌≡◌};
 ghost use Rattle.whole.specs.Outcome.{outcome};
 ghost use Rattle.asked.specs.declared.Edit.TheVariants.{Move, Insert, Remove};

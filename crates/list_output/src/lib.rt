@@ -1,5 +1,7 @@
 // The listing of a record file on standard output, part by part: no more than one span's points and text is held. What the parts are, and that one after another they are the listing, is proved in
 // file_list. No public call has a `requires`.
+#![tactic(auto)]
+
 ghost use Rattle.std.specs.Prelude.{◌≡◌};
 ghost use Rattle.record_file.specs.Rows.{reading};
 ghost use Rattle.file_list.specs.Files.{controls, file_text};

@@ -3,6 +3,8 @@
 //
 // No public call has a `requires`. Each writes its text whole from a place on and answers the place
 // just past it; where the text does not fit it answers `Full` and changes nothing.
+#![tactic(auto)]
+
 ghost use Rattle.listing.specs.Inner.{Room};
 
 mod line;

@@ -1,4 +1,6 @@
 // The outline of a shape in the lent points, three ways, and the view of one of its spans. Every public call takes any input to an end: none has a `requires`.
+#![tactic(auto)]
+
 ghost use Rattle.std.specs.Prelude.{◌≡◌, ◌+◌, ◌*◌};
 ghost use Rattle.whole.specs.Outcome.{outcome};
 ghost use Rattle.shape.specs.Inner.{Good};

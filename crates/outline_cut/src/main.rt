@@ -1,5 +1,7 @@
 // Reads one record file on standard input, and writes on standard output the listing of its outline with steps chosen by tolerance. The arguments are the tolerance and the most
 // cuts.
+#![tactic(auto)]
+
 use console::{Input, Number, read_argument, read_input, tell, write_listing};
 use file_list::{MOST_READ, MOST_TEXT, cut_file};
 

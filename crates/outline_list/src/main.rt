@@ -1,4 +1,6 @@
 // Reads one record file on standard input, and writes its listing on standard output, span by span.
+#![tactic(auto)]
+
 use console::{Input, read_input, tell};
 use file_list::{MOST_PART, MOST_READ, list_part};
 use list_output::{Written, write_file};

@@ -1,4 +1,6 @@
 // Writes the sums that document 01 holds the outlines to, a line each: what is asked, and what the libraries answer.
+#![tactic(auto)]
+
 mod drawings;
 mod edits;
 mod limits;

@@ -1,4 +1,6 @@
 // Plays a trials file from standard input: records of 56 bytes, one after the other, each a call of the library, and writes what the calls answer.
+#![tactic(auto)]
+
 ghost use Rattle.std.specs.Prelude.{◌≤◌};
 
 mod bench;

@@ -1,5 +1,7 @@
 // The pieces of one span that is cut by tolerance (document 02, request 3): which of them are flat, how many cuts that takes, and the flat ones' starts. The calls are for crates of this
 // project: they require what those have checked.
+#![tactic(auto)]
+
 pub mod fill;
 mod flat;
 pub mod walk;

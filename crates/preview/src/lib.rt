@@ -1,4 +1,6 @@
 // The preview of document 01: the outline of basis 1 in doubles, by halving at midpoints. The one public call, `preview`, has no `requires`.
+#![tactic(auto)]
+
 ghost use Rattle.std.specs.Prelude.{◌≡◌, ◌+◌, ◌*◌, ◌^◌, ◌≤◌, ◌<◌, length, set};
 ghost use Rattle.std.proofs.lemmas.List.Edits.{sets};
 ghost use Rattle.whole.specs.Outcome.{outcome, refuses};

@@ -1,4 +1,6 @@
 // The house record file of document 01: records of 12 bytes, read into a lent list of controls. The one public call, `read`, has no `requires`: it is total on any bytes.
+#![tactic(auto)]
+
 ghost use Rattle.std.specs.Prelude.{◌≡◌, ◌+◌, ◌*◌, ◌≤◌, length};
 ghost use Rattle.std.proofs.lemmas.List.Edits.{sets};
 ghost use Rattle.whole.specs.Outcome.{outcome, refuses};

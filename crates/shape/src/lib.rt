@@ -1,4 +1,6 @@
 // Shapes, refusals, and the checks that calls share. No call here has a `requires`, but those that say so: they are for crates of this project that have checked it.
+#![tactic(auto)]
+
 ghost use Rattle.std.specs.Prelude.{cond, ◌≡◌, ◌*◌, ◌^◌, ◌≤◌, length};
 ghost use Rattle.curve.specs.Ways.{deepest};
 ghost use Rattle.shape.specs.Shape.{sixty_fourths, basis_of, tail, spans_of, last_using, records_of, allowed, points_of, most_records, most_points};

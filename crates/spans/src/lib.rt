@@ -1,5 +1,7 @@
 // A run of spans in the lent points, three ways. Each way fills the same numbers; no way knows another. The calls are for crates of this project: they require what
 // those have checked. `run` fills a run of spans by the way that is asked for, and has the controls of one span; `point` rounds one point into the list.
+#![tactic(auto)]
+
 mod halving;
 pub mod point;
 pub mod run;

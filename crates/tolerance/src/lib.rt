@@ -1,5 +1,7 @@
 // The outline of a shape with its steps chosen by tolerance (document 02, request 3): each span is cut at its middle only while a piece is not flat. The one public call, `by_tolerance`, takes
 // any input to an end: it has no `requires`.
+#![tactic(auto)]
+
 ghost use Rattle.std.specs.Prelude.{◌≡◌};
 ghost use Rattle.whole.specs.Outcome.{outcome};
 ghost use Rattle.shape.specs.Inner.{Good};

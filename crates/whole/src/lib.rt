@@ -1,4 +1,6 @@
 // Whole numbers with a sign: how an exact sum is rounded once. Signed sums are 64 bits wide, and each is proved to fit.
+#![tactic(auto)]
+
 ghost use Rattle.std.specs.Prelude.{◌≡◌, ◌+◌, ◌*◌, ◌%◌, ◌^◌, ◌≤◌, ◌<◌, nat_abs};
 ghost use Rattle.whole.specs.Nearest.{half_up, rounding};
 ghost use Rattle.whole.specs.Inner.{farthest, half_to_greater, moved, multiple_of, Roundable};

@@ -10,16 +10,16 @@ use Rattle.whole.proofs.HalfUp.{half-by-steps}
 use Rattle.whole.proofs.half_up.Statement.{statement}
 use Rattle.whole.proofs.half_up.Tie as tie
 
-shr-result : tie.Need-overflow-shr-result
+shr-result : tie.Need-overflow_shr-result
 shr-result c = search rules
 
-cast-result : tie.Need-overflow-cast-result
+cast-result : tie.Need-overflow_cast-result-2
 cast-result c = search rules
 
-add-result : tie.Need-overflow-add-result
+add-result : tie.Need-overflow_add-result
 add-result c = record { fits = omega (arith, div-le_self c.args.size (2 ^ c.args.bits)) }
 
-div-result : tie.Need-nonzero-div-result
+div-result : tie.Need-nonzero_div-result-2
 div-result c = search rules
 
 returns : tie.Need-returns
@@ -32,5 +32,12 @@ returns c =
     ∙ sym (half-by-steps size (multiple / 2) d (pow_pos c.args.bits))
     ∙ ap (λ (m : ℕ). half_up size (m * d)) even
 
-pub half-up-spec : {M : Type 1} → statement M
-half-up-spec = tie.close (tie.spec shr-result cast-result add-result div-result returns)
+pub half_up_spec : {M : Type 1} → statement M
+half_up_spec =
+    tie.close
+    (tie.spec
+    shr-result
+    cast-result
+    add-result
+    div-result
+    returns)

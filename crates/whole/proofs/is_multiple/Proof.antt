@@ -18,10 +18,10 @@ use Rattle.whole.proofs.Remainder.{size-nought}
 use Rattle.whole.proofs.is_multiple.Statement.{statement}
 use Rattle.whole.proofs.is_multiple.Tie as tie
 
-cast-result : tie.Need-overflow-cast-result
+cast-result : tie.Need-overflow_cast-result
 cast-result c = search rules
 
-shl-result : tie.Need-overflow-shl-result
+shl-result : tie.Need-overflow_shl-result
 shl-result c = search rules
 
 -- ---- sizes of a quotient and of what is left
@@ -69,7 +69,7 @@ module _ (c : tie.Start) where
   left-fits : SFits w64 left
   left-fits = size_fits w64 left (omega (arith, left-size z e, mod-le (nat_abs z) e, c.requires.0))
 
-rem-result : tie.Need-nonzero-rem-result
+rem-result : tie.Need-nonzero_rem-result
 rem-result c =
     let z = z c in
     let e = e c in
@@ -87,5 +87,11 @@ returns c =
     ∙ ap (λ x. eqb (of_z w64 (rem_z z x)) 0) (power-is c)
     ∙ same_test (of_z w64 left) (nat_abs z % e) (λ h. sym (left-size z e) ∙ ap nat_abs (sym (kept-is w64 left (left-fits c)) ∙ ap (to_z w64) h)) (λ h. ap (of_z w64) (size-nought left (left-size z e ∙ h)))
 
-pub is-multiple-spec : {M : Type 1} → statement M
-is-multiple-spec = tie.close (tie.spec cast-result shl-result rem-result returns)
+pub is_multiple_spec : {M : Type 1} → statement M
+is_multiple_spec =
+    tie.close
+    (tie.spec
+    cast-result
+    shl-result
+    rem-result
+    returns)

@@ -35,35 +35,43 @@ not-below z f e = go z (rw (kept-is w64 z f) at e)
     go (pos n) e = tt
     go (negsuc n) e = absurd (true≢false e)
 
-is_below : (c : tie.Then1) → Below c.before.args.z
-is_below c = below c.before.args.z c.before.ranges.z c.if1.true
+is_below : (c : tie.Then-z-lt0) → Below c.before.args.z
+is_below c = below c.before.args.z c.before.ranges.z c.if-z-lt0.true
 
-sub-result : tie.Need-overflow-sub-result
+sub-result : tie.Need-overflow_sub-result
 sub-result c = rw (kept-is w64 c.before.args.z c.before.ranges.z, (is_below c).rest) (record { sfits = c.before.ranges.z.sfits })
 
 -- what is cast: how far the number lies below -1
-cast : (c : tie.Then1) → kept w64 (negsuc 0 -ℤ kept w64 c.before.args.z) ≡ pos (mag c.before.args.z)
+cast : (c : tie.Then-z-lt0) → kept w64 (negsuc 0 -ℤ kept w64 c.before.args.z) ≡ pos (mag c.before.args.z)
 cast c =
     rw (kept-is w64 c.before.args.z c.before.ranges.z, (is_below c).rest)
     (kept-is w64 (pos (mag c.before.args.z)) (record { sfits = c.before.ranges.z.sfits }))
 
-cast-result : tie.Need-overflow-cast-result
+cast-result : tie.Need-overflow_cast-result
 cast-result c = rw (cast c) (tt, omega (arith, c.before.ranges.z.sfits))
 
-add-result : tie.Need-overflow-add-result
+add-result : tie.Need-overflow_add-result
 add-result c = rw (cast c) (omega (arith, c.before.ranges.z.sfits))
 
-cast-result-2 : tie.Need-overflow-cast-result-2
+cast-result-2 : tie.Need-overflow_cast-result-else-z-lt0
 cast-result-2 c =
     let z = c.before.args.z in
     let h = c.before.ranges.z in
-    rw (kept-is w64 z h) (not-below z h c.if1.false, Fits-nat_abs tt h)
+    rw (kept-is w64 z h) (not-below z h c.if-z-lt0.false, Fits-nat_abs tt h)
 
-returns : tie.Need-returns
+returns : tie.Need-returns-then-z-lt0
 returns c = rw (cast c) (sym (is_below c).size)
 
-returns-2 : tie.Need-returns-2
+returns-2 : tie.Need-returns-else-z-lt0
 returns-2 c = search rules
 
-pub magnitude-spec : {M : Type 1} → statement M
-magnitude-spec = tie.close (tie.spec sub-result cast-result add-result cast-result-2 returns returns-2)
+pub magnitude_spec : {M : Type 1} → statement M
+magnitude_spec =
+    tie.close
+    (tie.spec
+    sub-result
+    cast-result
+    add-result
+    cast-result-2
+    returns
+    returns-2)

@@ -20,19 +20,19 @@ use Rattle.whole.proofs.Lifted.{lift-div}
 use Rattle.whole.proofs.nearest_up.Statement.{statement}
 use Rattle.whole.proofs.nearest_up.Tie as tie
 
-cast-lifted : tie.Need-overflow-cast-lifted
+cast-lifted : tie.Need-overflow_cast-lifted
 cast-lifted c = search rules
 
-shr-lifted : tie.Need-overflow-shr-lifted
+shr-lifted : tie.Need-overflow_shr-lifted
 shr-lifted c = search rules
 
-mul-lifted : tie.Need-overflow-mul-lifted
+mul-lifted : tie.Need-overflow_mul-lifted
 mul-lifted c = search rules
 
-add-lifted : tie.Need-overflow-add-lifted
+add-lifted : tie.Need-overflow_add-lifted
 add-lifted c = search rules
 
-cast-lifted-2 : tie.Need-overflow-cast-lifted-2
+cast-lifted-2 : tie.Need-overflow_cast-lifted-2
 cast-lifted-2 c = search rules
 
 -- ---- how far from zero a shifted sum is
@@ -112,22 +112,22 @@ module _ (c : tie.Start) where
   back_fits : SFits w64 (pos (n / m) -ℤ pos lift)
   back_fits = size_fits w64 (pos (n / m) -ℤ pos lift) (omega (arith, nat_abs-add (pos (n / m)) (neg_ℤ (pos lift)), nat_abs-neg (pos lift), quotient))
 
-add-lifted-2 : tie.Need-overflow-add-lifted-2
+add-lifted-2 : tie.Need-overflow_add-lifted-2
 add-lifted-2 c = subst (SFits w64) (sym (lifted-is c)) (lifted-fits c)
 
-cast-result : tie.Need-overflow-cast-result
+cast-result : tie.Need-overflow_cast-result
 cast-result c = subst (λ x. T (non_neg x) × Fits w32 (nat_abs x)) (sym (lifted-kept c)) (tt, record { fits = held c })
 
-div-result : tie.Need-nonzero-div-result
+div-result : tie.Need-nonzero_div-result
 div-result c = search rules
 
-cast-result-2 : tie.Need-overflow-cast-result-2
+cast-result-2 : tie.Need-overflow_cast-result-2
 cast-result-2 c = subst (λ x. SFits w64 (pos (nat_abs x / m c))) (sym (lifted-kept c)) (size_fits w64 (pos (n c / m c)) (omega (arith, quotient c)))
 
-cast-result-3 : tie.Need-overflow-cast-result-3
+cast-result-3 : tie.Need-overflow_cast-result-3
 cast-result-3 c = search rules
 
-sub-result : tie.Need-overflow-sub-result
+sub-result : tie.Need-overflow_sub-result
 sub-result c =
     subst (λ x. SFits w64 (to_z w64 (nat_abs x / m c) -ℤ pos (2 ^ 23))) (sym (lifted-kept c)) (subst (λ x. SFits w64 (x -ℤ pos (2 ^ 23))) (sym (quotient_is c)) (back_fits c))
 
@@ -138,5 +138,19 @@ returns c =
     ∙ kept-is w64 (pos (n c / m c) -ℤ pos (2 ^ 23)) (back_fits c)
     ∙ back_is c
 
-pub nearest-up-spec : {M : Type 1} → statement M
-nearest-up-spec = tie.close (tie.spec cast-lifted shr-lifted mul-lifted add-lifted cast-lifted-2 add-lifted-2 cast-result div-result cast-result-2 cast-result-3 sub-result returns)
+pub nearest_up_spec : {M : Type 1} → statement M
+nearest_up_spec =
+    tie.close
+    (tie.spec
+    cast-lifted
+    shr-lifted
+    mul-lifted
+    add-lifted
+    cast-lifted-2
+    add-lifted-2
+    cast-result
+    div-result
+    cast-result-2
+    cast-result-3
+    sub-result
+    returns)

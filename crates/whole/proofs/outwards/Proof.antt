@@ -52,30 +52,37 @@ module _ (c : tie.Start) where
   less-fits : SFits w64 (z -ℤ pos 1)
   less-fits = size_fits w64 (z -ℤ pos 1) (omega (arith, nat_abs-add z (neg_ℤ (pos 1)), c.requires.0))
 
-is-multiple-requires : tie.Need-is-multiple-requires
+is-multiple-requires : tie.Need-is_multiple-requires
 is-multiple-requires c κs = let s = c.before in (subst (λ x. nat_abs x < 2 ^ 63) (sym (sum_is s)) (small s), s.requires.1)
 
-sub-result : tie.Need-overflow-sub-result
+sub-result : tie.Need-overflow_sub-result
 sub-result c = let s = c.before.before.before in subst (λ x. SFits w64 (x -ℤ pos 1)) (sym (sum_is s)) (less-fits s)
 
 -- what the callee's answer says of the sum as it was passed
-answer : (c : tie.After-is-multiple) → c.is-multiple.result ≡ multiple_of (e c.before.before) (z c.before.before)
-answer c = let s = c.before.before in c.is-multiple.ensures ∙ ap (multiple_of (e s)) (sum_is s)
+answer : (c : tie.After-is_multiple) → c.is_multiple.result ≡ multiple_of (e c.before.before) (z c.before.before)
+answer c = let s = c.before.before in c.is_multiple.ensures ∙ ap (multiple_of (e s)) (sum_is s)
 
-returns : tie.Need-returns
+returns : tie.Need-returns-then-is_multiple
 returns c =
     let s = c.before.before.before in
     ap (λ x. kept w64 (x -ℤ pos 1)) (sum_is s)
     ∙ kept-is w64 (z s -ℤ pos 1) (less-fits s)
-    ∙ below-multiple (z s) (e s) (sign_kept w64 (z s) (small s) c.before.before.if1.true) (sym (answer c.before) ∙ c.if2.true)
+    ∙ below-multiple (z s) (e s) (sign_kept w64 (z s) (small s) c.before.before.if-sum-lt0.true) (sym (answer c.before) ∙ c.if-is_multiple.true)
 
-returns-2 : tie.Need-returns-2
+returns-2 : tie.Need-returns-else-is_multiple
 returns-2 c =
     let s = c.before.before.before in
-    sum_is s ∙ below_other (z s) (e s) (sign_kept w64 (z s) (small s) c.before.before.if1.true) (sym (answer c.before) ∙ c.if2.false)
+    sum_is s ∙ below_other (z s) (e s) (sign_kept w64 (z s) (small s) c.before.before.if-sum-lt0.true) (sym (answer c.before) ∙ c.if-is_multiple.false)
 
-returns-3 : tie.Need-returns-3
-returns-3 c = let s = c.before in sum_is s ∙ not-below (z s) (e s) (sign_kept w64 (z s) (small s) c.if1.false)
+returns-3 : tie.Need-returns-else-sum-lt0
+returns-3 c = let s = c.before in sum_is s ∙ not-below (z s) (e s) (sign_kept w64 (z s) (small s) c.if-sum-lt0.false)
 
-pub outwards-spec : {M : Type 1} → statement M
-outwards-spec = tie.close (tie.spec is-multiple-requires sub-result returns returns-2 returns-3)
+pub outwards_spec : {M : Type 1} → statement M
+outwards_spec =
+    tie.close
+    (tie.spec
+    is-multiple-requires
+    sub-result
+    returns
+    returns-2
+    returns-3)

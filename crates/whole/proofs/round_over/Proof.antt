@@ -36,13 +36,13 @@ module _ (s : tie.Start) where
 
   -- the divisor is at most 2^38
   divisor-small : d ≤ 2 ^ 38
-  divisor-small = mul-le-mul s.pre.0.few (pow_mono {i = s.args.bits} {j = 30} s.pre.0.shallow)
+  divisor-small = mul-le-mul s.requires.0.few (pow_mono {i = s.args.bits} {j = 30} s.requires.0.shallow)
 
   small : nat_abs z < 2 ^ 62
-  small = lt_of_le_of_lt s.pre.1 (lt_of_le_of_lt (mul-le-mul divisor-small (le_refl farthest)) (lit< tt))
+  small = lt_of_le_of_lt s.requires.1 (lt_of_le_of_lt (mul-le-mul divisor-small (le_refl farthest)) (lit< tt))
 
   some : 0 < d
-  some = mul-pos s.pre.0.some (pow_pos s.args.bits)
+  some = mul-pos s.requires.0.some (pow_pos s.args.bits)
 
 outwards-requires : tie.Need-outwards-requires
 outwards-requires c κs = (subst (λ x. nat_abs x < 2 ^ 62) (sym (kept-is w64 (z c) c.ranges.sum)) (small c), omega (arith, c.requires.0.shallow))
@@ -51,25 +51,25 @@ outwards-requires c κs = (subst (λ x. nat_abs x < 2 ^ 62) (sym (kept-is w64 (z
 moved-is : (c : tie.After-outwards) → kept w64 c.outwards.result ≡ moved (e c.before) (z c.before)
 moved-is c =
     let s = c.before in
-    kept-is w64 c.outwards.result (record { sfits = c.outwards.type-inv }) ∙ c.outwards.ensures ∙ ap (moved (e s)) (kept-is w64 (z s) s.ranges.sum)
+    kept-is w64 c.outwards.result (record { sfits = c.outwards.type_inv }) ∙ c.outwards.ensures ∙ ap (moved (e s)) (kept-is w64 (z s) s.ranges.sum)
 
-nearest-up-requires : tie.Need-nearest-up-requires
+nearest-up-requires : tie.Need-nearest_up-whole-requires
 nearest-up-requires c κs =
     let s = c.before in
     (s.requires.0, subst (λ x. nat_abs x ≤ d s * farthest + 1) (sym (moved-is c)) (omega (arith, moved-size (z s) (e s), s.requires.1)))
 
-cast-divisor : tie.Need-overflow-cast-divisor
+cast-divisor : tie.Need-overflow_cast-divisor
 cast-divisor c = search rules
 
-cast-divisor-2 : tie.Need-overflow-cast-divisor-2
+cast-divisor-2 : tie.Need-overflow_cast-divisor-2
 cast-divisor-2 c = search rules
 
-shl-divisor : tie.Need-overflow-shl-divisor
+shl-divisor : tie.Need-overflow_shl-divisor
 shl-divisor c = search rules
 
 -- ---- the number, and what is left over
 
-module _ (c : tie.After-nearest-up) where
+module _ (c : tie.After-nearest_up-whole) where
   abbrev start : tie.Start
   start = c.before.before
 
@@ -85,33 +85,33 @@ module _ (c : tie.After-nearest-up) where
       let held : over < 2 ^ 64 = omega arith in
       ap (to_z w64) (mod-eq_of_lt held) ∙ to_z_pos w64 over small
 
-  whole_is : kept w64 c.nearest-up.result ≡ nearest sum over
+  whole_is : kept w64 c.nearest_up-whole.result ≡ nearest sum over
   whole_is =
-      kept-is w64 c.nearest-up.result (record { sfits = c.nearest-up.type-inv })
-      ∙ c.nearest-up.ensures
+      kept-is w64 c.nearest_up-whole.result (record { sfits = c.nearest_up-whole.type_inv })
+      ∙ c.nearest_up-whole.ensures
       ∙ ap (half_to_greater (m start) (e start)) (moved-is c.before)
-      ∙ moved-nearest sum (m start) (e start) start.pre.0.some start.pre.0.even (pow_pos start.args.bits)
+      ∙ moved-nearest sum (m start) (e start) start.requires.0.some start.requires.0.even (pow_pos start.args.bits)
 
-  product_is : to_z w64 (over % 2 ^ 64) *ℤ kept w64 c.nearest-up.result ≡ pos over *ℤ nearest sum over
+  product_is : to_z w64 (over % 2 ^ 64) *ℤ kept w64 c.nearest_up-whole.result ≡ pos over *ℤ nearest sum over
   product_is = λ i. divisor-is i *ℤ whole_is i
 
   product-fits : SFits w64 (pos over *ℤ nearest sum over)
   product-fits = size_fits w64 (pos over *ℤ nearest sum over) (omega (arith, product-size sum over, small start, divisor-small start))
 
-  product-kept : kept w64 (to_z w64 (over % 2 ^ 64) *ℤ kept w64 c.nearest-up.result) ≡ pos over *ℤ nearest sum over
+  product-kept : kept w64 (to_z w64 (over % 2 ^ 64) *ℤ kept w64 c.nearest_up-whole.result) ≡ pos over *ℤ nearest sum over
   product-kept = ap (kept w64) product_is ∙ kept-is w64 (pos over *ℤ nearest sum over) product-fits
 
-  left_is : kept w64 sum -ℤ kept w64 (to_z w64 (over % 2 ^ 64) *ℤ kept w64 c.nearest-up.result) ≡ remainder sum over
+  left_is : kept w64 sum -ℤ kept w64 (to_z w64 (over % 2 ^ 64) *ℤ kept w64 c.nearest_up-whole.result) ≡ remainder sum over
   unfolding remainder
-  left_is = λ i. kept-is w64 sum start.fits.sum i -ℤ product-kept i
+  left_is = λ i. kept-is w64 sum start.ranges.sum i -ℤ product-kept i
 
   left-fits : SFits w64 (remainder sum over)
   left-fits = size_fits w64 (remainder sum over) (omega (arith, remainder-close sum over (some start), divisor-small start))
 
-mul-t6 : tie.Need-overflow-mul-t6
+mul-t6 : tie.Need-overflow_mul-result
 mul-t6 c = subst (SFits w64) (sym (product_is c)) (product-fits c)
 
-sub-t7 : tie.Need-overflow-sub-t7
+sub-t7 : tie.Need-overflow_sub-result
 sub-t7 c = subst (SFits w64) (sym (left_is c)) (left-fits c)
 
 returns : tie.Need-returns
@@ -119,5 +119,15 @@ returns c =
     let left = ap (kept w64) (left_is c) ∙ kept-is w64 (remainder (sum c) (over c)) (left-fits c) in
     λ i. record { whole = whole_is c i; remainder = left i }
 
-pub round-over-spec : {M : Type 1} → statement M
-round-over-spec = tie.close (tie.spec outwards-requires nearest-up-requires cast-divisor cast-divisor-2 shl-divisor mul-t6 sub-t7 returns)
+pub round_over_spec : {M : Type 1} → statement M
+round_over_spec =
+    tie.close
+    (tie.spec
+    outwards-requires
+    nearest-up-requires
+    cast-divisor
+    cast-divisor-2
+    shl-divisor
+    mul-t6
+    sub-t7
+    returns)
