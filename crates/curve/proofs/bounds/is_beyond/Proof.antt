@@ -39,13 +39,13 @@ minus-fits (negsuc n) t f = absurd t
 test : (n z : ℤ) → SFits w32 n → SFits w32 z → {b : Bool} → lt_z (kept w32 n) (kept w32 z) ≡ b → lt_z n z ≡ b
 test n z f g e = ap (lt_z n) (sym (kept-is w32 z g)) ∙ ap (λ x. lt_z x (kept w32 z)) (sym (kept-is w32 n f)) ∙ e
 
-returns : tie.Need-returns
-returns c = let s = c.before in sym (above s.args.most s.args.z s.requires (test s.args.most s.args.z s.ranges.most s.ranges.z c.if1.true))
+returns : tie.Need-returns-then-most-z
+returns c = let s = c.before in sym (above s.args.most s.args.z s.requires (test s.args.most s.args.z s.ranges.most s.ranges.z c.if-most-z.true))
 
-sub-result : tie.Need-overflow-sub-result
+sub-result : tie.Need-overflow_sub-result
 sub-result c = let s = c.before in subst (λ x. SFits w32 (pos 0 -ℤ x)) (sym (kept-is w32 s.args.most s.ranges.most)) (minus-fits s.args.most s.requires s.ranges.most)
 
-returns-2 : tie.Need-returns-2
+returns-2 : tie.Need-returns
 returns-2 c =
     let s = c.before in
     let n = s.args.most in
@@ -53,7 +53,12 @@ returns-2 c =
     ap (λ x. lt_z x (kept w32 (pos 0 -ℤ kept w32 n))) (kept-is w32 z s.ranges.z)
     ∙ ap (λ x. lt_z z (kept w32 (pos 0 -ℤ x))) (kept-is w32 n s.ranges.most)
     ∙ ap (lt_z z) (kept-is w32 (pos 0 -ℤ n) (minus-fits n s.requires s.ranges.most) ∙ +ℤ_idl (neg_ℤ n))
-    ∙ under n z s.requires (test n z s.ranges.most s.ranges.z c.if1.false)
+    ∙ under n z s.requires (test n z s.ranges.most s.ranges.z c.if-most-z.false)
 
-pub is-beyond-spec : {M : Type 1} → statement M
-is-beyond-spec = tie.close (tie.spec returns sub-result returns-2)
+pub is_beyond_spec : {M : Type 1} → statement M
+is_beyond_spec =
+    tie.close
+    (tie.spec
+    returns
+    sub-result
+    returns-2)

@@ -13,27 +13,34 @@ use Rattle.curve.proofs.Machine.{numbers, bounds, asked, worked}
 use Rattle.curve.proofs.records.bezier_controls.Statement.{statement}
 use Rattle.curve.proofs.records.bezier_controls.Tie as tie
 
-fits : (c : tie.After-struct-told4) (e : Ex) → T (safe w64 (bounds limit 0) e) → Need w64 (numbers c.before.before.before.before.args.p (pos 0)) e
-fits c = asked limit 0 c.before.before.before.before.args.p c.before.before.before.before.requires (pos 0) (le_refl 0)
+fits : (c : tie.After-struct_told-4-1) (e : Ex) → T (safe w64 (bounds limit 0) e) → Need w64 (numbers c.args.p (pos 0)) e
+fits c = asked limit 0 c.args.p c.requires (pos 0) (le_refl 0)
 
-is : (c : tie.After-struct-told4) (e : Ex) → T (safe w64 (bounds limit 0) e) → raw w64 (numbers c.before.before.before.before.args.p (pos 0)) e ≡ ev (numbers c.before.before.before.before.args.p (pos 0)) e
-is c = worked limit 0 c.before.before.before.before.args.p c.before.before.before.before.requires (pos 0) (le_refl 0)
+is : (c : tie.After-struct_told-4-1) (e : Ex) → T (safe w64 (bounds limit 0) e) → raw w64 (numbers c.args.p (pos 0)) e ≡ ev (numbers c.args.p (pos 0)) e
+is c = worked limit 0 c.args.p c.requires (pos 0) (le_refl 0)
 
-mul-t6 : tie.Need-overflow-mul-t6
+mul-t6 : tie.Need-overflow_mul-result
 mul-t6 c = fits c (num 6 ⊗ p.a) tt
 
-mul-t7 : tie.Need-overflow-mul-t7
+mul-t7 : tie.Need-overflow_mul-result-2
 mul-t7 c = fits c (num 6 ⊗ p.b) tt
 
-mul-t8 : tie.Need-overflow-mul-t8
+mul-t8 : tie.Need-overflow_mul-result-3
 mul-t8 c = fits c (num 6 ⊗ p.c) tt
 
-mul-t9 : tie.Need-overflow-mul-t9
+mul-t9 : tie.Need-overflow_mul-result-4
 mul-t9 c = fits c (num 6 ⊗ p.d) tt
 
 returns : tie.Need-returns
 unfolding whole_controls
 returns c = λ k. record { a = is c (num 6 ⊗ p.a) tt k; b = is c (num 6 ⊗ p.b) tt k; c = is c (num 6 ⊗ p.c) tt k; d = is c (num 6 ⊗ p.d) tt k }
 
-pub bezier-controls-spec : {M : Type 1} → statement M
-bezier-controls-spec = tie.close (tie.spec mul-t6 mul-t7 mul-t8 mul-t9 returns)
+pub bezier_controls_spec : {M : Type 1} → statement M
+bezier_controls_spec =
+    tie.close
+    (tie.spec
+    mul-t6
+    mul-t7
+    mul-t8
+    mul-t9
+    returns)

@@ -11,34 +11,41 @@ use Rattle.curve.specs.Span.{coordinate}
 use Rattle.curve.proofs.records.coordinate_of.Statement.{statement}
 use Rattle.curve.proofs.records.coordinate_of.Tie as tie
 
-record-at-requires : tie.Need-record-at-requires
+record-at-requires : tie.Need-record_at-requires
 record-at-requires c κs = search rules
 
-mul-result : tie.Need-overflow-mul-result
-mul-result c = omega (arith, c.record-at.ensures, c.before.requires.1)
+mul-result : tie.Need-overflow_mul-result
+mul-result c = omega (arith, c.record_at.ensures, c.requires.1)
 
-add-result : tie.Need-overflow-add-result
-add-result c = omega (arith, c.record-at.ensures, c.before.requires.1)
+add-result : tie.Need-overflow_add-result
+add-result c = omega (arith, c.record_at.ensures, c.requires.1)
 
-mul-result-2 : tie.Need-overflow-mul-result-2
-mul-result-2 c = omega (arith, c.record-at.ensures, c.before.requires.1)
+mul-result-2 : tie.Need-offset_bounds-controls-record_at
+mul-result-2 c = omega (arith, c.record_at.ensures, c.requires.1)
 
-shared-slice-copy-out-result : tie.Need-shared-slice-copy-out-result
-shared-slice-copy-out-result c = omega (arith, c.record-at.ensures, c.before.requires.1)
+shared-slice-copy-out-result : tie.Need-bounds-controls-record_at
+shared-slice-copy-out-result c = omega (arith, c.record_at.ensures, c.requires.1)
 
-cast-result : tie.Need-overflow-cast-result
-cast-result c = let a = c.before.before.args in widened-fits (get_or a.controls.now (2 * c.before.record-at.result + a.axis) (pos 0)) (record { sfits = c.result.given })
+cast-result : tie.Need-overflow_cast-result
+cast-result c = let a = c.args in widened-fits (get_or a.controls.now (2 * c.record_at.result + a.axis) (pos 0)) (record { sfits = c.result-1.given })
 
 returns : tie.Need-returns
 unfolding coordinate
 returns c =
-    let a = c.before.before.args in
+    let a = c.args in
     let l = a.controls.now in
-    let z = get_or l (2 * c.before.record-at.result + a.axis) (pos 0) in
-    let is = widened z (record { sfits = c.result.given }) in
-    (is ∙ ap (λ (r : ℕ). get_or l (2 * r + a.axis) (pos 0)) c.before.record-at.ensures, subst (λ w. nat_abs w ≤ 2 ^ 31) (sym is) (nat_abs-le z c.result.given))
+    let z = get_or l (2 * c.record_at.result + a.axis) (pos 0) in
+    let is = widened z (record { sfits = c.result-1.given }) in
+    (is ∙ ap (λ (r : ℕ). get_or l (2 * r + a.axis) (pos 0)) c.record_at.ensures, subst (λ w. nat_abs w ≤ 2 ^ 31) (sym is) (nat_abs-le z c.result-1.given))
 
-pub coordinate-of-spec : {M : Type 1} → statement M
-coordinate-of-spec =
+pub coordinate_of_spec : {M : Type 1} → statement M
+coordinate_of_spec =
     tie.close
-    (tie.spec record-at-requires mul-result add-result mul-result-2 shared-slice-copy-out-result cast-result returns)
+    (tie.spec
+    record-at-requires
+    mul-result
+    add-result
+    mul-result-2
+    shared-slice-copy-out-result
+    cast-result
+    returns)

@@ -9,18 +9,23 @@ use Rattle.curve.proofs.Stride.{stride-bounds}
 use Rattle.curve.proofs.records.first_record.Statement.{statement}
 use Rattle.curve.proofs.records.first_record.Tie as tie
 
-stride-of-requires : tie.Need-stride-of-requires
+stride-of-requires : tie.Need-stride_of-requires
 stride-of-requires c κs = search rules
 
-mul-result : tie.Need-overflow-mul-result
+mul-result : tie.Need-overflow_mul-result
 mul-result c =
-    let a = c.before.args in
-    let few = c.stride-of.ensures in
-    omega (arith, mul-le-mul_right {m = c.stride-of.result} {n = 3} a.span (omega (arith, few, (stride-bounds a.basis).1)))
+    let a = c.args in
+    let few = c.stride_of.ensures in
+    omega (arith, mul-le-mul_right {m = c.stride_of.result} {n = 3} a.span (omega (arith, few, (stride-bounds a.basis).1)))
 
 returns : tie.Need-returns
 unfolding first_record
-returns c = ap (λ (d : ℕ). d * c.before.args.span) c.stride-of.ensures
+returns c = ap (λ (d : ℕ). d * c.args.span) c.stride_of.ensures
 
-pub first-record-spec : {M : Type 1} → statement M
-first-record-spec = tie.close (tie.spec stride-of-requires mul-result returns)
+pub first_record_spec : {M : Type 1} → statement M
+first_record_spec =
+    tie.close
+    (tie.spec
+    stride-of-requires
+    mul-result
+    returns)

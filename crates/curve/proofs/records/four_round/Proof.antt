@@ -12,28 +12,28 @@ use Rattle.curve.specs.Span.{record_at, records_from}
 use Rattle.curve.proofs.records.four_round.Statement.{statement}
 use Rattle.curve.proofs.records.four_round.Tie as tie
 
-coordinate-of-requires : tie.Need-coordinate-of-requires
+coordinate-of-requires : tie.Need-coordinate_of-requires
 coordinate-of-requires c κs =
     let a = c.args in
     (c.requires.1, subst (λ (n : ℕ). 2 * record_at a.basis n + 2 ≤ length a.controls.now) (add-zero a.first) (c.requires.2 0 (lit< tt)))
 
-add-coordinate-of : tie.Need-overflow-add-coordinate-of
-add-coordinate-of c = omega (arith, c.before.requires.0)
+add-coordinate-of : tie.Need-overflow_add-first
+add-coordinate-of c = omega (arith, c.requires.0)
 
-coordinate-of-requires-2 : tie.Need-coordinate-of-requires-2
-coordinate-of-requires-2 c κs = (c.before.requires.1, c.before.requires.2 1 (lit< tt))
+coordinate-of-requires-2 : tie.Need-coordinate_of-requires-2
+coordinate-of-requires-2 c κs = (c.requires.1, c.requires.2 1 (lit< tt))
 
-add-coordinate-of-2 : tie.Need-overflow-add-coordinate-of-2
-add-coordinate-of-2 c = omega (arith, c.before.before.requires.0)
+add-coordinate-of-2 : tie.Need-overflow_add-first-2
+add-coordinate-of-2 c = omega (arith, c.requires.0)
 
-coordinate-of-requires-3 : tie.Need-coordinate-of-requires-3
-coordinate-of-requires-3 c κs = (c.before.before.requires.1, c.before.before.requires.2 2 (lit< tt))
+coordinate-of-requires-3 : tie.Need-coordinate_of-requires-3
+coordinate-of-requires-3 c κs = (c.requires.1, c.requires.2 2 (lit< tt))
 
-add-coordinate-of-3 : tie.Need-overflow-add-coordinate-of-3
-add-coordinate-of-3 c = omega (arith, c.before.before.before.requires.0)
+add-coordinate-of-3 : tie.Need-overflow_add-first-3
+add-coordinate-of-3 c = omega (arith, c.requires.0)
 
-coordinate-of-requires-4 : tie.Need-coordinate-of-requires-4
-coordinate-of-requires-4 c κs = (c.before.before.before.requires.1, c.before.before.before.requires.2 3 (lit< tt))
+coordinate-of-requires-4 : tie.Need-coordinate_of-requires-4
+coordinate-of-requires-4 c κs = (c.requires.1, c.requires.2 3 (lit< tt))
 
 -- a coordinate as the machine keeps it
 same : {z w : ℤ} → (z ≡ w) × (nat_abs z ≤ 2 ^ 31) → kept w64 z ≡ w
@@ -44,14 +44,14 @@ unfolding records_from
 returns c =
     λ k.
     record {
-      a = same c.before.before.before.coordinate-of.ensures k;
-      b = same c.before.before.coordinate-of2.ensures k;
-      c = same c.before.coordinate-of3.ensures k;
-      d = same c.coordinate-of4.ensures k;
+      a = same c.coordinate_of.ensures k;
+      b = same c.coordinate_of-2.ensures k;
+      c = same c.coordinate_of-3.ensures k;
+      d = same c.coordinate_of-4.ensures k;
     }
 
-pub four-round-spec : {M : Type 1} → statement M
-four-round-spec =
+pub four_round_spec : {M : Type 1} → statement M
+four_round_spec =
     tie.close
     (tie.spec
     coordinate-of-requires

@@ -7,13 +7,17 @@ use Rattle.curve.specs.Span.{round_end}
 use Rattle.curve.proofs.records.round_end.Statement.{statement}
 use Rattle.curve.proofs.records.round_end.Tie as tie
 
-returns : tie.Need-returns
+returns : tie.Need-returns-then-number-count
 unfolding round_end
-returns c = let a = c.before.args in sym (ap (λ t. cond t a.number (a.number - a.count)) (lt-ltb a.number a.count c.if1.true))
+returns c = let a = c.args in sym (ap (λ t. cond t a.number (a.number - a.count)) (lt-ltb a.number a.count c.if-number-count.true))
 
-returns-2 : tie.Need-returns-2
+returns-2 : tie.Need-returns
 unfolding round_end
-returns-2 c = let a = c.before.args in sym (ap (λ t. cond t a.number (a.number - a.count)) (le-ltb a.number a.count c.if1.false))
+returns-2 c = let a = c.args in sym (ap (λ t. cond t a.number (a.number - a.count)) (le-ltb a.number a.count c.if-number-count.false))
 
-pub round-end-spec : {M : Type 1} → statement M
-round-end-spec = tie.close (tie.spec returns returns-2)
+pub round_end_spec : {M : Type 1} → statement M
+round_end_spec =
+    tie.close
+    (tie.spec
+    returns
+    returns-2)

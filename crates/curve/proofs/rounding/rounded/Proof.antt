@@ -13,7 +13,7 @@ use Rattle.curve.specs.Inner.{divisor_of}
 use Rattle.curve.proofs.rounding.rounded.Statement.{statement}
 use Rattle.curve.proofs.rounding.rounded.Tie as tie
 
-round-over-requires : tie.Need-round-over-requires
+round-over-requires : tie.Need-round_over-requires
 round-over-requires c κs =
     let d = divisor_of c.args.bits in (
       record { some = lit< tt; even = refl; few = lit≤ tt; shallow = omega (arith, c.requires.0) },
@@ -21,7 +21,11 @@ round-over-requires c κs =
     )
 
 returns : tie.Need-returns
-returns c = c.round-over.ensures ∙ ap (λ z. rounding z (divisor_of c.before.args.bits)) (kept-is w64 c.before.args.sum c.before.ranges.sum)
+returns c = c.round_over.ensures ∙ ap (λ z. rounding z (divisor_of c.args.bits)) (kept-is w64 c.args.sum c.ranges.sum)
 
-pub rounded-spec : {M : Type 1} → statement M
-rounded-spec = tie.close (tie.spec round-over-requires returns)
+pub rounded_spec : {M : Type 1} → statement M
+rounded_spec =
+    tie.close
+    (tie.spec
+    round-over-requires
+    returns)

@@ -10,20 +10,26 @@ use Rattle.curve.proofs.Tab.{length-tab}
 use Rattle.curve.proofs.weights.weight.Statement.{statement}
 use Rattle.curve.proofs.weights.weight.Tie as tie
 
-mul-result : tie.Need-overflow-mul-result
+mul-result : tie.Need-offset_bounds-table-entry
 mul-result c = search rules
 
-shared-slice-copy-out-result : tie.Need-shared-slice-copy-out-result
+shared-slice-copy-out-result : tie.Need-bounds-table-entry
 unfolding weight_table
 shared-slice-copy-out-result c = omega (arith, ap length c.requires.0 ∙ length-tab table_entry 0 table_size)
 
-cast-result : tie.Need-overflow-cast-result
-cast-result c = let a = c.before.args in widened-fits (get_or a.table.now a.entry (pos 0)) (record { sfits = c.result.given })
+cast-result : tie.Need-overflow_cast-result
+cast-result c = let a = c.args in widened-fits (get_or a.table.now a.entry (pos 0)) (record { sfits = c.result-1.given })
 
 returns : tie.Need-returns
 returns c =
-    let a = c.before.args in
-    widened (get_or a.table.now a.entry (pos 0)) (record { sfits = c.result.given }) ∙ ap (λ l. get_or l a.entry (pos 0)) c.before.requires.0
+    let a = c.args in
+    widened (get_or a.table.now a.entry (pos 0)) (record { sfits = c.result-1.given }) ∙ ap (λ l. get_or l a.entry (pos 0)) c.requires.0
 
-pub weight-spec : {M : Type 1} → statement M
-weight-spec = tie.close (tie.spec mul-result shared-slice-copy-out-result cast-result returns)
+pub weight_spec : {M : Type 1} → statement M
+weight_spec =
+    tie.close
+    (tie.spec
+    mul-result
+    shared-slice-copy-out-result
+    cast-result
+    returns)

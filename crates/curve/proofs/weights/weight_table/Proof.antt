@@ -10,5 +10,8 @@ returns : tie.Need-returns
 unfolding weight_table tab table_entry nth weights
 returns c = refl
 
-pub weight-table-spec : {M : Type 1} → statement M
-weight-table-spec = tie.close (tie.spec returns)
+pub weight_table_spec : {M : Type 1} → statement M
+weight_table_spec =
+    tie.close
+    (tie.spec
+    returns)
