@@ -7,14 +7,14 @@ pub mod carrying;
 pub mod counts;
 
 // The spans that an edit works afresh: the first of them, going round in a loop, and how many.
-#[derive(Drop)]
+#[derive(Clone, Copy)]
 pub struct Run {
     pub first: usize,
     pub count: usize,
 }
 
 // What an edit does at its place: a new record there, a new one before it, or the record taken out.
-#[derive(Drop)]
+#[derive(Clone, Copy)]
 pub enum Edit {
     Move(i32, i32),
     Insert(i32, i32),

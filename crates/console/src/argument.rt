@@ -4,7 +4,7 @@ ghost use Rattle.listing.specs.Decimal.{worth_after};
 ghost use Rattle.console.specs.Argument.{is_digit, all_digits, held, number_of};
 
 // What a text is where a natural number is asked for.
-#[derive(Drop)]
+#[derive(Clone, Copy)]
 pub enum Number {
     // This number, or the greatest that a usize holds where it is past that.
     Is(usize),

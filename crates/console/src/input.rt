@@ -4,7 +4,7 @@ ghost use Rattle.console.specs.Input.{Taken};
 use libc::{EINTR, STDIN_FILENO};
 
 // What reading came to: so many bytes at the start of the list, or a read that failed.
-#[derive(Drop)]
+#[derive(Clone, Copy)]
 pub enum Input {
     Bytes(usize),
     Failed,

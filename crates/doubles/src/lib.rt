@@ -13,14 +13,14 @@ use curve::LIMIT;
 use whole::half_up;
 
 // A point of the preview: a pair of doubles, in micrometres.
-#[derive(Drop)]
+#[derive(Clone, Copy)]
 pub struct Pair {
     pub x: f64,
     pub y: f64,
 }
 
 // What a drawing number means: a coordinate, or the reason why it is none.
-#[derive(Drop)]
+#[derive(Clone, Copy)]
 pub enum Measure {
     NotFinite,
     Outside,

@@ -19,14 +19,14 @@ use numbers::control_of;
 use shape::{Checked, MOST_RECORDS, Refusal, first_outside};
 
 // A control: a record of the lent list, in micrometres.
-#[derive(Drop)]
+#[derive(Clone, Copy)]
 pub struct Control {
     pub x: i32,
     pub y: i32,
 }
 
 // The drawing state: how many records there are, the first and the last of them, and whether the drawing is closed.
-#[derive(Drop)]
+#[derive(Clone, Copy)]
 pub struct State {
     pub count: usize,
     pub start: Control,
@@ -35,7 +35,7 @@ pub struct State {
 }
 
 // The four kinds of step, with their numbers in millimetres.
-#[derive(Drop)]
+#[derive(Clone, Copy)]
 pub enum Step {
     Move(f64, f64),
     Line(f64, f64),
@@ -44,21 +44,21 @@ pub enum Step {
 }
 
 // What a step answers: the next state, or the refusal.
-#[derive(Drop)]
+#[derive(Clone, Copy)]
 pub enum Stepped {
     Next(State),
     Refused(Refusal),
 }
 
 // What a number of a step is (rows 10, 11).
-#[derive(Drop)]
+#[derive(Clone, Copy)]
 enum Numbered {
     Good(i32),
     Wrong(Refusal),
 }
 
 // What two numbers of a step are (rows 10, 11).
-#[derive(Drop)]
+#[derive(Clone, Copy)]
 enum Placed {
     At(Control),
     Amiss(Refusal),

@@ -21,7 +21,7 @@ use shape::{Judged, Plan, Refusal, Shape};
 use working::work;
 
 // What an accepted edit answers: the new shape, the first span worked afresh, how many, and how many coordinates of their points are exact. Kept and carried points are not counted.
-#[derive(Drop)]
+#[derive(Clone, Copy)]
 pub struct Change {
     pub shape: Shape,
     pub first: usize,
@@ -29,7 +29,7 @@ pub struct Change {
     pub exact: usize,
 }
 
-#[derive(Drop)]
+#[derive(Clone, Copy)]
 pub enum Edited {
     Done(Change),
     Refused(Refusal),

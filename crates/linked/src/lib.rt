@@ -24,7 +24,7 @@ use tolerance::{Chosen, by_tolerance};
 
 // The answer of a drawing: how many points stand in the list now, and how many of their coordinates are exact.
 #[repr(C)]
-#[derive(Drop)]
+#[derive(Clone, Copy)]
 pub struct Drawing {
     pub number: usize,
     pub place: usize,
@@ -34,7 +34,7 @@ pub struct Drawing {
 
 // The answer of a drawing by tolerance: how many points stand in the list now, how many cuts chose them, and how many of their coordinates are exact.
 #[repr(C)]
-#[derive(Drop)]
+#[derive(Clone, Copy)]
 pub struct Choosing {
     pub number: usize,
     pub place: usize,
@@ -45,7 +45,7 @@ pub struct Choosing {
 
 // The answer of an edit: the count of the new shape, whose other three numbers are those that were passed; the first span worked afresh, how many, and how many coordinates of their points are exact.
 #[repr(C)]
-#[derive(Drop)]
+#[derive(Clone, Copy)]
 pub struct Editing {
     pub number: usize,
     pub place: usize,
@@ -57,7 +57,7 @@ pub struct Editing {
 
 // The answer of a preview: how many points stand in the list of doubles now.
 #[repr(C)]
-#[derive(Drop)]
+#[derive(Clone, Copy)]
 pub struct Previewing {
     pub number: usize,
     pub place: usize,

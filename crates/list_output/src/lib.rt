@@ -13,14 +13,14 @@ use file_list::{MOST_PART, list_part, parts_of};
 use record_file::{MOST_CONTROLS, Reading, read};
 
 // How writing a listing ended: all of it was handed on, so many characters; or a write failed.
-#[derive(Drop)]
+#[derive(Clone, Copy)]
 pub enum Written {
     All(usize),
     Failed,
 }
 
 // What a file was read as, and how writing its listing ended.
-#[derive(Drop)]
+#[derive(Clone, Copy)]
 pub struct Listed {
     pub reading: Reading,
     pub written: Written,

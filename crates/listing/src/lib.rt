@@ -19,7 +19,7 @@ pub use refusal::list_refusal;
 pub use word::put_word;
 
 // What a call that writes answers.
-#[derive(Drop)]
+#[derive(Clone, Copy)]
 pub enum Put {
     // The text stands there, and this is the place just past it.
     End(usize),

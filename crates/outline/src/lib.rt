@@ -11,14 +11,14 @@ use shape::{Checked, Judged, Plan, Refusal, Shape, check_lists, check_shape};
 use spans::run::{Way, fill_spans};
 
 // How many points stand in the list now, and how many of their coordinates are exact: the curve itself is there at a whole number. x and y are counted each by itself.
-#[derive(Drop)]
+#[derive(Clone, Copy)]
 pub struct Figures {
     pub points: usize,
     pub exact: usize,
 }
 
 // What a drawing call answers: its figures, or the refusal.
-#[derive(Drop)]
+#[derive(Clone, Copy)]
 pub enum Drawn {
     Done(Figures),
     Refused(Refusal),

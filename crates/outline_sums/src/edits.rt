@@ -10,7 +10,7 @@ use shape::{Judged, Shape, check_shape};
 pub(crate) type Controls = [i32; 14];
 
 // The outline before an edit.
-#[derive(Drop)]
+#[derive(Clone, Copy)]
 pub(crate) struct Before {
     pub shape: Shape,
     pub controls: Controls,

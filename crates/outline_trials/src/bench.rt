@@ -4,7 +4,7 @@ use drawing::State;
 use shape::Shape;
 
 // What a trials file works on, beside the lists: the shape, the drawing state, and how much of each list and of the file is lent.
-#[derive(Drop)]
+#[derive(Clone, Copy)]
 pub(crate) struct Bench {
     pub shape: Shape,
     pub state: State,
@@ -15,7 +15,7 @@ pub(crate) struct Bench {
 }
 
 // What playing a record comes to: the bench afterwards, that the record is bad, or that the run has ended: with the input, or at a read or a write that failed.
-#[derive(Drop)]
+#[derive(Clone, Copy)]
 pub(crate) enum Turn {
     Next(Bench),
     Bad,

@@ -50,7 +50,7 @@ fn least(a: usize, b: usize) -> usize
 }
 
 // What a record works on: the lists' lengths, the bench alone, the lent controls and points, or the rest.
-#[derive(Drop)]
+#[derive(Clone, Copy)]
 enum Work {
     Lists,
     Bench,

@@ -6,7 +6,7 @@ ghost use Rattle.std.specs.Float.Ieee.{nan_bits};
 use drawing::{Control, Step};
 
 // An operation and six numbers, each kept as the 64 bits that stand in the file.
-#[derive(Drop)]
+#[derive(Clone, Copy)]
 pub(crate) struct Record {
     pub op: u8,
     pub a: u64,
@@ -18,14 +18,14 @@ pub(crate) struct Record {
 }
 
 // A number where a coordinate goes.
-#[derive(Drop)]
+#[derive(Clone, Copy)]
 pub(crate) enum Number {
     Fits(i32),
     Outside,
 }
 
 // Two numbers where a record's coordinates go.
-#[derive(Drop)]
+#[derive(Clone, Copy)]
 pub(crate) enum Placed {
     At(Control),
     Outside,

@@ -13,7 +13,7 @@ pub const FINEST: usize = 6;
 pub const MOST_TOLERANCE: usize = 10_000;
 
 // How a walk ended: all its pieces were met, with so many cuts made by then; at a piece at the finest level that is not flat; or at a cut past the caller's most.
-#[derive(Drop)]
+#[derive(Clone, Copy)]
 pub enum Walked {
     Cuts(usize),
     TooDeep,
@@ -21,7 +21,7 @@ pub enum Walked {
 }
 
 // How far a list is filled: the place of the next number, and how many of those before it are exact.
-#[derive(Drop)]
+#[derive(Clone, Copy)]
 pub struct Filled {
     pub next: usize,
     pub exact: usize,

@@ -18,7 +18,7 @@ use doubles::{Pair, double_of, midpoint_pair};
 use shape::{Checked, Judged, Plan, Refusal, Shape, check_lists, check_shape};
 
 // What a preview answers: how many points were drawn, or the refusal.
-#[derive(Drop)]
+#[derive(Clone, Copy)]
 pub enum Previewed {
     Drawn(usize),
     Refused(Refusal),

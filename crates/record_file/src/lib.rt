@@ -12,7 +12,7 @@ ghost use Rattle.record_file.specs.Rows.{reading, zeros_row, alike_row, fault, r
 use shape::{Checked, Judged, MOST_RECORDS, Refusal, Shape, check_shape, first_outside};
 
 // What reading a file answers: the shape that its records give, or the refusal.
-#[derive(Drop)]
+#[derive(Clone, Copy)]
 pub enum Reading {
     Read(Shape),
     Refused(Refusal),

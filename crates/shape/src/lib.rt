@@ -11,7 +11,7 @@ use curve::records::{first_record, is_loop, stride_of};
 use curve::{Basis, DEEPEST, LIMIT, MOST_PARAMETER};
 
 // A shape as a caller passes it: basis, depth, control count and parameter, right or wrong. The parameter is looked at for basis 3 alone, and is handed on as it came.
-#[derive(Drop)]
+#[derive(Clone, Copy)]
 pub struct Shape {
     pub basis: usize,
     pub depth: usize,
@@ -20,7 +20,7 @@ pub struct Shape {
 }
 
 // A shape that was found sound: its basis, its depth and its spans.
-#[derive(Drop)]
+#[derive(Clone, Copy)]
 pub struct Plan {
     pub basis: Basis,
     pub depth: usize,
@@ -28,21 +28,21 @@ pub struct Plan {
 }
 
 // A refusal of document 01: its number, and the place.
-#[derive(Drop)]
+#[derive(Clone, Copy)]
 pub struct Refusal {
     pub number: usize,
     pub place: usize,
 }
 
 // What the checks of a shape find (rows 1, 2, 24, 3).
-#[derive(Drop)]
+#[derive(Clone, Copy)]
 pub enum Judged {
     Sound(Plan),
     Unsound(Refusal),
 }
 
 // What a check finds: nothing that is wrong, or the refusal.
-#[derive(Drop)]
+#[derive(Clone, Copy)]
 pub enum Checked {
     Fine,
     Bad(Refusal),

@@ -19,7 +19,7 @@ use curve::weights::weight_table;
 use shape::Plan;
 
 // The three ways of document 01.
-#[derive(Drop)]
+#[derive(Clone, Copy)]
 pub enum Way {
     Weights,
     Halving,

@@ -15,7 +15,7 @@ use shape::{Checked, Judged, Plan, Refusal, Shape, check_controls, check_shape};
 use spanwise::{count_all, fill_all};
 
 // How many points stand in the list now, how many cuts chose them, and how many of their coordinates are exact.
-#[derive(Drop)]
+#[derive(Clone, Copy)]
 pub struct Steps {
     pub points: usize,
     pub cuts: usize,
@@ -23,7 +23,7 @@ pub struct Steps {
 }
 
 // What the call answers: its figures, or the refusal.
-#[derive(Drop)]
+#[derive(Clone, Copy)]
 pub enum Chosen {
     Done(Steps),
     Refused(Refusal),

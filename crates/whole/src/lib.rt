@@ -22,7 +22,7 @@ pub fn magnitude(z: i64) -> u64
 }
 
 // A fraction rounded once: the whole number, and what is left over, the exact value less that number, over the same divisor.
-#[derive(Drop)]
+#[derive(Clone, Copy)]
 pub struct Rounding {
     pub whole: i64,
     pub remainder: i64,
