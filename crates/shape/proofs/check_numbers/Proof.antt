@@ -28,46 +28,54 @@ passed s h = sym (judge-none (number_rows s) Bad Fine h)
 basis-passed : (s : Shape) → 1 ≤ s.basis → s.basis ≤ last_basis → not (leb 1 s.basis && leb s.basis last_basis) ≡ false
 basis-passed s h k = simp (le-leb 1 s.basis h, le-leb s.basis last_basis k)
 
-returns : tie.Need-returns
-returns c = let s = c.before.args.shape in refused s _ (inl (simp (lt-leb 1 s.basis c.if1.true), refl))
+returns : tie.Need-returns-then-number-lt-FIRST_BASIS
+returns c = let s = c.args.shape in refused s _ (inl (simp (lt-leb 1 s.basis c.if-number-lt-FIRST_BASIS.true), refl))
 
-returns-2 : tie.Need-returns-2
+returns-2 : tie.Need-returns-then-number-gt-LAST_BASIS
 returns-2 c =
-    let s = c.before.before.args.shape in
-    refused s _ (inl (simp (le-leb 1 s.basis c.before.if1.false, lt-leb s.basis last_basis c.if2.true), refl))
+    let s = c.args.shape in
+    refused s _ (inl (simp (le-leb 1 s.basis c.if-number-lt-FIRST_BASIS.false, lt-leb s.basis last_basis c.if-number-gt-LAST_BASIS.true), refl))
 
-returns-3 : tie.Need-returns-3
+returns-3 : tie.Need-returns-then-shape-gt-DEEPEST
 returns-3 c =
     let h = c.before.before in
-    let s = h.before.before.args.shape in
-    refused s _ (inr (basis-passed s h.before.if1.false h.if2.false, inl (lt-ltb deepest s.depth c.if3.true, refl)))
+    let s = h.args.shape in
+    refused s _ (inr (basis-passed s h.if-number-lt-FIRST_BASIS.false h.if-number-gt-LAST_BASIS.false, inl (lt-ltb deepest s.depth c.if-shape-gt-DEEPEST.true, refl)))
 
-returns-4 : tie.Need-returns-4
+returns-4 : tie.Need-returns-then-shape-gt-MOST_PARAMETER
 returns-4 c =
     let t = c.before.before in
     let h = t.before.before.before in
-    let s = h.before.before.args.shape in
+    let s = h.args.shape in
     refused s _
     (inr (
-      basis-passed s h.before.if1.false h.if2.false,
-      inr (le-ltb deepest s.depth t.before.if3.false, inl (simp (eq-eqb s.basis cardinal t.if4.true, lt-ltb most_parameter s.parameter c.if5.true), refl)),
+      basis-passed s h.if-number-lt-FIRST_BASIS.false h.if-number-gt-LAST_BASIS.false,
+      inr (le-ltb deepest s.depth t.if-shape-gt-DEEPEST.false, inl (simp (eq-eqb s.basis cardinal t.if-number-eq-CARDINAL.true, lt-ltb most_parameter s.parameter c.if-shape-gt-MOST_PARAMETER.true), refl)),
     ))
 
-returns-5 : tie.Need-returns-5
+returns-5 : tie.Need-returns-else-shape-gt-MOST_PARAMETER
 returns-5 c =
     let t = c.before.before in
     let h = t.before.before.before in
-    let s = h.before.before.args.shape in
+    let s = h.args.shape in
     passed s (
-      basis-passed s h.before.if1.false h.if2.false,
-      (le-ltb deepest s.depth t.before.if3.false, (simp (eq-eqb s.basis cardinal t.if4.true, le-ltb most_parameter s.parameter c.if5.false), tt)),
+      basis-passed s h.if-number-lt-FIRST_BASIS.false h.if-number-gt-LAST_BASIS.false,
+      (le-ltb deepest s.depth t.if-shape-gt-DEEPEST.false, (simp (eq-eqb s.basis cardinal t.if-number-eq-CARDINAL.true, le-ltb most_parameter s.parameter c.if-shape-gt-MOST_PARAMETER.false), tt)),
     )
 
-returns-6 : tie.Need-returns-6
+returns-6 : tie.Need-returns-else-number-eq-CARDINAL
 returns-6 c =
     let h = c.before.before.before in
-    let s = h.before.before.args.shape in
-    passed s (basis-passed s h.before.if1.false h.if2.false, (le-ltb deepest s.depth c.before.if3.false, (simp (ne_eqb s.basis cardinal c.if4.false), tt)))
+    let s = h.args.shape in
+    passed s (basis-passed s h.if-number-lt-FIRST_BASIS.false h.if-number-gt-LAST_BASIS.false, (le-ltb deepest s.depth c.if-shape-gt-DEEPEST.false, (simp (ne_eqb s.basis cardinal c.if-number-eq-CARDINAL.false), tt)))
 
-pub check-numbers-spec : {M : Type 1} → statement M
-check-numbers-spec = tie.close (tie.spec returns returns-2 returns-3 returns-4 returns-5 returns-6)
+pub check_numbers_spec : {M : Type 1} → statement M
+check_numbers_spec =
+    tie.close
+    (tie.spec
+    returns
+    returns-2
+    returns-3
+    returns-4
+    returns-5
+    returns-6)

@@ -13,59 +13,59 @@ use Rattle.shape.proofs.Refusals.{rows-bad, rows-fine}
 use Rattle.shape.proofs.check_shape.Statement.{statement}
 use Rattle.shape.proofs.check_shape.Tie as tie
 
-check-numbers-requires : tie.Need-check-numbers-requires
+check-numbers-requires : tie.Need-check_numbers-requires
 check-numbers-requires c κs = search rules
 
-enum-known-refusal : tie.Need-enum-known-refusal
+enum-known-refusal : tie.Need-enum_known-refusal
 enum-known-refusal c = search rules
 
-returns : tie.Need-returns
+returns : tie.Need-returns-in-Bad
 unfolding judge_shape judge_numbers
 returns c =
-    let k = c.before.before.before in
-    let s = k.before.args.shape in
-    sym (rows-bad (number_rows s) c.before.refusal.given.0.0 (sym k.check-numbers.ensures ∙ c.before.refusal.given.1) (count_row s ∷ []) Unsound (Sound (plan_of s)))
+    let k = c.before in
+    let s = k.args.shape in
+    sym (rows-bad (number_rows s) c.in-Bad.refusal (sym k.check_numbers.ensures ∙ c.in-Bad.is) (count_row s ∷ []) Unsound (Sound (plan_of s)))
 
-enum_told : tie.Need-enum-told
+enum_told : tie.Need-enum_told-1
 enum_told c = search rules
 
-basis-of-requires : tie.Need-basis-of-requires
+basis-of-requires : tie.Need-basis_of-basis-requires
 basis-of-requires c κs = search rules
 
-allowed-spans-requires : tie.Need-allowed-spans-requires
+allowed-spans-requires : tie.Need-allowed_spans-spans-requires
 allowed-spans-requires c κs = search rules
 
 -- row 3 is left, and what it answers is known by the spans
-module _ (c : tie.After-allowed-spans) where
+module _ (c : tie.After-allowed_spans-spans) where
   abbrev s : Shape
-  s = c.before.before.before.before.before.args.shape
+  s = c.args.shape
 
   left : judge_shape s ≡ cond (not (allowed (basis_in s) s.count)) (Unsound (record { number = 3; place = 0 })) (Sound (plan_of s))
   unfolding judge_shape judge_numbers judge
   left =
       let t = c.before.before in
-      rows-fine (number_rows s) (sym t.before.before.check-numbers.ensures ∙ t.enum_told.given.1) (count_row s ∷ []) Unsound (Sound (plan_of s))
+      rows-fine (number_rows s) (sym t.check_numbers.ensures ∙ t.in_default.is) (count_row s ∷ []) Unsound (Sound (plan_of s))
 
-  spans : c.allowed-spans.result ≡ cond (allowed (basis_in s) s.count) (spans_of (basis_in s) s.count) 0
-  spans = c.allowed-spans.ensures ∙ ap (λ (b : Basis). cond (allowed b s.count) (spans_of b s.count) 0) c.before.basis-of.ensures
+  spans : c.allowed_spans-spans.result ≡ cond (allowed (basis_in s) s.count) (spans_of (basis_in s) s.count) 0
+  spans = c.allowed_spans-spans.ensures ∙ ap (λ (b : Basis). cond (allowed b s.count) (spans_of b s.count) 0) c.basis_of-basis.ensures
 
-returns-2 : tie.Need-returns-2
+returns-2 : tie.Need-returns-then-spans-eq0
 returns-2 c =
-    let s = c.before.before.before.before.before.before.args.shape in
-    let none = spans-or-none (basis_in s) s.count (sym (spans c.before) ∙ c.if1.true) in
+    let s = c.args.shape in
+    let none = spans-or-none (basis_in s) s.count (sym (spans c.before) ∙ c.if-spans-eq0.true) in
     sym (left c.before ∙ ap (λ t. cond (not t) (Unsound (record { number = 3; place = 0 })) (Sound (plan_of s))) none)
 
-returns-3 : tie.Need-returns-3
+returns-3 : tie.Need-returns
 unfolding plan_of
 returns-3 c =
-    let s = c.before.before.before.before.before.before.args.shape in
-    let some = spans-or-some (basis_in s) s.count (λ e. c.if1.false (spans c.before ∙ e)) in
+    let s = c.args.shape in
+    let some = spans-or-some (basis_in s) s.count (λ e. c.if-spans-eq0.false (spans c.before ∙ e)) in
     let known = spans c.before ∙ some.1 in
-    (λ k. Sound (record { basis = c.before.before.basis-of.ensures k; depth = s.depth; spans = known k }))
+    (λ k. Sound (record { basis = c.basis_of-basis.ensures k; depth = s.depth; spans = known k }))
     ∙ sym (left c.before ∙ ap (λ t. cond (not t) (Unsound (record { number = 3; place = 0 })) (Sound (plan_of s))) some.0)
 
-pub check-shape-spec : {M : Type 1} → statement M
-check-shape-spec =
+pub check_shape_spec : {M : Type 1} → statement M
+check_shape_spec =
     tie.close
     (tie.spec
     check-numbers-requires

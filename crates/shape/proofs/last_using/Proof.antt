@@ -8,15 +8,20 @@ use Rattle.shape.specs.Shape.{last_using}
 use Rattle.shape.proofs.last_using.Statement.{statement}
 use Rattle.shape.proofs.last_using.Tie as tie
 
-stride-of-requires : tie.Need-stride-of-requires
+stride-of-requires : tie.Need-stride_of-requires
 stride-of-requires c κs = search rules
 
-div-result : tie.Need-nonzero-div-result
-div-result c = omega (arith, c.stride-of.ensures, (stride-bounds c.before.args.basis).0)
+div-result : tie.Need-nonzero_div-result
+div-result c = omega (arith, c.stride_of.ensures, (stride-bounds c.args.basis).0)
 
 returns : tie.Need-returns
 unfolding last_using
-returns c = ap (λ (d : ℕ). c.before.args.place / d) c.stride-of.ensures
+returns c = ap (λ (d : ℕ). c.args.place / d) c.stride_of.ensures
 
-pub last-using-spec : {M : Type 1} → statement M
-last-using-spec = tie.close (tie.spec stride-of-requires div-result returns)
+pub last_using_spec : {M : Type 1} → statement M
+last_using_spec =
+    tie.close
+    (tie.spec
+    stride-of-requires
+    div-result
+    returns)

@@ -10,12 +10,16 @@ unfolding sixty_fourths
 itself zero h = absurd (h refl)
 itself (suc c) h = refl
 
-returns : tie.Need-returns
+returns : tie.Need-returns-then-parameter-eq0
 unfolding sixty_fourths
-returns c = sym (ap sixty_fourths c.if1.true)
+returns c = sym (ap sixty_fourths c.if-parameter-eq0.true)
 
-returns-2 : tie.Need-returns-2
-returns-2 c = itself c.before.args.parameter c.if1.false
+returns-2 : tie.Need-returns-else-parameter-eq0
+returns-2 c = itself c.args.parameter c.if-parameter-eq0.false
 
-pub sixty-fourths-spec : {M : Type 1} → statement M
-sixty-fourths-spec = tie.close (tie.spec returns returns-2)
+pub sixty_fourths_spec : {M : Type 1} → statement M
+sixty_fourths_spec =
+    tie.close
+    (tie.spec
+    returns
+    returns-2)

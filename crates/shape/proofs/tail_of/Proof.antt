@@ -10,23 +10,30 @@ use Rattle.shape.specs.Shape.{least_records}
 use Rattle.shape.proofs.tail_of.Statement.{statement}
 use Rattle.shape.proofs.tail_of.Tie as tie
 
-is-loop-requires : tie.Need-is-loop-requires
+is-loop-requires : tie.Need-is_loop-requires
 is-loop-requires c κs = search rules
 
-returns : tie.Need-returns
-returns c = sym (ap (λ t. cond t 0 (least_records - stride c.before.before.args.basis)) (sym c.before.is_Loop.ensures ∙ c.if1.true))
+returns : tie.Need-returns-then-is_loop
+returns c = sym (ap (λ t. cond t 0 (least_records - stride c.args.basis)) (sym c.is_loop.ensures ∙ c.if-is_loop.true))
 
-stride-of-requires : tie.Need-stride-of-requires
+stride-of-requires : tie.Need-stride_of-requires
 stride-of-requires c κs = search rules
 
-sub-result : tie.Need-overflow-sub-result
-sub-result c = omega (arith, c.stride-of.ensures, (stride-bounds c.before.before.before.args.basis).1)
+sub-result : tie.Need-overflow_sub-result
+sub-result c = omega (arith, c.stride_of.ensures, (stride-bounds c.args.basis).1)
 
-returns-2 : tie.Need-returns-2
+returns-2 : tie.Need-returns
 returns-2 c =
     let i = c.before.before in
-    ap (λ (d : ℕ). least_records - d) c.stride-of.ensures
-    ∙ sym (ap (λ t. cond t 0 (least_records - stride i.before.args.basis)) (sym i.is_Loop.ensures ∙ c.before.if1.false))
+    ap (λ (d : ℕ). least_records - d) c.stride_of.ensures
+    ∙ sym (ap (λ t. cond t 0 (least_records - stride i.args.basis)) (sym i.is_loop.ensures ∙ c.if-is_loop.false))
 
-pub tail-of-spec : {M : Type 1} → statement M
-tail-of-spec = tie.close (tie.spec is-loop-requires returns stride-of-requires sub-result returns-2)
+pub tail_of_spec : {M : Type 1} → statement M
+tail_of_spec =
+    tie.close
+    (tie.spec
+    is-loop-requires
+    returns
+    stride-of-requires
+    sub-result
+    returns-2)

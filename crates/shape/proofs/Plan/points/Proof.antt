@@ -13,22 +13,28 @@ use Rattle.shape.proofs.Plan.points.Tie as tie
 steps-requires : tie.Need-steps-requires
 steps-requires c κs = search rules
 
-fits : (c : tie.After-struct-known) → c.before.before.args.self.spans * c.before.steps.result ≤ most_records * 2 ^ deepest
+fits : (c : tie.After-struct_known-1) → c.args.self.spans * c.steps.result ≤ most_records * 2 ^ deepest
 fits c =
-    let k = c.before.before.args.self.depth in
-    let h : k ≤ deepest = c.before.before.requires.0 in
-    let steps : c.before.steps.result ≤ 2 ^ deepest = omega (arith, pow_mono {i = k} {j = deepest} h, c.before.steps.ensures) in
-    mul-le-mul c.before.before.requires.1 steps
+    let k = c.args.self.depth in
+    let h : k ≤ deepest = c.requires.0 in
+    let steps : c.steps.result ≤ 2 ^ deepest = omega (arith, pow_mono {i = k} {j = deepest} h, c.steps.ensures) in
+    mul-le-mul c.requires.1 steps
 
-mul-result : tie.Need-overflow-mul-result
+mul-result : tie.Need-overflow_mul-result
 mul-result c = omega (arith, fits c)
 
-add-result : tie.Need-overflow-add-result
+add-result : tie.Need-overflow_add-result
 add-result c = omega (arith, fits c)
 
 returns : tie.Need-returns
 unfolding points_of
-returns c = ap (λ n. c.before.before.args.self.spans * n + 1) c.before.steps.ensures
+returns c = ap (λ n. c.args.self.spans * n + 1) c.steps.ensures
 
-pub points-spec : {M : Type 1} → statement M
-points-spec = tie.close (tie.spec steps-requires mul-result add-result returns)
+pub points_spec : {M : Type 1} → statement M
+points_spec =
+    tie.close
+    (tie.spec
+    steps-requires
+    mul-result
+    add-result
+    returns)

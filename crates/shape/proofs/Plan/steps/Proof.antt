@@ -8,11 +8,15 @@ use borrow.Author.Rules.{rules}
 use Rattle.shape.proofs.Plan.steps.Statement.{statement}
 use Rattle.shape.proofs.Plan.steps.Tie as tie
 
-shl-result : tie.Need-overflow-shl-result
+shl-result : tie.Need-overflow_shl-result
 shl-result c = search rules
 
 returns : tie.Need-returns
-returns c = shl_exact {a = 1} 1 c.before.args.self.depth 64 (lit< tt) (omega arith) ∙ one-mul _
+returns c = shl_exact {a = 1} 1 c.args.self.depth 64 (lit< tt) (omega arith) ∙ one-mul _
 
-pub steps-spec : {M : Type 1} → statement M
-steps-spec = tie.close (tie.spec shl-result returns)
+pub steps_spec : {M : Type 1} → statement M
+steps_spec =
+    tie.close
+    (tie.spec
+    shl-result
+    returns)
