@@ -22,31 +22,38 @@ within-limit s n h = sym (inside (signed s n) (subst (λ (m : ℕ). m ≤ limit)
 past-limit : (s : Bool) (n : ℕ) → limit < n → Outside ≡ within (signed s n)
 past-limit s n h = sym (outside (signed s n) (subst (λ (m : ℕ). limit < m) (sym (size-signed s n)) h))
 
-returns : tie.Need-returns
-returns c = past-limit c.before.args.negative c.before.args.size c.if1.true
+returns : tie.Need-returns-then-size-gt-FARTHEST
+returns c = past-limit c.args.negative c.args.size c.if-size-gt-FARTHEST.true
 
-cast-n : tie.Need-overflow-cast-n
+cast-n : tie.Need-overflow_cast-n
 cast-n c = search rules
 
 narrow : (n : ℕ) → n ≤ limit → n < 2 ^ 31
 narrow n h = omega arith
 
-sub-t6 : tie.Need-overflow-sub-t6
-sub-t6 c = let n = c.before.before.args.size in turned-fits w32 (pos n) (narrow n c.before.if1.false)
+sub-t6 : tie.Need-overflow_sub-result
+sub-t6 c = let n = c.args.size in turned-fits w32 (pos n) (narrow n c.if-size-gt-FARTHEST.false)
 
-returns-2 : tie.Need-returns-2
+returns-2 : tie.Need-returns-then-negative
 returns-2 c =
-    let n = c.before.before.args.size in
-    ap Micrometres (turned-kept w32 (pos n) (narrow n c.before.if1.false))
-    ∙ ap (λ s. Micrometres (signed s n)) (sym c.if2.true)
-    ∙ within-limit c.before.before.args.negative n c.before.if1.false
+    let n = c.args.size in
+    ap Micrometres (turned-kept w32 (pos n) (narrow n c.if-size-gt-FARTHEST.false))
+    ∙ ap (λ s. Micrometres (signed s n)) (sym c.if-negative.true)
+    ∙ within-limit c.args.negative n c.if-size-gt-FARTHEST.false
 
-returns-3 : tie.Need-returns-3
+returns-3 : tie.Need-returns-else-negative
 returns-3 c =
-    let n = c.before.before.args.size in
-    ap Micrometres (kept-is w32 (pos n) (size_fits w32 (pos n) (narrow n c.before.if1.false)))
-    ∙ ap (λ s. Micrometres (signed s n)) (sym c.if2.false)
-    ∙ within-limit c.before.before.args.negative n c.before.if1.false
+    let n = c.args.size in
+    ap Micrometres (kept-is w32 (pos n) (size_fits w32 (pos n) (narrow n c.if-size-gt-FARTHEST.false)))
+    ∙ ap (λ s. Micrometres (signed s n)) (sym c.if-negative.false)
+    ∙ within-limit c.args.negative n c.if-size-gt-FARTHEST.false
 
-pub coordinate-spec : {M : Type 1} → statement M
-coordinate-spec = tie.close (tie.spec returns cast-n sub-t6 returns-2 returns-3)
+pub coordinate_spec : {M : Type 1} → statement M
+coordinate_spec =
+    tie.close
+    (tie.spec
+    returns
+    cast-n
+    sub-t6
+    returns-2
+    returns-3)

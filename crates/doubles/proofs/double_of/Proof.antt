@@ -8,11 +8,15 @@ use Rattle.doubles.proofs.Exact.{dyadic-whole}
 use Rattle.doubles.proofs.double_of.Statement.{statement}
 use Rattle.doubles.proofs.double_of.Tie as tie
 
-int-to-float-result : tie.Need-int-to-float-result
+int-to-float-result : tie.Need-int_to_float-result
 int-to-float-result c = search rules
 
 returns : tie.Need-returns
-returns c = let z = c.before.args.z in ap (of_int binary64) (kept-is w32 z c.before.ranges.z) ∙ dyadic-whole z
+returns c = let z = c.args.z in ap (of_int binary64) (kept-is w32 z c.ranges.z) ∙ dyadic-whole z
 
-pub double-of-spec : {M : Type 1} → statement M
-double-of-spec = tie.close (tie.spec int-to-float-result returns)
+pub double_of_spec : {M : Type 1} → statement M
+double_of_spec =
+    tie.close
+    (tie.spec
+    int-to-float-result
+    returns)

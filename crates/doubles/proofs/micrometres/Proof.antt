@@ -26,21 +26,27 @@ a-number nan e = absurd (clash (sym nan_differs ∙ e))
 a-number (inf s) e = tt
 a-number (fin s m k) e = tt
 
-returns : tie.Need-returns
-returns c = sym (ap measure (differs_from_itself c.before.args.mm (subst T (sym c.if1.true) tt)) ∙ nan-measure)
+returns : tie.Need-returns-then-mm
+returns c = sym (ap measure (differs_from_itself c.args.mm (subst T (sym c.if-mm.true) tt)) ∙ nan-measure)
 
-float-to-bits-of-pattern : tie.Need-float-to-bits-of-pattern
-float-to-bits-of-pattern c = a-number c.before.args.mm c.if1.false
+float-to-bits-of-pattern : tie.Need-float_to_bits-mm
+float-to-bits-of-pattern c = a-number c.args.mm c.if-mm.false
 
-of-pattern-requires : tie.Need-of-pattern-requires
+of-pattern-requires : tie.Need-of_pattern-requires
 of-pattern-requires c κs = search rules
 
 -- what owning a double tells: the format holds it
 held : (c : tie.Start) → T (fits binary64 c.args.mm)
-held c = subst T (sym c.well-formed.0.1) tt
+held c = subst T (sym c.well_formed.0.1) tt
 
-returns-2 : tie.Need-returns-2
-returns-2 c = c.of-pattern.ensures ∙ ap measure (of_bits-to_bits binary64 c.before.before.args.mm (held c.before.before))
+returns-2 : tie.Need-returns-else-mm
+returns-2 c = c.of_pattern.ensures ∙ ap measure (of_bits-to_bits binary64 c.args.mm (held c.before.before))
 
-pub micrometres-spec : {M : Type 1} → statement M
-micrometres-spec = tie.close (tie.spec float-to-bits-of-pattern of-pattern-requires returns returns-2)
+pub micrometres_spec : {M : Type 1} → statement M
+micrometres_spec =
+    tie.close
+    (tie.spec
+    float-to-bits-of-pattern
+    of-pattern-requires
+    returns
+    returns-2)

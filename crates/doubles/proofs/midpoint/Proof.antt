@@ -13,5 +13,8 @@ returns : tie.Need-returns
 unfolding mid
 returns c = ap (div binary64 (add binary64 c.args.a c.args.b)) two_is
 
-pub midpoint-spec : {M : Type 1} → statement M
-midpoint-spec = tie.close (tie.spec returns)
+pub midpoint_spec : {M : Type 1} → statement M
+midpoint_spec =
+    tie.close
+    (tie.spec
+    returns)

@@ -12,7 +12,12 @@ midpoint-requires-2 c κs = search rules
 
 returns : tie.Need-returns
 unfolding mid_pair
-returns c = λ i. record { x = c.before.midpoint.ensures i; y = c.midpoint2.ensures i }
+returns c = λ i. record { x = c.midpoint.ensures i; y = c.midpoint-2.ensures i }
 
-pub midpoint-pair-spec : {M : Type 1} → statement M
-midpoint-pair-spec = tie.close (tie.spec midpoint-requires midpoint-requires-2 returns)
+pub midpoint_pair_spec : {M : Type 1} → statement M
+midpoint_pair_spec =
+    tie.close
+    (tie.spec
+    midpoint-requires
+    midpoint-requires-2
+    returns)

@@ -8,10 +8,10 @@ use Rattle.doubles.proofs.Rounding.{nearest-signed}
 use Rattle.doubles.proofs.scaled.Statement.{statement}
 use Rattle.doubles.proofs.scaled.Tie as tie
 
-mul-half-up : tie.Need-overflow-mul-half-up
+mul-half-up : tie.Need-overflow_mul-digits
 mul-half-up c = search rules
 
-half-up-requires : tie.Need-half-up-requires
+half-up-requires : tie.Need-half_up-requires
 half-up-requires c κs = search rules
 
 coordinate-requires : tie.Need-coordinate-requires
@@ -19,10 +19,16 @@ coordinate-requires c κs = search rules
 
 returns : tie.Need-returns
 returns c =
-    let a = c.before.before.args in
+    let a = c.args in
     c.coordinate.ensures
-    ∙ ap (λ (n : ℕ). within (signed a.negative n)) c.before.half_up.ensures
+    ∙ ap (λ (n : ℕ). within (signed a.negative n)) c.half_up.ensures
     ∙ ap within (sym (nearest-signed a.negative (a.digits * thousand) (4 * 2 ^ a.bits)))
 
-pub scaled-spec : {M : Type 1} → statement M
-scaled-spec = tie.close (tie.spec mul-half-up half-up-requires coordinate-requires returns)
+pub scaled_spec : {M : Type 1} → statement M
+scaled_spec =
+    tie.close
+    (tie.spec
+    mul-half-up
+    half-up-requires
+    coordinate-requires
+    returns)

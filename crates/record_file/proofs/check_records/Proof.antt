@@ -9,50 +9,49 @@ use Rattle.record_file.proofs.Records.{faulty, faultless, no_more}
 use Rattle.record_file.proofs.check_records.Statement.{statement}
 use Rattle.record_file.proofs.check_records.Tie as tie
 
-abbrev invariant-loop : tie.invariant-loop
+abbrev invariant-loop : tie.invariant-loop-i
 invariant-loop file count i₀ i = (i ≤ count) × (judge (record_rows file i (count - i)) Bad Fine ≡ judge (record_rows file 0 count) Bad Fine)
 
-abbrev decreases-loop : tie.decreases-loop
+abbrev decreases-loop : tie.decreases-loop-i
 decreases-loop file count i₀ i = count - i
 
-loop-holds : tie.Need-loop-init invariant-loop decreases-loop
-loop-holds c = let all : c.before.args.count - 0 ≡ c.before.args.count = omega arith in (omega arith, ap (λ (n : ℕ). judge (record_rows c.before.args.file.now 0 n) Bad Fine) all)
+loop-holds : tie.Need-loop-i-init invariant-loop decreases-loop
+loop-holds c = let all : c.args.count - 0 ≡ c.args.count = omega arith in (omega arith, ap (λ (n : ℕ). judge (record_rows c.args.file.now 0 n) Bad Fine) all)
 
-fault-of-requires : tie.Need-fault-of-requires invariant-loop decreases-loop
+fault-of-requires : tie.Need-fault_of-number-requires invariant-loop decreases-loop
 fault-of-requires c κs = omega arith
 
-returns : tie.Need-returns invariant-loop decreases-loop
+returns : tie.Need-returns-then-number-ne0 invariant-loop decreases-loop
 returns c =
     let s = c.before.before.before in
-    let l = s.before.before.args.file.now in
-    let e = c.before.fault-of.ensures in
-    (λ k. Bad (record { number = e k; place = s.loop.i }))
-    ∙ sym (faulty l Bad Fine s.loop.i s.before.before.args.count (omega arith) (λ z. c.if1.true (e ∙ z)))
-    ∙ s.loop.invariant.1
+    let l = s.args.file.now in
+    let e = c.fault_of-number.ensures in
+    (λ k. Bad (record { number = e k; place = s.loop-i.i }))
+    ∙ sym (faulty l Bad Fine s.loop-i.i s.args.count (omega arith) (λ z. c.if-number-ne0.true (e ∙ z)))
+    ∙ s.loop-i.invariant.1
 
-add-i : tie.Need-overflow-add-i invariant-loop decreases-loop
+add-i : tie.Need-overflow_add-i invariant-loop decreases-loop
 add-i c = omega arith
 
-loop-less : tie.Need-loop-smaller invariant-loop decreases-loop
+loop-less : tie.Need-loop-i-smaller invariant-loop decreases-loop
 loop-less c = omega arith
 
-loop-again : tie.Need-loop-preserved invariant-loop decreases-loop
+loop-again : tie.Need-loop-i-preserved invariant-loop decreases-loop
 loop-again c =
     let s = c.before.before.before in
-    let l = s.before.before.args.file.now in
-    (omega arith, faultless l Bad Fine s.loop.i s.before.before.args.count (omega arith) (sym c.before.fault-of.ensures ∙ c.if1.false) ∙ s.loop.invariant.1)
+    let l = s.args.file.now in
+    (omega arith, faultless l Bad Fine s.loop-i.i s.args.count (omega arith) (sym c.fault_of-number.ensures ∙ c.if-number-ne0.false) ∙ s.loop-i.invariant.1)
 
-returns-2 : tie.Need-returns-2 invariant-loop decreases-loop
+returns-2 : tie.Need-returns invariant-loop decreases-loop
 returns-2 c =
     let s = c.before in
-    sym (no_more s.before.before.args.file.now Bad Fine s.loop.i s.before.before.args.count (omega arith)) ∙ s.loop.invariant.1
+    sym (no_more s.args.file.now Bad Fine s.loop-i.i s.args.count (omega arith)) ∙ s.loop-i.invariant.1
 
-pub check-records-spec : {M : Type 1} → statement M
-check-records-spec =
+pub check_records_spec : {M : Type 1} → statement M
+check_records_spec =
     tie.close
     (tie.spec
-    invariant-loop
-    decreases-loop
+    invariant-loop decreases-loop
     loop-holds
     fault-of-requires
     returns

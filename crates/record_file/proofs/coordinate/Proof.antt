@@ -9,78 +9,78 @@ use borrow.Author.Rules.{rules}
 use Rattle.record_file.proofs.coordinate.Statement.{statement}
 use Rattle.record_file.proofs.coordinate.Tie as tie
 
-shared-slice-read-a : tie.Need-shared-slice-read-a
+shared-slice-read-a : tie.Need-bounds-file-at
 shared-slice-read-a c = search rules
 
-cast-a : tie.Need-overflow-cast-a
-cast-a c = omega (arith, c.shared-slice-known2.given c.before.before.args.at)
+cast-a : tie.Need-overflow_cast-a
+cast-a c = omega (arith, c.shared_slice_known-2-1.given c.args.at)
 
-add-b : tie.Need-overflow-add-b
+add-b : tie.Need-overflow_add-b
 add-b c = search rules
 
-shared-slice-read-b : tie.Need-shared-slice-read-b
+shared-slice-read-b : tie.Need-bounds-file-at-2
 shared-slice-read-b c = search rules
 
-cast-b : tie.Need-overflow-cast-b
-cast-b c = omega (arith, c.shared-slice-known3.given (c.before.before.before.args.at + 1))
+cast-b : tie.Need-overflow_cast-b
+cast-b c = omega (arith, c.shared_slice_known-3-1.given (c.args.at + 1))
 
-add-c : tie.Need-overflow-add-c
+add-c : tie.Need-overflow_add-c
 add-c c = search rules
 
-shared-slice-read-c : tie.Need-shared-slice-read-c
+shared-slice-read-c : tie.Need-bounds-file-at-3
 shared-slice-read-c c = search rules
 
-cast-c : tie.Need-overflow-cast-c
-cast-c c = omega (arith, c.shared-slice-known4.given (c.before.before.before.before.args.at + 2))
+cast-c : tie.Need-overflow_cast-c
+cast-c c = omega (arith, c.shared_slice_known-4-1.given (c.args.at + 2))
 
-add-d : tie.Need-overflow-add-d
+add-d : tie.Need-overflow_add-d
 add-d c = search rules
 
-shared-slice-read-d : tie.Need-shared-slice-read-d
+shared-slice-read-d : tie.Need-bounds-file-at-4
 shared-slice-read-d c = search rules
 
-cast-d : tie.Need-overflow-cast-d
-cast-d c = omega (arith, c.shared-slice-known5.given (c.before.before.before.before.before.args.at + 3))
+cast-d : tie.Need-overflow_cast-d
+cast-d c = omega (arith, c.shared_slice_known-5-1.given (c.args.at + 3))
 
-mul-signed-word : tie.Need-overflow-mul-signed-word
+mul-signed-word : tie.Need-overflow_mul-b
 mul-signed-word c =
-    let a = c.before.before.before.before.before.args.at in
-    omega (arith, c.shared-slice-known5.given a, c.shared-slice-known5.given (a + 1), c.shared-slice-known5.given (a + 2), c.shared-slice-known5.given (a + 3))
+    let a = c.args.at in
+    omega (arith, c.shared_slice_known-5-1.given a, c.shared_slice_known-5-1.given (a + 1), c.shared_slice_known-5-1.given (a + 2), c.shared_slice_known-5-1.given (a + 3))
 
-add-signed-word : tie.Need-overflow-add-signed-word
+add-signed-word : tie.Need-overflow_add-a
 add-signed-word c =
-    let a = c.before.before.before.before.before.args.at in
-    omega (arith, c.shared-slice-known5.given a, c.shared-slice-known5.given (a + 1), c.shared-slice-known5.given (a + 2), c.shared-slice-known5.given (a + 3))
+    let a = c.args.at in
+    omega (arith, c.shared_slice_known-5-1.given a, c.shared_slice_known-5-1.given (a + 1), c.shared_slice_known-5-1.given (a + 2), c.shared_slice_known-5-1.given (a + 3))
 
-mul-signed-word-2 : tie.Need-overflow-mul-signed-word-2
+mul-signed-word-2 : tie.Need-overflow_mul-c
 mul-signed-word-2 c =
-    let a = c.before.before.before.before.before.args.at in
-    omega (arith, c.shared-slice-known5.given a, c.shared-slice-known5.given (a + 1), c.shared-slice-known5.given (a + 2), c.shared-slice-known5.given (a + 3))
+    let a = c.args.at in
+    omega (arith, c.shared_slice_known-5-1.given a, c.shared_slice_known-5-1.given (a + 1), c.shared_slice_known-5-1.given (a + 2), c.shared_slice_known-5-1.given (a + 3))
 
-add-signed-word-2 : tie.Need-overflow-add-signed-word-2
+add-signed-word-2 : tie.Need-overflow_add-a-2
 add-signed-word-2 c =
-    let a = c.before.before.before.before.before.args.at in
-    omega (arith, c.shared-slice-known5.given a, c.shared-slice-known5.given (a + 1), c.shared-slice-known5.given (a + 2), c.shared-slice-known5.given (a + 3))
+    let a = c.args.at in
+    omega (arith, c.shared_slice_known-5-1.given a, c.shared_slice_known-5-1.given (a + 1), c.shared_slice_known-5-1.given (a + 2), c.shared_slice_known-5-1.given (a + 3))
 
-mul-signed-word-3 : tie.Need-overflow-mul-signed-word-3
+mul-signed-word-3 : tie.Need-overflow_mul-d
 mul-signed-word-3 c =
-    let a = c.before.before.before.before.before.args.at in
-    omega (arith, c.shared-slice-known5.given a, c.shared-slice-known5.given (a + 1), c.shared-slice-known5.given (a + 2), c.shared-slice-known5.given (a + 3))
+    let a = c.args.at in
+    omega (arith, c.shared_slice_known-5-1.given a, c.shared_slice_known-5-1.given (a + 1), c.shared_slice_known-5-1.given (a + 2), c.shared_slice_known-5-1.given (a + 3))
 
-add-signed-word-3 : tie.Need-overflow-add-signed-word-3
+add-signed-word-3 : tie.Need-overflow_add-a-3
 add-signed-word-3 c =
-    let a = c.before.before.before.before.before.args.at in
-    omega (arith, c.shared-slice-known5.given a, c.shared-slice-known5.given (a + 1), c.shared-slice-known5.given (a + 2), c.shared-slice-known5.given (a + 3))
+    let a = c.args.at in
+    omega (arith, c.shared_slice_known-5-1.given a, c.shared_slice_known-5-1.given (a + 1), c.shared_slice_known-5-1.given (a + 2), c.shared_slice_known-5-1.given (a + 3))
 
-signed-word-requires : tie.Need-signed-word-requires
+signed-word-requires : tie.Need-signed_word-requires
 signed-word-requires c κs = search rules
 
 returns : tie.Need-returns
 unfolding word
-returns c = kept-is w32 c.signed_word.result (record { sfits = c.signed_word.type-inv }) ∙ c.signed_word.ensures
+returns c = kept-is w32 c.signed_word.result (record { sfits = c.signed_word.type_inv }) ∙ c.signed_word.ensures
 
-pub coordinate-spec : {M : Type 1} → statement M
-coordinate-spec =
+pub coordinate_spec : {M : Type 1} → statement M
+coordinate_spec =
     tie.close
     (tie.spec
     shared-slice-read-a

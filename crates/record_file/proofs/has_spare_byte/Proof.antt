@@ -20,48 +20,48 @@ test a c z = not (eqb z 0) || (not (eqb c 0) && not (eqb a cardinal))
 test_at : (s : List ℕ) (i : ℕ) → test (get_or s (12 * i) 0) (get_or s (12 * i + 2) 0) (get_or s (12 * i + 3) 0) ≡ (zeros_row s i).holds
 test_at s i = ap (λ (n : ℕ). test (get_or s n 0) (get_or s (12 * i + 2) 0) (get_or s (12 * i + 3) 0)) (sym (add-zero (12 * i)))
 
-mul_at : tie.Need-overflow-mul-at
+mul_at : tie.Need-overflow_mul-at
 mul_at c = search rules
 
-add-if1 : tie.Need-overflow-add-if1
+add-if1 : tie.Need-overflow_add-at
 add-if1 c = search rules
 
-shared-slice-read-if1 : tie.Need-shared-slice-read-if1
+shared-slice-read-if1 : tie.Need-bounds-file-at
 shared-slice-read-if1 c = search rules
 
-returns : tie.Need-returns
+returns : tie.Need-returns-then-file-at-ne0
 returns c =
-    let s = c.before.before.args.file.now in
-    let i = c.before.before.args.i in
-    sym (simp (ne_eqb (get_or s (12 * i + 3) 0) 0 c.if1.true)) ∙ test_at s i
+    let s = c.args.file.now in
+    let i = c.args.i in
+    sym (simp (ne_eqb (get_or s (12 * i + 3) 0) 0 c.if-file-at-ne0.true)) ∙ test_at s i
 
-add-if2 : tie.Need-overflow-add-if2
+add-if2 : tie.Need-overflow_add-at-2
 add-if2 c = search rules
 
-shared-slice-read-if2 : tie.Need-shared-slice-read-if2
+shared-slice-read-if2 : tie.Need-bounds-file-at-2
 shared-slice-read-if2 c = search rules
 
-returns-2 : tie.Need-returns-2
+returns-2 : tie.Need-returns-then-file-at-eq0
 returns-2 c =
     let k = c.before.before in
-    let s = k.before.before.args.file.now in
-    let i = k.before.before.args.i in
-    sym (simp (eq-eqb (get_or s (12 * i + 3) 0) 0 k.if1.false, eq-eqb (get_or s (12 * i + 2) 0) 0 c.if2.true)) ∙ test_at s i
+    let s = k.args.file.now in
+    let i = k.args.i in
+    sym (simp (eq-eqb (get_or s (12 * i + 3) 0) 0 k.if-file-at-ne0.false, eq-eqb (get_or s (12 * i + 2) 0) 0 c.if-file-at-eq0.true)) ∙ test_at s i
 
-shared-slice-read-result : tie.Need-shared-slice-read-result
+shared-slice-read-result : tie.Need-bounds-file-at-3
 shared-slice-read-result c = search rules
 
-returns-3 : tie.Need-returns-3
+returns-3 : tie.Need-returns
 returns-3 c =
     let k = c.before.before.before in
-    let s = k.before.before.args.file.now in
-    let i = k.before.before.args.i in
-    let zero = eq-eqb (get_or s (12 * i + 3) 0) 0 k.if1.false in
-    let some = ne_eqb (get_or s (12 * i + 2) 0) 0 c.before.if2.false in
+    let s = k.args.file.now in
+    let i = k.args.i in
+    let zero = eq-eqb (get_or s (12 * i + 3) 0) 0 k.if-file-at-ne0.false in
+    let some = ne_eqb (get_or s (12 * i + 2) 0) 0 c.if-file-at-eq0.false in
     sym (λ x. not (zero x) || (not (some x) && not (eqb (get_or s (12 * i) 0) cardinal))) ∙ test_at s i
 
-pub has-spare-byte-spec : {M : Type 1} → statement M
-has-spare-byte-spec =
+pub has_spare_byte_spec : {M : Type 1} → statement M
+has_spare_byte_spec =
     tie.close
     (tie.spec
     mul_at

@@ -28,68 +28,68 @@ abbrev accepted : List ℕ → Shape → List ℤ → Outcome Reading (List ℤ)
 accepted file s controls = outcome (Read s) (sets controls 0 (numbers file s.count))
 
 -- row 7 did not hold
-room : (c : tie.Else1) → ltb (length c.before.before.args.controls.now) (2 * c.before.before.args.shape.count) ≡ false
-room c = le-ltb (length c.before.before.args.controls.now) (2 * c.before.before.args.shape.count) c.if1.false
+room : (c : tie.Else-controls-count) → ltb (length c.args.controls.now) (2 * c.args.shape.count) ≡ false
+room c = le-ltb (length c.args.controls.now) (2 * c.args.shape.count) c.if-controls-count.false
 
 -- the search of our own list is the search of the file's numbers
-found : (c : tie.After-first-outside) → c.first-outside.result ≡ first_outside (numbers c.before.before.before.before.before.before.before.args.file.now c.before.before.before.before.before.before.before.args.shape.count) c.before.before.before.before.before.before.before.args.shape.count
+found : (c : tie.After-first_outside-at) → c.first_outside-at.result ≡ first_outside (numbers c.args.file.now c.args.shape.count) c.args.shape.count
 found c =
-    let a = c.before.before.before.before.before.before.before.args in
+    let a = c.args in
     let n = a.shape.count in
-    c.first-outside.ensures
-    ∙ ap (λ l. first_outside l n) c.before.before.before.write-numbers.ensures
+    c.first_outside-at.ensures
+    ∙ ap (λ l. first_outside l n) c.write_numbers.ensures
     ∙ outside-written _ (numbers a.file.now n) n (length-tab (number a.file.now) 0 (2 * n)) (omega arith)
 
-mul-if1 : tie.Need-overflow-mul-if1
+mul-if1 : tie.Need-overflow_mul-count
 mul-if1 c = search rules
 
-returns : tie.Need-returns
+returns : tie.Need-returns-then-controls-count
 returns c =
-    let a = c.before.before.args in
+    let a = c.args in
     let n = a.shape.count in
-    sym (judge-first (list_rows a.file.now n a.controls.now) (refuses Refused a.controls.now) (accepted a.file.now a.shape a.controls.now) (record { number = 7; place = 0 }) (inl (lt-ltb (length a.controls.now) (2 * n) c.if1.true, refl)))
+    sym (judge-first (list_rows a.file.now n a.controls.now) (refuses Refused a.controls.now) (accepted a.file.now a.shape a.controls.now) (record { number = 7; place = 0 }) (inl (lt-ltb (length a.controls.now) (2 * n) c.if-controls-count.true, refl)))
 
-slice-aggregate-write-numbers : tie.Need-slice-aggregate-write-numbers
+slice-aggregate-write-numbers : tie.Need-slice_bounds-write_numbers-end
 slice-aggregate-write-numbers c = search rules
 
-write-numbers-requires : tie.Need-write-numbers-requires
+write-numbers-requires : tie.Need-write_numbers-requires
 write-numbers-requires c κs = search rules
 
-slice-aggregate-first-outside : tie.Need-slice-aggregate-first-outside
+slice-aggregate-first-outside : tie.Need-slice_bounds-first_outside-end
 slice-aggregate-first-outside c = search rules
 
-first-outside-requires : tie.Need-first-outside-requires
+first-outside-requires : tie.Need-first_outside-at-requires
 first-outside-requires c κs = search rules
 
-returns-2 : tie.Need-returns-2
+returns-2 : tie.Need-returns-then-at-count
 returns-2 c =
-    let a = c.before.before.before.before.before.before.before.before.args in
+    let a = c.args in
     let n = a.shape.count in
     let e = found c.before in
     let at = first_outside (numbers a.file.now n) n in
     sym
-    (judge-first (list_rows a.file.now n a.controls.now) (refuses Refused a.controls.now) (accepted a.file.now a.shape a.controls.now) (record { number = 8; place = c.before.first-outside.result })
-    (inr (room c.before.before.before.before.before.before, inl (lt-ltb at n (subst (λ m. m < n) e c.if2.true), (λ k. record { number = 8; place = sym e k })))))
+    (judge-first (list_rows a.file.now n a.controls.now) (refuses Refused a.controls.now) (accepted a.file.now a.shape a.controls.now) (record { number = 8; place = c.first_outside-at.result })
+    (inr (room c.before.before.before.before.before.before, inl (lt-ltb at n (subst (λ m. m < n) e c.if-at-count.true), (λ k. record { number = 8; place = sym e k })))))
 
-write-numbers-requires-2 : tie.Need-write-numbers-requires-2
+write-numbers-requires-2 : tie.Need-write_numbers-requires-2
 write-numbers-requires-2 c κs = search rules
 
-same_length : tie.Need-same-length
+same_length : tie.Need-shape_of-controls
 same_length c = search rules
 
-returns-3 : tie.Need-returns-3
+returns-3 : tie.Need-returns
 returns-3 c =
-    let a = c.before.before.before.before.before.before.before.before.before.before.before.args in
+    let a = c.args in
     let n = a.shape.count in
     let e = found c.before.before.before.before in
     let at = first_outside (numbers a.file.now n) n in
-    ap (outcome (Read a.shape)) c.before.write-numbers2.ensures
+    ap (outcome (Read a.shape)) c.write_numbers-2.ensures
     ∙ sym
     (judge-none (list_rows a.file.now n a.controls.now) (refuses Refused a.controls.now) (accepted a.file.now a.shape a.controls.now)
-    (room c.before.before.before.before.before.before.before.before.before, (le-ltb at n (subst (λ m. n ≤ m) e c.before.before.before.if2.false), tt)))
+    (room c.before.before.before.before.before.before.before.before.before, (le-ltb at n (subst (λ m. n ≤ m) e c.if-at-count.false), tt)))
 
-pub read-numbers-spec : {M : Type 1} → statement M
-read-numbers-spec =
+pub read_numbers_spec : {M : Type 1} → statement M
+read_numbers_spec =
     tie.close
     (tie.spec
     mul-if1

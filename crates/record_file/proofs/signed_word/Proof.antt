@@ -19,35 +19,42 @@ fits-64 : (n : ℕ) → 2 ^ 31 ≤ n → n < 2 ^ 32 → SFits w64 (negsuc (2 ^ 3
 fits-64 n h k = record { sfits = omega arith }
 
 -- a word of the upper half, less 2^32
-less : (c : tie.Else1) → kept w64 (to_z w64 c.before.args.n -ℤ pos (2 ^ 32)) ≡ negsuc (2 ^ 32 - suc c.before.args.n)
+less : (c : tie.Else-n-lt-HALF) → kept w64 (to_z w64 c.args.n -ℤ pos (2 ^ 32)) ≡ negsuc (2 ^ 32 - suc c.args.n)
 less c =
-    let n = c.before.args.n in
-    ap (kept w64) (wide-less n c.before.ranges.n.fits) ∙ kept-is w64 (negsuc (2 ^ 32 - suc n)) (fits-64 n c.if1.false c.before.ranges.n.fits)
+    let n = c.args.n in
+    ap (kept w64) (wide-less n c.ranges.n.fits) ∙ kept-is w64 (negsuc (2 ^ 32 - suc n)) (fits-64 n c.if-n-lt-HALF.false c.ranges.n.fits)
 
-cast-result : tie.Need-overflow-cast-result
+cast-result : tie.Need-overflow_cast-result
 cast-result c = search rules
 
-cast-result-2 : tie.Need-overflow-cast-result-2
+cast-result-2 : tie.Need-overflow_cast-result-else-n-lt-HALF
 cast-result-2 c = search rules
 
-sub-result : tie.Need-overflow-sub-result
+sub-result : tie.Need-overflow_sub-result
 sub-result c =
-    let n = c.before.args.n in
-    subst (SFits w64) (sym (wide-less n c.before.ranges.n.fits)) (fits-64 n c.if1.false c.before.ranges.n.fits)
+    let n = c.args.n in
+    subst (SFits w64) (sym (wide-less n c.ranges.n.fits)) (fits-64 n c.if-n-lt-HALF.false c.ranges.n.fits)
 
-cast-result-3 : tie.Need-overflow-cast-result-3
-cast-result-3 c = subst (SFits w32) (sym (less c)) (fits-32 c.before.args.n c.if1.false c.before.ranges.n.fits)
+cast-result-3 : tie.Need-overflow_cast-result-else-n-lt-HALF-2
+cast-result-3 c = subst (SFits w32) (sym (less c)) (fits-32 c.args.n c.if-n-lt-HALF.false c.ranges.n.fits)
 
-returns : tie.Need-returns
+returns : tie.Need-returns-then-n-lt-HALF
 returns c =
-    let n = c.before.args.n in
-    simp (lt-ltb n (2 ^ 31) c.if1.true) (sym (signed_low n c.if1.true))
+    let n = c.args.n in
+    simp (lt-ltb n (2 ^ 31) c.if-n-lt-HALF.true) (sym (signed_low n c.if-n-lt-HALF.true))
 
-returns-2 : tie.Need-returns-2
+returns-2 : tie.Need-returns-else-n-lt-HALF
 returns-2 c =
-    let n = c.before.args.n in
-    ap (kept w32) (less c) ∙ kept-is w32 (negsuc (2 ^ 32 - suc n)) (fits-32 n c.if1.false c.before.ranges.n.fits) ∙ sym (signed_high n c.if1.false c.before.ranges.n.fits)
+    let n = c.args.n in
+    ap (kept w32) (less c) ∙ kept-is w32 (negsuc (2 ^ 32 - suc n)) (fits-32 n c.if-n-lt-HALF.false c.ranges.n.fits) ∙ sym (signed_high n c.if-n-lt-HALF.false c.ranges.n.fits)
 
-pub signed-word-spec : {M : Type 1} → statement M
-signed-word-spec =
-    tie.close (tie.spec cast-result cast-result-2 sub-result cast-result-3 returns returns-2)
+pub signed_word_spec : {M : Type 1} → statement M
+signed_word_spec =
+    tie.close
+    (tie.spec
+    cast-result
+    cast-result-2
+    sub-result
+    cast-result-3
+    returns
+    returns-2)
