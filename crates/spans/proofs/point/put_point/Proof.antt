@@ -18,33 +18,33 @@ use Rattle.spans.proofs.point.put_point.Tie as tie
 near : (n : ℕ) (z : ℤ) → SFits w64 z → nat_abs z ≤ n → nat_abs (kept w64 z) ≤ n
 near n z f h = subst (λ x. nat_abs x ≤ n) (sym (kept-is w64 z f)) h
 
-put-number-requires : tie.Need-put-number-requires
+put-number-requires : tie.Need-put_number-on_x-requires
 put-number-requires c κs =
     let s = c.before in
     let n = divisor_of s.args.bits * far_reach in
     (s.requires.0, (near n s.args.x s.ranges.x s.requires.1.0.0, (omega (arith, s.requires.1.1), s.requires.1.1.1)))
 
-add-put-number : tie.Need-overflow-add-put-number
+add-put-number : tie.Need-overflow_add-at
 add-put-number c = search rules
 
 -- the number on x as it was passed
-on-x : (c : tie.After-put-number) → outcome c.put-number.result c.put-number.new.0
-    ≡ rounds (divisor_of c.before.before.args.bits) (c.before.before.args.x ∷ []) c.before.before.args.at c.before.before.args.exact c.before.before.args.points.now
+on-x : (c : tie.After-put_number-on_x) → outcome c.put_number-on_x.result c.put_number-on_x.new.points
+    ≡ rounds (divisor_of c.args.bits) (c.args.x ∷ []) c.args.at c.args.exact c.args.points.now
 on-x c =
     let s = c.before.before in
     let a = s.args in
-    c.put-number.ensures ∙ ap (λ z. rounds (divisor_of a.bits) (z ∷ []) a.at a.exact a.points.now) (kept-is w64 a.x s.ranges.x)
+    c.put_number-on_x.ensures ∙ ap (λ z. rounds (divisor_of a.bits) (z ∷ []) a.at a.exact a.points.now) (kept-is w64 a.x s.ranges.x)
 
-put-number-requires-2 : tie.Need-put-number-requires-2
+put-number-requires-2 : tie.Need-put_number-requires
 put-number-requires-2 c κs =
     let t = c.before.before in
     let s = t.before.before in
     let a = s.args in
     let n = divisor_of a.bits * far_reach in
-    let most = rounds-most (divisor_of a.bits) (a.x ∷ []) a.at a.exact a.points.now (outcome t.put-number.result t.put-number.new.0) (on-x t) in
-    (s.requires.0, (near n a.y s.ranges.y s.requires.1.0.1, (omega (arith, s.requires.1.1, t.put-number.auto.0), omega (arith, most, s.requires.1.1))))
+    let most = rounds-most (divisor_of a.bits) (a.x ∷ []) a.at a.exact a.points.now (outcome t.put_number-on_x.result t.put_number-on_x.new.points) (on-x t) in
+    (s.requires.0, (near n a.y s.ranges.y s.requires.1.0.1, (omega (arith, s.requires.1.1, t.put_number-on_x.auto.points), omega (arith, most, s.requires.1.1))))
 
-same_length : tie.Need-same-length
+same_length : tie.Need-shape_of-points
 same_length c = search rules
 
 returns : tie.Need-returns
@@ -53,10 +53,17 @@ returns c =
     let s = t.before.before in
     let a = s.args in
     let d = divisor_of a.bits in
-    c.before.put-number2.ensures
-    ∙ ap (λ z. rounds d (z ∷ []) (a.at + 1) t.put-number.result t.put-number.new.0) (kept-is w64 a.y s.ranges.y)
+    c.put_number.ensures
+    ∙ ap (λ z. rounds d (z ∷ []) (a.at + 1) t.put_number-on_x.result t.put_number-on_x.new.points) (kept-is w64 a.y s.ranges.y)
     ∙ ap (onward d (a.y ∷ []) (a.at + 1)) (on-x t)
     ∙ rounds-append d (a.x ∷ []) (a.y ∷ []) a.at a.exact a.points.now
 
-pub put-point-spec : {M : Type 1} → statement M
-put-point-spec = tie.close (tie.spec put-number-requires add-put-number put-number-requires-2 same_length returns)
+pub put_point_spec : {M : Type 1} → statement M
+put_point_spec =
+    tie.close
+    (tie.spec
+    put-number-requires
+    add-put-number
+    put-number-requires-2
+    same_length
+    returns)

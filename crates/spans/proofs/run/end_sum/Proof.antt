@@ -33,30 +33,37 @@ module _ (k : ℕ) (q : Four) (h : k ≤ deepest) (inside : Inside widest q) whe
   fits : SFits w64 (pos (2 ^ (3 * k)) *ℤ q.d)
   fits = sfits w64 (pos (2 ^ (3 * k)) *ℤ q.d) (2 ^ most_bits * widest) (le_trans (le_of_eq (nat_abs_mul (pos (2 ^ (3 * k))) q.d)) (mul-le-mul power inside.d)) tt
 
-mul-cubed : tie.Need-overflow-mul-cubed
+mul-cubed : tie.Need-overflow_mul-cubed
 mul-cubed c = search rules
 
-cast-cubed : tie.Need-overflow-cast-cubed
+cast-cubed : tie.Need-overflow_cast-cubed
 cast-cubed c = search rules
 
-shl-cubed : tie.Need-overflow-shl-cubed
+shl-cubed : tie.Need-overflow_shl-cubed
 shl-cubed c = search rules
 
-mul-result : tie.Need-overflow-mul-result
+mul-result : tie.Need-overflow_mul-result
 mul-result c =
-    let a = c.before.before.args in
-    let p = c.before.before.requires in
+    let a = c.args in
+    let p = c.requires in
     subst (SFits w64) (sym (product a.depth a.q p.0 p.1)) (fits a.depth a.q p.0 p.1)
 
 returns : tie.Need-returns
 unfolding cube
 returns c =
-    let a = c.before.before.args in
-    let p = c.before.before.requires in
+    let a = c.args in
+    let p = c.requires in
     ap (kept w64) (product a.depth a.q p.0 p.1)
     ∙ kept-is w64 (pos (2 ^ (3 * a.depth)) *ℤ a.q.d) (fits a.depth a.q p.0 p.1)
     ∙ ap (λ (n : ℕ). pos n *ℤ a.q.d) (thrice a.depth)
     ∙ sym (weighted-end a.q (pos (2 ^ a.depth)))
 
-pub end-sum-spec : {M : Type 1} → statement M
-end-sum-spec = tie.close (tie.spec mul-cubed cast-cubed shl-cubed mul-result returns)
+pub end_sum_spec : {M : Type 1} → statement M
+end_sum_spec =
+    tie.close
+    (tie.spec
+    mul-cubed
+    cast-cubed
+    shl-cubed
+    mul-result
+    returns)

@@ -28,7 +28,7 @@ use Rattle.spans.proofs.Drawables.{span-ready}
 use Rattle.spans.proofs.run.fill_run.Statement.{statement}
 use Rattle.spans.proofs.run.fill_run.Tie as tie
 
-abbrev invariant-loop : tie.invariant-loop
+abbrev invariant-loop : tie.invariant-loop-span
 invariant-loop way table points₀ controls plan from to depth bits stride span₀ at₀ exact₀ points span at exact =
     (stride ≡ per_span plan.depth)
     × (span < to)
@@ -37,37 +37,37 @@ invariant-loop way table points₀ controls plan from to depth bits stride span�
     × (exact ≤ at)
     × (rounds (divisor plan.basis plan.depth) (tab (sum_of plan controls) (span * per_span plan.depth) ((to - span) * per_span plan.depth + 2)) at exact points ≡ fills_run plan from to controls points₀)
 
-abbrev decreases-loop : tie.decreases-loop
+abbrev decreases-loop : tie.decreases-loop-span
 decreases-loop way table points₀ controls plan from to depth bits stride span₀ at₀ exact₀ points span at exact = to - span
 
-divisor-bits-requires : tie.Need-divisor-bits-requires invariant-loop decreases-loop
+divisor-bits-requires : tie.Need-divisor_bits-bits-requires invariant-loop decreases-loop
 divisor-bits-requires c κs = c.requires.0.deep
 
 -- the divisor by its bits is that of the basis at the depth
-over : (c : tie.After-divisor-bits invariant-loop decreases-loop) → divisor_of c.divisor-bits.result ≡ divisor c.before.args.plan.basis c.before.args.plan.depth
-over c = ap divisor_of c.divisor-bits.ensures ∙ sym (divisor-bits c.before.args.plan.basis c.before.args.plan.depth)
+over : (c : tie.After-divisor_bits-bits invariant-loop decreases-loop) → divisor_of c.divisor_bits-bits.result ≡ divisor c.args.plan.basis c.args.plan.depth
+over c = ap divisor_of c.divisor_bits-bits.ensures ∙ sym (divisor-bits c.args.plan.basis c.args.plan.depth)
 
-bits_small : (c : tie.After-divisor-bits invariant-loop decreases-loop) → c.divisor-bits.result ≤ most_bits
-bits_small c = subst (λ (n : ℕ). n ≤ most_bits) (sym c.divisor-bits.ensures) (bits_most c.before.args.plan.basis c.before.args.plan.depth c.before.requires.0.deep)
+bits_small : (c : tie.After-divisor_bits-bits invariant-loop decreases-loop) → c.divisor_bits-bits.result ≤ most_bits
+bits_small c = subst (λ (n : ℕ). n ≤ most_bits) (sym c.divisor_bits-bits.ensures) (bits_most c.args.plan.basis c.args.plan.depth c.requires.0.deep)
 
 -- a place in a run of spans
 place-small : (k s : ℕ) → k ≤ deepest → s ≤ most_records → s * per_span k ≤ most_records * per_span deepest
 place-small k s h b = mul-le-mul b (mul-le-mul (le_refl 2) (pow_mono {i = k} {j = deepest} h))
 
-shl-stride : tie.Need-overflow-shl-stride invariant-loop decreases-loop
+shl-stride : tie.Need-overflow_shl-stride invariant-loop decreases-loop
 shl-stride c = omega arith
 
-mul_at : tie.Need-overflow-mul-at invariant-loop decreases-loop
+mul_at : tie.Need-overflow_mul-at invariant-loop decreases-loop
 mul_at c =
-    let a = c.before.args in
+    let a = c.args in
     let k = a.plan.depth in
-    omega (arith, ap (λ (n : ℕ). a.from * n) (stride-is k c.before.requires.0.deep), place-small k a.from c.before.requires.0.deep (omega arith))
+    omega (arith, ap (λ (n : ℕ). a.from * n) (stride-is k c.requires.0.deep), place-small k a.from c.requires.0.deep (omega arith))
 
-loop-holds : tie.Need-loop-init invariant-loop decreases-loop
+loop-holds : tie.Need-loop-span-init invariant-loop decreases-loop
 loop-holds c =
-    let a = c.before.args in
+    let a = c.args in
     let w = per_span a.plan.depth in
-    let e = stride-is a.plan.depth c.before.requires.0.deep in
+    let e = stride-is a.plan.depth c.requires.0.deep in
     let at = ap (λ (n : ℕ). a.from * n) e in (
       e,
       omega arith,
@@ -78,10 +78,10 @@ loop-holds c =
           ∙ rounds-outline a.plan a.controls.now (a.from * w) ((a.to - a.from) * w + 2) a.points.now,
     )
 
-span-controls-requires : tie.Need-span-controls-requires invariant-loop decreases-loop
-span-controls-requires c κs = let p = c.before.before.requires.0 in ((omega (arith, c.loop.invariant.1, p.there), lit< tt), p.drawable)
+span-controls-requires : tie.Need-span_controls-x-requires invariant-loop decreases-loop
+span-controls-requires c κs = let p = c.requires.0 in ((omega (arith, c.loop-span.invariant.1, p.there), lit< tt), p.drawable)
 
-span-controls-requires-2 : tie.Need-span-controls-requires-2 invariant-loop decreases-loop
+span-controls-requires-2 : tie.Need-span_controls-y-requires invariant-loop decreases-loop
 span-controls-requires-2 c κs = let r = span-controls-requires c.before κs in ((r.0.0, lit< tt), r.1)
 
 -- a span of the run ends in it, and the run in the list
@@ -93,91 +93,91 @@ ready : (p : Plan) (controls : List ℤ) (from to n s axis : ℕ) → Fillable p
 ready p controls from to n s axis f below h q e = subst (Ready p.depth (divisor p.basis p.depth)) (sym e) (span-ready p controls f.drawable s axis (omega (arith, below, f.there)) h)
 
 -- both axes' controls of a turn
-both-ready : (c : tie.After-span-controls2 invariant-loop decreases-loop)
-    → Ready c.before.before.before.before.args.plan.depth (divisor_of c.before.before.before.divisor-bits.result) c.before.span-controls.result
-    × Ready c.before.before.before.before.args.plan.depth (divisor_of c.before.before.before.divisor-bits.result) c.span-controls2.result
+both-ready : (c : tie.After-span_controls-y invariant-loop decreases-loop)
+    → Ready c.args.plan.depth (divisor_of c.divisor_bits-bits.result) c.span_controls-x.result
+    × Ready c.args.plan.depth (divisor_of c.divisor_bits-bits.result) c.span_controls-y.result
 both-ready c =
     let d = c.before.before.before in
     let s = d.before in
     let a = s.args in
-    let l = c.before.before.loop in
+    let l = c.loop-span in
     let on = ready a.plan a.controls.now a.from a.to (length a.points.now) l.span in
-    subst (λ (n : ℕ). Ready a.plan.depth n c.before.span-controls.result × Ready a.plan.depth n c.span-controls2.result) (sym (over d))
-    (on 0 s.requires.0 l.invariant.1 (lit< tt) c.before.span-controls.result c.before.span-controls.ensures, on 1 s.requires.0 l.invariant.1 (lit< tt) c.span-controls2.result c.span-controls2.ensures)
+    subst (λ (n : ℕ). Ready a.plan.depth n c.span_controls-x.result × Ready a.plan.depth n c.span_controls-y.result) (sym (over d))
+    (on 0 s.requires.0 l.invariant.1 (lit< tt) c.span_controls-x.result c.span_controls-x.ensures, on 1 s.requires.0 l.invariant.1 (lit< tt) c.span_controls-y.result c.span_controls-y.ensures)
 
-fill-span-requires : tie.Need-fill-span-requires invariant-loop decreases-loop
+fill-span-requires : tie.Need-fill_span-exact-requires invariant-loop decreases-loop
 fill-span-requires c κs =
     let t = c.before.before.before in
     let s = t.before.before in
     let a = s.args in
-    let l = t.loop in
+    let l = t.loop-span in
     let k = a.plan.depth in (
       (s.requires.0.deep, bits_small t.before),
       (both-ready c.before, ((omega (arith, l.invariant.2, l.invariant.3, room k l.span a.to (length a.points.now) l.invariant.1 s.requires.0.room), l.invariant.4), s.requires.1)),
     )
 
-add-span : tie.Need-overflow-add-span invariant-loop decreases-loop
-add-span c = let t = c.before.before.before.before.before in omega (arith, t.loop.invariant.1, t.before.before.requires.0.there, t.before.before.requires.0.drawable.few)
+add-span : tie.Need-overflow_add-span invariant-loop decreases-loop
+add-span c = let t = c.before.before.before.before.before in omega (arith, t.loop-span.invariant.1, t.requires.0.there, t.requires.0.drawable.few)
 
 -- the start of the turn that fills a span
-abbrev turn : tie.After-fill-span invariant-loop decreases-loop → tie.At-loop invariant-loop decreases-loop
+abbrev turn : tie.After-fill_span-exact invariant-loop decreases-loop → tie.At-loop-span invariant-loop decreases-loop
 turn c = c.before.before.before.before
 
 -- the next span's place
-next-at : (c : tie.After-fill-span invariant-loop decreases-loop) → (turn c).loop.at + 2 * 2 ^ (turn c).before.before.args.plan.depth % 2 ^ 64
-    ≡ ((turn c).loop.span + 1) * per_span (turn c).before.before.args.plan.depth
+next-at : (c : tie.After-fill_span-exact invariant-loop decreases-loop) → (turn c).loop-span.at + 2 * 2 ^ (turn c).args.plan.depth % 2 ^ 64
+    ≡ ((turn c).loop-span.span + 1) * per_span (turn c).args.plan.depth
 next-at c =
     let t = turn c in
-    let k = t.before.before.args.plan.depth in
-    let n = t.loop.span in
-    omega (arith, t.loop.inv.2, stride-is k t.before.before.pre.0.deep, ap (λ (m : ℕ). m * per_span k) (add-one n), suc-mul n (per_span k))
+    let k = t.args.plan.depth in
+    let n = t.loop-span.span in
+    omega (arith, t.loop-span.invariant.2, stride-is k t.requires.0.deep, ap (λ (m : ℕ). m * per_span k) (add-one n), suc-mul n (per_span k))
 
-add_at : tie.Need-overflow-add-at invariant-loop decreases-loop
+add_at : tie.Need-overflow_add-at invariant-loop decreases-loop
 add_at c =
     let t = c.before.before.before.before.before in
-    let p = t.before.before.requires.0 in
-    let k = t.before.before.args.plan.depth in
-    omega (arith, next-at c.before, place-small k (t.loop.span + 1) p.deep (omega (arith, t.loop.invariant.1, p.there, p.drawable.few)))
+    let p = t.requires.0 in
+    let k = t.args.plan.depth in
+    omega (arith, next-at c.before, place-small k (t.loop-span.span + 1) p.deep (omega (arith, t.loop-span.invariant.1, p.there, p.drawable.few)))
 
 -- a turn rounds the next span's sums
-rounded : (c : tie.After-fill-span invariant-loop decreases-loop) → outcome c.fill-span.result c.fill-span.new.1.1.0
-    ≡ rounds (divisor (turn c).before.before.args.plan.basis (turn c).before.before.args.plan.depth)
-    (tab (sum_of (turn c).before.before.args.plan (turn c).before.before.args.controls.now) ((turn c).loop.span * per_span (turn c).before.before.args.plan.depth) (per_span (turn c).before.before.args.plan.depth))
-    (turn c).loop.at (turn c).loop.exact (turn c).loop.points
+rounded : (c : tie.After-fill_span-exact invariant-loop decreases-loop) → outcome c.fill_span-exact.result c.fill_span-exact.new.points
+    ≡ rounds (divisor (turn c).args.plan.basis (turn c).args.plan.depth)
+    (tab (sum_of (turn c).args.plan (turn c).args.controls.now) ((turn c).loop-span.span * per_span (turn c).args.plan.depth) (per_span (turn c).args.plan.depth))
+    (turn c).loop-span.at (turn c).loop-span.exact (turn c).loop-span.points
 rounded c =
     let t = turn c in
-    let a = t.before.before.args in
-    let l = t.loop in
+    let a = t.args in
+    let l = t.loop-span in
     let k = a.plan.depth in
     let d = divisor a.plan.basis k in
-    let x = c.before.before.before.span-controls.ensures in
-    let y = c.before.before.span-controls2.ensures in
-    c.fill-span.ensures
+    let x = c.span_controls-x.ensures in
+    let y = c.span_controls-y.ensures in
+    c.fill_span-exact.ensures
     ∙ (λ i. rounds (over t.before i) (tab (paired k (x i) (y i)) 0 (per_span k)) l.at l.exact l.points)
-    ∙ ap (λ sums. rounds d sums l.at l.exact l.points) (sym (span-sums a.plan a.controls.now l.span (omega (arith, l.inv.1, t.before.before.pre.0.there))))
+    ∙ ap (λ sums. rounds d sums l.at l.exact l.points) (sym (span-sums a.plan a.controls.now l.span (omega (arith, l.invariant.1, t.requires.0.there))))
 
 -- no more are exact after it than the numbers before the next span
-few : (c : tie.After-fill-span invariant-loop decreases-loop) → c.fill-span.result ≤ (turn c).loop.at + 2 * 2 ^ (turn c).before.before.args.plan.depth % 2 ^ 64
+few : (c : tie.After-fill_span-exact invariant-loop decreases-loop) → c.fill_span-exact.result ≤ (turn c).loop-span.at + 2 * 2 ^ (turn c).args.plan.depth % 2 ^ 64
 few c =
     let t = turn c in
-    let a = t.before.before.args in
-    let l = t.loop in
+    let a = t.args in
+    let l = t.loop-span in
     let k = a.plan.depth in
     let f = sum_of a.plan a.controls.now in
     let sums = tab f (l.span * per_span k) (per_span k) in
     omega
-    (arith, l.inv.4, stride-is k t.before.before.pre.0.deep, length-tab f (l.span * per_span k) (per_span k), rounds-most (divisor a.plan.basis k) sums l.at l.exact l.points (outcome c.fill-span.result c.fill-span.new.1.1.0) (rounded c))
+    (arith, l.invariant.4, stride-is k t.requires.0.deep, length-tab f (l.span * per_span k) (per_span k), rounds-most (divisor a.plan.basis k) sums l.at l.exact l.points (outcome c.fill_span-exact.result c.fill_span-exact.new.points) (rounded c))
 
 -- what is still to be drawn after a turn, rounded to what it leaves, makes the whole
-still : (c : tie.After-fill-span invariant-loop decreases-loop)
-    → rounds (divisor (turn c).before.before.args.plan.basis (turn c).before.before.args.plan.depth)
-    (tab (sum_of (turn c).before.before.args.plan (turn c).before.before.args.controls.now) (((turn c).loop.span + 1) * per_span (turn c).before.before.args.plan.depth) (((turn c).before.before.args.to - ((turn c).loop.span + 1)) * per_span (turn c).before.before.args.plan.depth + 2))
-    ((turn c).loop.at + 2 * 2 ^ (turn c).before.before.args.plan.depth % 2 ^ 64) c.fill-span.result c.fill-span.new.1.1.0
-    ≡ fills_run (turn c).before.before.args.plan (turn c).before.before.args.from (turn c).before.before.args.to (turn c).before.before.args.controls.now (turn c).before.before.args.points.now
+still : (c : tie.After-fill_span-exact invariant-loop decreases-loop)
+    → rounds (divisor (turn c).args.plan.basis (turn c).args.plan.depth)
+    (tab (sum_of (turn c).args.plan (turn c).args.controls.now) (((turn c).loop-span.span + 1) * per_span (turn c).args.plan.depth) (((turn c).args.to - ((turn c).loop-span.span + 1)) * per_span (turn c).args.plan.depth + 2))
+    ((turn c).loop-span.at + 2 * 2 ^ (turn c).args.plan.depth % 2 ^ 64) c.fill_span-exact.result c.fill_span-exact.new.points
+    ≡ fills_run (turn c).args.plan (turn c).args.from (turn c).args.to (turn c).args.controls.now (turn c).args.points.now
 still c =
     let t = turn c in
-    let a = t.before.before.args in
-    let l = t.loop in
+    let a = t.args in
+    let l = t.loop-span in
     let k = a.plan.depth in
     let d = divisor a.plan.basis k in
     let w = per_span k in
@@ -185,46 +185,63 @@ still c =
     let here = tab f (l.span * w) w in
     let rest = tab f ((l.span + 1) * w) ((a.to - (l.span + 1)) * w + 2) in
     ap (onward d rest (l.at + 2 * 2 ^ k % 2 ^ 64)) (rounded c)
-    ∙ ap (λ (n : ℕ). onward d rest (l.at + n) (rounds d here l.at l.exact l.points)) (stride-is k t.before.before.pre.0.deep ∙ sym (length-tab f (l.span * w) w))
+    ∙ ap (λ (n : ℕ). onward d rest (l.at + n) (rounds d here l.at l.exact l.points)) (stride-is k t.requires.0.deep ∙ sym (length-tab f (l.span * w) w))
     ∙ rounds-append d here rest l.at l.exact l.points
-    ∙ ap (λ sums. rounds d sums l.at l.exact l.points) (sym (next-span f k a.to l.span l.inv.1))
-    ∙ l.inv.5
+    ∙ ap (λ sums. rounds d sums l.at l.exact l.points) (sym (next-span f k a.to l.span l.invariant.1))
+    ∙ l.invariant.5
 
-put-end-requires : tie.Need-put-end-requires invariant-loop decreases-loop
+put-end-requires : tie.Need-put_end-requires invariant-loop decreases-loop
 put-end-requires c κs =
     let f = c.before.before.before in
     let t = turn f in
     let s = t.before.before in
     let k = s.args.plan.depth in
-    let within : (t.loop.span + 1) * per_span k ≤ s.args.to * per_span k = mul-le-mul_right {m = t.loop.span + 1} {n = s.args.to} (per_span k) (omega (arith, t.loop.inv.1)) in
-    ((s.pre.0.deep, bits_small t.before), (both-ready f.before.before, (omega (arith, next-at f, within, s.pre.0.room, f.fill-span.auto.1.1.0, t.loop.inv.3), few f)))
+    let within : (t.loop-span.span + 1) * per_span k ≤ s.args.to * per_span k = mul-le-mul_right {m = t.loop-span.span + 1} {n = s.args.to} (per_span k) (omega (arith, t.loop-span.invariant.1)) in
+    ((s.requires.0.deep, bits_small t.before), (both-ready f.before.before, (omega (arith, next-at f, within, s.requires.0.room, f.fill_span-exact.auto.points, t.loop-span.invariant.3), few f)))
 
-same_length : tie.Need-same-length invariant-loop decreases-loop
-same_length c = c.before.put-end.auto.0 ∙ c.before.before.before.before.before.fill-span.auto.1.1.0 ∙ c.before.before.before.before.before.before.before.before.before.loop.invariant.3
+same_length : tie.Need-shape_of-points-then-to-span invariant-loop decreases-loop
+same_length c = c.put_end.auto.points ∙ c.fill_span-exact.auto.points ∙ c.loop-span.invariant.3
 
-returns : tie.Need-returns invariant-loop decreases-loop
+returns : tie.Need-returns-then-to-span invariant-loop decreases-loop
 returns c =
     let f = c.before.before.before.before.before in
     let t = turn f in
-    let a = t.before.before.args in
-    let l = t.loop in
+    let a = t.args in
+    let l = t.loop-span in
     let k = a.plan.depth in
-    let end : ℕ → List ℤ → Outcome ℕ (List ℤ) = λ d sums. rounds d sums (l.at + 2 * 2 ^ k % 2 ^ 64) f.fill-span.result f.fill-span.new.1.1.0 in
-    let x = f.before.before.before.span-controls.ensures in
-    let y = f.before.before.span-controls2.ensures in
-    c.before.put-end.ensures
+    let end : ℕ → List ℤ → Outcome ℕ (List ℤ) = λ d sums. rounds d sums (l.at + 2 * 2 ^ k % 2 ^ 64) f.fill_span-exact.result f.fill_span-exact.new.points in
+    let x = f.span_controls-x.ensures in
+    let y = f.span_controls-y.ensures in
+    c.put_end.ensures
     ∙ (λ i. end (over t.before i) (ending k (x i) (y i)))
-    ∙ ap (end (divisor a.plan.basis k)) (sym (last-two a.plan a.controls.now a.to l.span (omega (arith, l.inv.1, t.before.before.pre.0.there)) (omega (arith, c.before.before.before))))
+    ∙ ap (end (divisor a.plan.basis k)) (sym (last-two a.plan a.controls.now a.to l.span (omega (arith, l.invariant.1, t.requires.0.there)) (omega (arith, c.before.before.before))))
     ∙ still f
 
-loop-less : tie.Need-loop-smaller invariant-loop decreases-loop
-loop-less c = let t = c.before.before.before.before.before.before in omega (arith, t.loop.invariant.1)
+loop-less : tie.Need-loop-span-smaller invariant-loop decreases-loop
+loop-less c = let t = c.before.before.before.before.before.before in omega (arith, t.loop-span.invariant.1)
 
-loop-again : tie.Need-loop-preserved invariant-loop decreases-loop
+loop-again : tie.Need-loop-span-preserved invariant-loop decreases-loop
 loop-again c =
     let f = c.before.before in
-    let l = (turn f).loop in
-    (l.inv.0, omega arith, next-at f, f.fill-span.auto.1.1.0 ∙ l.inv.3, few f, still f)
+    let l = (turn f).loop-span in
+    (l.invariant.0, omega arith, next-at f, f.fill_span-exact.auto.points ∙ l.invariant.3, few f, still f)
 
-pub fill-run-spec : {M : Type 1} → statement M
-fill-run-spec = tie.close (tie.spec invariant-loop decreases-loop divisor-bits-requires shl-stride mul_at loop-holds span-controls-requires span-controls-requires-2 fill-span-requires add-span add_at put-end-requires same_length returns loop-less loop-again)
+pub fill_run_spec : {M : Type 1} → statement M
+fill_run_spec =
+    tie.close
+    (tie.spec
+    invariant-loop decreases-loop
+    divisor-bits-requires
+    shl-stride
+    mul_at
+    loop-holds
+    span-controls-requires
+    span-controls-requires-2
+    fill-span-requires
+    add-span
+    add_at
+    put-end-requires
+    same_length
+    returns
+    loop-less
+    loop-again)

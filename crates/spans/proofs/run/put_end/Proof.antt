@@ -13,20 +13,20 @@ use Rattle.spans.specs.Inner.{rounds}
 use Rattle.spans.proofs.run.put_end.Statement.{statement}
 use Rattle.spans.proofs.run.put_end.Tie as tie
 
-end-sum-requires : tie.Need-end-sum-requires
+end-sum-requires : tie.Need-end_sum-requires
 end-sum-requires c κs = search rules
 
-end-sum-requires-2 : tie.Need-end-sum-requires-2
+end-sum-requires-2 : tie.Need-end_sum-requires-2
 end-sum-requires-2 c κs = search rules
 
 -- the sums as the machine keeps them
-sum-x : (c : tie.After-end-sum) → kept w64 c.end-sum.result ≡ weighted c.before.before.args.x (pos (2 ^ c.before.before.args.depth)) (pos (2 ^ c.before.before.args.depth))
-sum-x c = kept-is w64 c.end-sum.result (record { sfits = c.end-sum.type-inv }) ∙ c.end-sum.ensures
+sum-x : (c : tie.After-end_sum) → kept w64 c.end_sum.result ≡ weighted c.args.x (pos (2 ^ c.args.depth)) (pos (2 ^ c.args.depth))
+sum-x c = kept-is w64 c.end_sum.result (record { sfits = c.end_sum.type_inv }) ∙ c.end_sum.ensures
 
-sum-y : (c : tie.After-end-sum2) → kept w64 c.end-sum2.result ≡ weighted c.before.before.before.args.y (pos (2 ^ c.before.before.before.args.depth)) (pos (2 ^ c.before.before.before.args.depth))
-sum-y c = kept-is w64 c.end-sum2.result (record { sfits = c.end-sum2.type-inv }) ∙ c.end-sum2.ensures
+sum-y : (c : tie.After-end_sum-2) → kept w64 c.end_sum-2.result ≡ weighted c.args.y (pos (2 ^ c.args.depth)) (pos (2 ^ c.args.depth))
+sum-y c = kept-is w64 c.end_sum-2.result (record { sfits = c.end_sum-2.type_inv }) ∙ c.end_sum-2.ensures
 
-put-point-requires : tie.Need-put-point-requires
+put-point-requires : tie.Need-put_point-requires
 put-point-requires c κs =
     let s = c.before.before.before in
     let n = divisor_of s.args.bits * far_reach in
@@ -34,14 +34,21 @@ put-point-requires c κs =
     let last = le_refl (2 ^ s.args.depth) in
     (p.0.1, ((subst (λ z. nat_abs z ≤ n) (sym (sum-x c.before)) (p.1.0.0.near _ last), subst (λ z. nat_abs z ≤ n) (sym (sum-y c)) (p.1.0.1.near _ last)), p.1.1))
 
-same_length : tie.Need-same-length
+same_length : tie.Need-shape_of-points
 same_length c = search rules
 
 returns : tie.Need-returns
 returns c =
     let t = c.before.before in
-    let a = t.before.before.before.args in
-    c.before.put-point.ensures ∙ (λ i. rounds (divisor_of a.bits) (sum-x t.before i ∷ sum-y t i ∷ []) a.at a.exact a.points.now)
+    let a = t.args in
+    c.put_point.ensures ∙ (λ i. rounds (divisor_of a.bits) (sum-x t.before i ∷ sum-y t i ∷ []) a.at a.exact a.points.now)
 
-pub put-end-spec : {M : Type 1} → statement M
-put-end-spec = tie.close (tie.spec end-sum-requires end-sum-requires-2 put-point-requires same_length returns)
+pub put_end_spec : {M : Type 1} → statement M
+put_end_spec =
+    tie.close
+    (tie.spec
+    end-sum-requires
+    end-sum-requires-2
+    put-point-requires
+    same_length
+    returns)

@@ -14,31 +14,31 @@ use Rattle.spans.proofs.Rounds.{rounds-outline}
 use Rattle.spans.proofs.run.put_joint.Statement.{statement}
 use Rattle.spans.proofs.run.put_joint.Tie as tie
 
-divisor-bits-requires : tie.Need-divisor-bits-requires
+divisor-bits-requires : tie.Need-divisor_bits-bits-requires
 divisor-bits-requires c κs = search rules
 
-sub-last : tie.Need-overflow-sub-last
+sub-last : tie.Need-overflow_sub-last
 sub-last c = search rules
 
-span-controls-requires : tie.Need-span-controls-requires
+span-controls-requires : tie.Need-span_controls-x-requires
 span-controls-requires c κs = search rules
 
-span-controls-requires-2 : tie.Need-span-controls-requires-2
+span-controls-requires-2 : tie.Need-span_controls-y-requires
 span-controls-requires-2 c κs = search rules
 
-over : (c : tie.After-divisor-bits) → divisor_of c.divisor-bits.result ≡ divisor c.before.args.plan.basis c.before.args.plan.depth
-over c = ap divisor_of c.divisor-bits.ensures ∙ sym (divisor-bits c.before.args.plan.basis c.before.args.plan.depth)
+over : (c : tie.After-divisor_bits-bits) → divisor_of c.divisor_bits-bits.result ≡ divisor c.args.plan.basis c.args.plan.depth
+over c = ap divisor_of c.divisor_bits-bits.ensures ∙ sym (divisor-bits c.args.plan.basis c.args.plan.depth)
 
-put-end-requires : tie.Need-put-end-requires
+put-end-requires : tie.Need-put_end-requires
 put-end-requires c κs =
     let d = c.before.before.before.before in
     let s = d.before in
     let p = s.args.plan in
-    let ready = subst (λ (n : ℕ). Ready p.depth n c.before.before.span-controls.result × Ready p.depth n c.before.span-controls2.result) (sym (over d))
-    (subst (Ready p.depth (divisor p.basis p.depth)) (sym c.before.before.span-controls.ensures) (span-ready p s.args.controls.now s.requires.0.2 (p.spans - 1) 0 (omega (arith, s.requires.0.1)) (lit< tt)), subst (Ready p.depth (divisor p.basis p.depth)) (sym c.before.span-controls2.ensures) (span-ready p s.args.controls.now s.requires.0.2 (p.spans - 1) 1 (omega (arith, s.requires.0.1)) (lit< tt))) in
-    ((s.requires.0.0, subst (λ (n : ℕ). n ≤ most_bits) (sym d.divisor-bits.ensures) (bits_most p.basis p.depth s.requires.0.0)), (ready, (s.requires.1.1, omega arith)))
+    let ready = subst (λ (n : ℕ). Ready p.depth n c.span_controls-x.result × Ready p.depth n c.span_controls-y.result) (sym (over d))
+    (subst (Ready p.depth (divisor p.basis p.depth)) (sym c.span_controls-x.ensures) (span-ready p s.args.controls.now s.requires.0.2 (p.spans - 1) 0 (omega (arith, s.requires.0.1)) (lit< tt)), subst (Ready p.depth (divisor p.basis p.depth)) (sym c.span_controls-y.ensures) (span-ready p s.args.controls.now s.requires.0.2 (p.spans - 1) 1 (omega (arith, s.requires.0.1)) (lit< tt))) in
+    ((s.requires.0.0, subst (λ (n : ℕ). n ≤ most_bits) (sym d.divisor_bits-bits.ensures) (bits_most p.basis p.depth s.requires.0.0)), (ready, (s.requires.1.1, omega arith)))
 
-same_length : tie.Need-same-length
+same_length : tie.Need-shape_of-points
 same_length c = search rules
 
 returns : tie.Need-returns
@@ -48,13 +48,13 @@ returns c =
     let s = d.before in
     let a = s.args in
     let p = a.plan in
-    c.before.put-end.ensures
-    ∙ (λ i. rounds (over d i) (ending p.depth (y.before.span-controls.ensures i) (y.span-controls2.ensures i)) a.at 0 a.points.now)
+    c.put_end.ensures
+    ∙ (λ i. rounds (over d i) (ending p.depth (y.span_controls-x.ensures i) (y.span_controls-y.ensures i)) a.at 0 a.points.now)
     ∙ ap (λ sums. rounds (divisor p.basis p.depth) sums a.at 0 a.points.now) (sym (joint-sums p a.controls.now s.requires.0.2.round s.requires.1.0.0 s.requires.0.1 a.at s.requires.1.0))
     ∙ rounds-outline p a.controls.now a.at 2 a.points.now
 
-pub put-joint-spec : {M : Type 1} → statement M
-put-joint-spec =
+pub put_joint_spec : {M : Type 1} → statement M
+put_joint_spec =
     tie.close
     (tie.spec
     divisor-bits-requires

@@ -28,10 +28,10 @@ steps-is k h = ap (to_z w64) (shift_one k (omega arith)) ∙ to_z_pos w64 (2 ^ k
 few : (k : ℕ) → k ≤ deepest → nat_abs (to_z w64 (1 * 2 ^ k % 2 ^ 64)) ≤ 2 ^ deepest
 few k h = subst (λ z. nat_abs z ≤ 2 ^ deepest) (sym (steps-is k h)) (pow_mono {i = k} {j = deepest} h)
 
-cast-steps : tie.Need-overflow-cast-steps
+cast-steps : tie.Need-overflow_cast-steps
 cast-steps c = search rules
 
-shl-steps : tie.Need-overflow-shl-steps
+shl-steps : tie.Need-overflow_shl-steps
 shl-steps c = search rules
 
 begin-requires : tie.Need-begin-requires
@@ -41,13 +41,13 @@ begin-requires-2 : tie.Need-begin-requires-2
 begin-requires-2 c κs = let s = c.before.before in (s.requires.1.0.1.inside, few s.args.depth s.requires.0.0)
 
 -- the states that `begin` answers
-begun-x : (c : tie.After-begin) → c.begin.result ≡ differences c.before.before.args.x (pos (2 ^ c.before.before.args.depth))
+begun-x : (c : tie.After-begin) → c.begin.result ≡ differences c.args.x (pos (2 ^ c.args.depth))
 begun-x c = let s = c.before.before in c.begin.ensures ∙ ap (differences s.args.x) (steps-is s.args.depth s.requires.0.0)
 
-begun-y : (c : tie.After-begin2) → c.begin2.result ≡ differences c.before.before.before.args.y (pos (2 ^ c.before.before.before.args.depth))
-begun-y c = let s = c.before.before.before in c.begin2.ensures ∙ ap (differences s.args.y) (steps-is s.args.depth s.requires.0.0)
+begun-y : (c : tie.After-begin-2) → c.begin-2.result ≡ differences c.args.y (pos (2 ^ c.args.depth))
+begun-y c = let s = c.before.before.before in c.begin-2.ensures ∙ ap (differences s.args.y) (steps-is s.args.depth s.requires.0.0)
 
-fill-steps-requires : tie.Need-fill-steps-requires
+fill-steps-requires : tie.Need-fill_steps-requires
 fill-steps-requires c κs =
     let s = c.before.before.before in
     let a = s.args in
@@ -62,21 +62,30 @@ fill-steps-requires c κs =
       ),
     )
 
-same_length : tie.Need-same-length
+same_length : tie.Need-shape_of-points
 same_length c = search rules
 
 returns : tie.Need-returns
 returns c =
     let t = c.before.before in
-    let a = t.before.before.before.args in
+    let a = t.args in
     let k = a.depth in
     let d = divisor_of a.bits in
     let x = begun-x t.before in
     let y = begun-y t in
-    c.before.fill-steps.ensures
+    c.fill_steps.ensures
     ∙ (λ i. rounds d (tab (stepped (x i) (y i)) 0 (per_span k)) a.at a.exact a.points.now)
     ∙ ap (λ sums. rounds d sums a.at a.exact a.points.now)
     (tab-same (stepped (differences a.x (pos (2 ^ k))) (differences a.y (pos (2 ^ k)))) (paired k a.x a.y) 0 0 (per_span k) (λ j b. stepped-paired k a.x a.y _))
 
-pub fill-span-spec : {M : Type 1} → statement M
-fill-span-spec = tie.close (tie.spec cast-steps shl-steps begin-requires begin-requires-2 fill-steps-requires same_length returns)
+pub fill_span_spec : {M : Type 1} → statement M
+fill_span_spec =
+    tie.close
+    (tie.spec
+    cast-steps
+    shl-steps
+    begin-requires
+    begin-requires-2
+    fill-steps-requires
+    same_length
+    returns)
