@@ -6,30 +6,39 @@ use Rattle.outline.proofs.Draws.{draws-sound, draws-unsound}
 use Rattle.outline.proofs.draw.Statement.{statement}
 use Rattle.outline.proofs.draw.Tie as tie
 
-check-shape-requires : tie.Need-check-shape-requires
+check-shape-requires : tie.Need-check_shape-requires
 check-shape-requires c κs = search rules
 
-enum-known-refusal : tie.Need-enum-known-refusal
+enum-known-refusal : tie.Need-enum_known-refusal
 enum-known-refusal c = search rules
 
-enum-known-plan : tie.Need-enum-known-plan
+enum-known-plan : tie.Need-enum_known-plan
 enum-known-plan c = search rules
 
-draw-plan-requires : tie.Need-draw-plan-requires
-draw-plan-requires c κs = sound-facts c.before.before.before.before.before.args.shape c.before.before.plan.given.0.0 (sym c.before.before.before.before.check-shape.ensures ∙ c.before.before.plan.given.1)
+draw-plan-requires : tie.Need-draw_plan-requires
+draw-plan-requires c κs = sound-facts c.args.shape c.in-Sound.plan (sym c.check_shape.ensures ∙ c.in-Sound.is)
 
-returns : tie.Need-returns
+returns : tie.Need-returns-in-Unsound
 returns c =
-    let a = c.before.before.before.before.args in
-    sym (draws-unsound a.shape c.before.refusal.given.0.0 (sym c.before.before.before.check-shape.ensures ∙ c.before.refusal.given.1) a.controls.now a.points.now)
+    let a = c.args in
+    sym (draws-unsound a.shape c.in-Unsound.refusal (sym c.check_shape.ensures ∙ c.in-Unsound.is) a.controls.now a.points.now)
 
-same_length : tie.Need-same-length
+same_length : tie.Need-shape_of-points
 same_length c = search rules
 
-returns-2 : tie.Need-returns-2
+returns-2 : tie.Need-returns-in-Sound
 returns-2 c =
-    let a = c.before.before.before.before.before.before.before.args in
-    c.before.draw-plan.ensures ∙ sym (draws-sound a.shape c.before.before.before.before.plan.given.0.0 (sym c.before.before.before.before.before.before.check-shape.ensures ∙ c.before.before.before.before.plan.given.1) a.controls.now a.points.now)
+    let a = c.args in
+    c.draw_plan.ensures ∙ sym (draws-sound a.shape c.in-Sound.plan (sym c.check_shape.ensures ∙ c.in-Sound.is) a.controls.now a.points.now)
 
-pub draw-spec : {M : Type 1} → statement M
-draw-spec = tie.close (tie.spec check-shape-requires enum-known-refusal enum-known-plan draw-plan-requires returns same_length returns-2)
+pub draw_spec : {M : Type 1} → statement M
+draw_spec =
+    tie.close
+    (tie.spec
+    check-shape-requires
+    enum-known-refusal
+    enum-known-plan
+    draw-plan-requires
+    returns
+    same_length
+    returns-2)

@@ -12,7 +12,7 @@ use Rattle.curve.proofs.Fills.{as_read, fill-next, fill_done}
 use Rattle.asked.proofs.carrying.carry_back.Statement.{statement}
 use Rattle.asked.proofs.carrying.carry_back.Tie as tie
 
-abbrev invariant-loop : tie.invariant-loop
+abbrev invariant-loop : tie.invariant-loop-q
 invariant-loop list₀ from to by q₀ list q =
     (from ≤ q)
     × (q ≤ to)
@@ -20,41 +20,41 @@ invariant-loop list₀ from to by q₀ list q =
     × ((i : ℕ) → q ≤ i → get_or list i (pos 0) ≡ get_or list₀ i (pos 0))
     × (sets list q (tab (λ i. get_or list₀ (i + by) (pos 0)) q (to - q)) ≡ filled (λ i. get_or list₀ (i + by) (pos 0)) from (to - from) list₀)
 
-abbrev decreases-loop : tie.decreases-loop
+abbrev decreases-loop : tie.decreases-loop-q
 decreases-loop list₀ from to by q₀ list q = to - q
 
-loop-holds : tie.Need-loop-init invariant-loop decreases-loop
+loop-holds : tie.Need-loop-q-init invariant-loop decreases-loop
 loop-holds c = (omega arith, c.requires.0, refl, (λ i h. refl), refl)
 
-add-list : tie.Need-overflow-add-list invariant-loop decreases-loop
+add-list : tie.Need-overflow_add-list invariant-loop decreases-loop
 add-list c = search rules
 
-mul-list : tie.Need-overflow-mul-list invariant-loop decreases-loop
+mul-list : tie.Need-offset_bounds-list-q invariant-loop decreases-loop
 mul-list c = search rules
 
-slice-copy-out-list : tie.Need-slice-copy-out-list invariant-loop decreases-loop
-slice-copy-out-list c = omega (arith, c.before.loop.invariant.2, c.before.before.requires.1)
+slice-copy-out-list : tie.Need-slice_copy_out-list invariant-loop decreases-loop
+slice-copy-out-list c = omega (arith, c.loop-q.invariant.2, c.requires.1)
 
-mul-t11 : tie.Need-overflow-mul-t11 invariant-loop decreases-loop
+mul-t11 : tie.Need-offset_bounds-list-q-in-loop-q invariant-loop decreases-loop
 mul-t11 c = search rules
 
-slice-set-from-list : tie.Need-slice-set-from-list invariant-loop decreases-loop
-slice-set-from-list c = omega (arith, c.before.before.loop.invariant.2, c.before.before.before.requires.1)
+slice-set-from-list : tie.Need-bounds-list-q invariant-loop decreases-loop
+slice-set-from-list c = omega (arith, c.loop-q.invariant.2, c.requires.1)
 
-add-q : tie.Need-overflow-add-q invariant-loop decreases-loop
+add-q : tie.Need-overflow_add-q invariant-loop decreases-loop
 add-q c = search rules
 
-loop-less : tie.Need-loop-smaller invariant-loop decreases-loop
+loop-less : tie.Need-loop-q-smaller invariant-loop decreases-loop
 loop-less c = omega arith
 
-loop-again : tie.Need-loop-preserved invariant-loop decreases-loop
+loop-again : tie.Need-loop-q-preserved invariant-loop decreases-loop
 loop-again c =
-    let a = c.before.before.before.args in
-    let l = c.before.before.loop in
+    let a = c.args in
+    let l = c.loop-q in
     let q = l.q in
     let f : ℕ → ℤ = λ i. get_or a.list.now (i + a.by) (pos 0) in
     let here : q < a.to = omega arith in
-    let read = as_read (get_or l.list (q + a.by) (pos 0)) c.list.given ∙ l.invariant.3 (q + a.by) (omega arith) in (
+    let read = as_read (get_or l.list (q + a.by) (pos 0)) c.list-1.given ∙ l.invariant.3 (q + a.by) (omega arith) in (
       omega arith,
       omega arith,
       length-set l.list q _ ∙ l.invariant.2,
@@ -62,14 +62,28 @@ loop-again c =
       ap (λ z. sets (set l.list q z) (q + 1) (tab f (q + 1) (a.to - (q + 1)))) read ∙ sym (fill-next f l.list q a.to here) ∙ l.invariant.4,
     )
 
-same_length : tie.Need-same-length invariant-loop decreases-loop
-same_length c = c.before.loop.invariant.2
+same_length : tie.Need-shape_of-list invariant-loop decreases-loop
+same_length c = c.loop-q.invariant.2
 
 returns : tie.Need-returns invariant-loop decreases-loop
 returns c =
-    let l = c.before.loop in
-    let a = c.before.before.args in
+    let l = c.loop-q in
+    let a = c.args in
     sym (fill_done (λ i. get_or a.list.now (i + a.by) (pos 0)) l.list l.q a.to (omega arith)) ∙ l.invariant.4
 
-pub carry-back-spec : {M : Type 1} → statement M
-carry-back-spec = tie.close (tie.spec invariant-loop decreases-loop loop-holds add-list mul-list slice-copy-out-list mul-t11 slice-set-from-list add-q loop-less loop-again same_length returns)
+pub carry_back_spec : {M : Type 1} → statement M
+carry_back_spec =
+    tie.close
+    (tie.spec
+    invariant-loop decreases-loop
+    loop-holds
+    add-list
+    mul-list
+    slice-copy-out-list
+    mul-t11
+    slice-set-from-list
+    add-q
+    loop-less
+    loop-again
+    same_length
+    returns)

@@ -12,7 +12,7 @@ use Rattle.curve.proofs.Fills.{as_read, fill-last}
 use Rattle.asked.proofs.carrying.carry_on.Statement.{statement}
 use Rattle.asked.proofs.carrying.carry_on.Tie as tie
 
-abbrev invariant-loop : tie.invariant-loop
+abbrev invariant-loop : tie.invariant-loop-q
 invariant-loop list₀ from to by q₀ list q =
     (from ≤ q)
     × (q ≤ to)
@@ -20,44 +20,44 @@ invariant-loop list₀ from to by q₀ list q =
     × ((i : ℕ) → i < q → get_or list i (pos 0) ≡ get_or list₀ i (pos 0))
     × (sets list from (tab (λ i. get_or list₀ (i - by) (pos 0)) from (q - from)) ≡ filled (λ i. get_or list₀ (i - by) (pos 0)) from (to - from) list₀)
 
-abbrev decreases-loop : tie.decreases-loop
+abbrev decreases-loop : tie.decreases-loop-q
 decreases-loop list₀ from to by q₀ list q = q - from
 
-loop-holds : tie.Need-loop-init invariant-loop decreases-loop
+loop-holds : tie.Need-loop-q-init invariant-loop decreases-loop
 loop-holds c = (c.requires.0.1, omega arith, refl, (λ i h. refl), refl)
 
-sub-q : tie.Need-overflow-sub-q invariant-loop decreases-loop
+sub-q : tie.Need-overflow_sub-q invariant-loop decreases-loop
 sub-q c = omega arith
 
-sub-list : tie.Need-overflow-sub-list invariant-loop decreases-loop
-sub-list c = omega (arith, c.before.before.requires.0.0)
+sub-list : tie.Need-overflow_sub-list invariant-loop decreases-loop
+sub-list c = omega (arith, c.requires.0.0)
 
-mul-list : tie.Need-overflow-mul-list invariant-loop decreases-loop
+mul-list : tie.Need-offset_bounds-list-q invariant-loop decreases-loop
 mul-list c = search rules
 
-slice-copy-out-list : tie.Need-slice-copy-out-list invariant-loop decreases-loop
-slice-copy-out-list c = omega (arith, c.before.loop.invariant.2, c.before.before.requires.1)
+slice-copy-out-list : tie.Need-slice_copy_out-list invariant-loop decreases-loop
+slice-copy-out-list c = omega (arith, c.loop-q.invariant.2, c.requires.1)
 
-mul-t11 : tie.Need-overflow-mul-t11 invariant-loop decreases-loop
+mul-t11 : tie.Need-offset_bounds-list-q-in-loop-q invariant-loop decreases-loop
 mul-t11 c = search rules
 
-slice-set-from-list : tie.Need-slice-set-from-list invariant-loop decreases-loop
-slice-set-from-list c = omega (arith, c.before.before.loop.invariant.2, c.before.before.before.requires.1)
+slice-set-from-list : tie.Need-bounds-list-q invariant-loop decreases-loop
+slice-set-from-list c = omega (arith, c.loop-q.invariant.2, c.requires.1)
 
-loop-less : tie.Need-loop-smaller invariant-loop decreases-loop
+loop-less : tie.Need-loop-q-smaller invariant-loop decreases-loop
 loop-less c = omega arith
 
-loop-again : tie.Need-loop-preserved invariant-loop decreases-loop
+loop-again : tie.Need-loop-q-preserved invariant-loop decreases-loop
 loop-again c =
     let s = c.before.before.before in
     let a = s.args in
-    let l = c.before.before.loop in
+    let l = c.loop-q in
     let old = a.list.now in
     let q = l.q - 1 in
     let f : ℕ → ℤ = λ i. get_or old (i - a.by) (pos 0) in
     let here : a.from ≤ q = omega arith in
     let on : q + 1 ≡ l.q = omega arith in
-    let read = as_read (get_or l.list (q - a.by) (pos 0)) c.list.given ∙ l.invariant.3 (q - a.by) (omega (arith, on)) in (
+    let read = as_read (get_or l.list (q - a.by) (pos 0)) c.list-1.given ∙ l.invariant.3 (q - a.by) (omega (arith, on)) in (
       here,
       omega arith,
       length-set l.list q _ ∙ l.invariant.2,
@@ -68,16 +68,30 @@ loop-again c =
           ∙ l.invariant.4,
     )
 
-same_length : tie.Need-same-length invariant-loop decreases-loop
-same_length c = c.before.loop.invariant.2
+same_length : tie.Need-shape_of-list invariant-loop decreases-loop
+same_length c = c.loop-q.invariant.2
 
 returns : tie.Need-returns invariant-loop decreases-loop
 unfolding tab
 returns c =
-    let l = c.before.loop in
-    let a = c.before.before.args in
+    let l = c.loop-q in
+    let a = c.args in
     let none : 0 ≡ l.q - a.from = omega arith in
     ap (λ (n : ℕ). sets l.list a.from (tab (λ i. get_or a.list.now (i - a.by) (pos 0)) a.from n)) none ∙ l.invariant.4
 
-pub carry-on-spec : {M : Type 1} → statement M
-carry-on-spec = tie.close (tie.spec invariant-loop decreases-loop loop-holds sub-q sub-list mul-list slice-copy-out-list mul-t11 slice-set-from-list loop-less loop-again same_length returns)
+pub carry_on_spec : {M : Type 1} → statement M
+carry_on_spec =
+    tie.close
+    (tie.spec
+    invariant-loop decreases-loop
+    loop-holds
+    sub-q
+    sub-list
+    mul-list
+    slice-copy-out-list
+    mul-t11
+    slice-set-from-list
+    loop-less
+    loop-again
+    same_length
+    returns)

@@ -5,24 +5,31 @@ use Rattle.asked.specs.Edits.{in_range}
 use Rattle.asked.proofs.counts.is_in_range.Statement.{statement}
 use Rattle.asked.proofs.counts.is_in_range.Tie as tie
 
-enum_told : tie.Need-enum-told
+enum_told : tie.Need-enum_told-1
 enum_told c = search rules
 
-enum-told-2 : tie.Need-enum-told-2
+enum-told-2 : tie.Need-enum_told-in-Insert
 enum-told-2 c = search rules
 
-enum-told-3 : tie.Need-enum-told-3
+enum-told-3 : tie.Need-enum_told-in-Remove
 enum-told-3 c = search rules
 
-returns : tie.Need-returns
-returns c = sym (ap (λ e. in_range e c.before.before.args.place c.before.before.args.count) c.enum_told.given.1)
+returns : tie.Need-returns-in-Move
+returns c = sym (ap (λ e. in_range e c.args.place c.args.count) c.in-Move.is)
 
-returns-2 : tie.Need-returns-2
-returns-2 c = sym (ap (λ e. in_range e c.before.before.args.place c.before.before.args.count) c.enum-told2.given.1)
+returns-2 : tie.Need-returns-in-Insert
+returns-2 c = sym (ap (λ e. in_range e c.args.place c.args.count) c.in-Insert.is)
 
-returns-3 : tie.Need-returns-3
-returns-3 c = sym (ap (λ e. in_range e c.before.before.args.place c.before.before.args.count) c.enum-told3.given.1)
+returns-3 : tie.Need-returns-in-Remove
+returns-3 c = sym (ap (λ e. in_range e c.args.place c.args.count) c.in-Remove.is)
 
-pub is-in-range-spec : {M : Type 1} → statement M
-is-in-range-spec =
-    tie.close (tie.spec enum_told enum-told-2 enum-told-3 returns returns-2 returns-3)
+pub is_in_range_spec : {M : Type 1} → statement M
+is_in_range_spec =
+    tie.close
+    (tie.spec
+    enum_told
+    enum-told-2
+    enum-told-3
+    returns
+    returns-2
+    returns-3)

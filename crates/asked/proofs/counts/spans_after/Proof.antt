@@ -5,31 +5,39 @@ use borrow.Author.Rules.{rules}
 use Rattle.asked.proofs.counts.spans_after.Statement.{statement}
 use Rattle.asked.proofs.counts.spans_after.Tie as tie
 
-enum_told : tie.Need-enum-told
+enum_told : tie.Need-enum_told-1
 enum_told c = search rules
 
-enum-told-2 : tie.Need-enum-told-2
+enum-told-2 : tie.Need-enum_told-in-Insert
 enum-told-2 c = search rules
 
-add-result : tie.Need-overflow-add-result
+add-result : tie.Need-overflow_add-result
 add-result c = search rules
 
-enum-told-3 : tie.Need-enum-told-3
+enum-told-3 : tie.Need-enum_told-in-Remove
 enum-told-3 c = search rules
 
-sub-result : tie.Need-overflow-sub-result
+sub-result : tie.Need-overflow_sub-result
 sub-result c = search rules
 
-returns : tie.Need-returns
+returns : tie.Need-returns-in-Move
 returns c = search rules
 
-returns-2 : tie.Need-returns-2
-returns-2 c = sym (ap (λ e. spans_after e c.before.before.args.spans) c.enum-told2.given.1)
+returns-2 : tie.Need-returns-in-Insert
+returns-2 c = sym (ap (λ e. spans_after e c.args.spans) c.in-Insert.is)
 
-returns-3 : tie.Need-returns-3
-returns-3 c = sym (ap (λ e. spans_after e c.before.before.args.spans) c.enum-told3.given.1)
+returns-3 : tie.Need-returns-in-Remove
+returns-3 c = sym (ap (λ e. spans_after e c.args.spans) c.in-Remove.is)
 
-pub spans-after-spec : {M : Type 1} → statement M
-spans-after-spec =
+pub spans_after_spec : {M : Type 1} → statement M
+spans_after_spec =
     tie.close
-    (tie.spec enum_told enum-told-2 add-result enum-told-3 sub-result returns returns-2 returns-3)
+    (tie.spec
+    enum_told
+    enum-told-2
+    add-result
+    enum-told-3
+    sub-result
+    returns
+    returns-2
+    returns-3)
