@@ -25,43 +25,43 @@ y-is : (l : List ℤ) (r : ℕ) (f : Float) → f ≡ dyadic (kept w32 (get_or l
 unfolding coordinate
 y-is l r f e h = e ∙ ap (λ z. dyadic z 0) (kept-is w32 (get_or l (2 * r + 1) (pos 0)) h)
 
-mul-double-of : tie.Need-overflow-mul-double-of
+mul-double-of : tie.Need-overflow_mul-r
 mul-double-of c = search rules
 
-mul-double-of-2 : tie.Need-overflow-mul-double-of-2
+mul-double-of-2 : tie.Need-offset_bounds-controls-r
 mul-double-of-2 c = search rules
 
-shared-slice-copy-out-double-of : tie.Need-shared-slice-copy-out-double-of
+shared-slice-copy-out-double-of : tie.Need-bounds-controls-r
 shared-slice-copy-out-double-of c = search rules
 
-double-of-requires : tie.Need-double-of-requires
+double-of-requires : tie.Need-double_of-requires
 double-of-requires c κs = search rules
 
-mul-double-of-3 : tie.Need-overflow-mul-double-of-3
+mul-double-of-3 : tie.Need-overflow_mul-r-2
 mul-double-of-3 c = search rules
 
-add-double-of : tie.Need-overflow-add-double-of
+add-double-of : tie.Need-overflow_add-r
 add-double-of c = search rules
 
-mul-double-of-4 : tie.Need-overflow-mul-double-of-4
+mul-double-of-4 : tie.Need-offset_bounds-controls-r-2
 mul-double-of-4 c = search rules
 
-shared-slice-copy-out-double-of-2 : tie.Need-shared-slice-copy-out-double-of-2
+shared-slice-copy-out-double-of-2 : tie.Need-bounds-controls-r-2
 shared-slice-copy-out-double-of-2 c = search rules
 
-double-of-requires-2 : tie.Need-double-of-requires-2
+double-of-requires-2 : tie.Need-double_of-requires-2
 double-of-requires-2 c κs = search rules
 
 returns : tie.Need-returns
 unfolding control
 returns c =
-    let a = c.before.before.before.before.args in
-    let x = x-is a.controls.now a.r c.before.before.double-of.result c.before.before.double-of.ensures (record { sfits = c.before.before.before.double-of-arg.given }) in
-    let y = y-is a.controls.now a.r c.double-of2.result c.double-of2.ensures (record { sfits = c.before.double-of-arg2.given }) in
+    let a = c.args in
+    let x = x-is a.controls.now a.r c.double_of.result c.double_of.ensures (record { sfits = c.double_of-arg-1.given }) in
+    let y = y-is a.controls.now a.r c.double_of-2.result c.double_of-2.ensures (record { sfits = c.double_of-arg-2-1.given }) in
     λ k. record { x = x k; y = y k }
 
-pub control-point-spec : {M : Type 1} → statement M
-control-point-spec =
+pub control_point_spec : {M : Type 1} → statement M
+control_point_spec =
     tie.close
     (tie.spec
     mul-double-of

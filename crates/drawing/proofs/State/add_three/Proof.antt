@@ -8,40 +8,40 @@ use borrow.Author.Rules.{rules}
 use Rattle.drawing.proofs.State.add_three.Statement.{statement}
 use Rattle.drawing.proofs.State.add_three.Tie as tie
 
-add-next : tie.Need-overflow-add-next
+add-next : tie.Need-overflow_add-next
 add-next c = search rules
 
-returns : tie.Need-returns
+returns : tie.Need-returns-then-next-gt-MOST_RECORDS
 returns c =
-    let t = c.before.before.args in
-    sym (too_many t.self (t.a ∷ t.b ∷ t.c ∷ []) t.self.start t.closed t.controls.now c.if1.true)
+    let t = c.args in
+    sym (too_many t.self (t.a ∷ t.b ∷ t.c ∷ []) t.self.start t.closed t.controls.now c.if-next-gt-MOST_RECORDS.true)
 
-mul-if2 : tie.Need-overflow-mul-if2
+mul-if2 : tie.Need-overflow_mul-next
 mul-if2 c = search rules
 
-returns-2 : tie.Need-returns-2
+returns-2 : tie.Need-returns-then-controls-next
 returns-2 c =
-    let t = c.before.before.before.args in
-    sym (too_short t.self (t.a ∷ t.b ∷ t.c ∷ []) t.self.start t.closed t.controls.now c.before.if1.false c.if2.true)
+    let t = c.args in
+    sym (too_short t.self (t.a ∷ t.b ∷ t.c ∷ []) t.self.start t.closed t.controls.now c.if-next-gt-MOST_RECORDS.false c.if-controls-next.true)
 
-mul-put-three : tie.Need-overflow-mul-put-three
+mul-put-three : tie.Need-overflow_mul-count
 mul-put-three c = search rules
 
-put-three-requires : tie.Need-put-three-requires
+put-three-requires : tie.Need-put_three-requires
 put-three-requires c κs = search rules
 
-same_length : tie.Need-same-length
+same_length : tie.Need-shape_of-controls
 same_length c = search rules
 
-returns-3 : tie.Need-returns-3
+returns-3 : tie.Need-returns
 returns-3 c =
     let e = c.before.before.before in
-    let t = e.before.before.before.args in
-    ap (outcome (Next _)) c.before.put_three.ensures
-    ∙ sym (roomy t.self (t.a ∷ t.b ∷ t.c ∷ []) t.self.start t.closed t.controls.now e.before.if1.false e.if2.false)
+    let t = e.args in
+    ap (outcome (Next _)) c.put_three.ensures
+    ∙ sym (roomy t.self (t.a ∷ t.b ∷ t.c ∷ []) t.self.start t.closed t.controls.now e.if-next-gt-MOST_RECORDS.false e.if-controls-next.false)
 
-pub add-three-spec : {M : Type 1} → statement M
-add-three-spec =
+pub add_three_spec : {M : Type 1} → statement M
+add_three_spec =
     tie.close
     (tie.spec
     add-next

@@ -6,53 +6,53 @@ use borrow.Author.Rules.{rules}
 use Rattle.drawing.proofs.State.check.Statement.{statement}
 use Rattle.drawing.proofs.State.check.Tie as tie
 
-is-miscounted-requires : tie.Need-is-miscounted-requires
+is-miscounted-requires : tie.Need-is_miscounted-requires
 is-miscounted-requires c κs = search rules
 
-returns : tie.Need-returns
+returns : tie.Need-returns-then-is_miscounted
 returns c =
-    let t = c.before.before.args in
-    sym (first-unfit t.self t.opening (record { number = 3; place = 0 }) (inl (sym c.before.is-miscounted.ensures ∙ c.if1.true, refl)))
+    let t = c.args in
+    sym (first-unfit t.self t.opening (record { number = 3; place = 0 }) (inl (sym c.is_miscounted.ensures ∙ c.if-is_miscounted.true, refl)))
 
-is-astray-requires : tie.Need-is-astray-requires
+is-astray-requires : tie.Need-is_astray-requires
 is-astray-requires c κs = search rules
 
-returns-2 : tie.Need-returns-2
+returns-2 : tie.Need-returns-then-is_astray
 returns-2 c =
     let e = c.before.before in
-    let t = e.before.before.args in
+    let t = e.args in
     sym
     (first-unfit t.self t.opening (record { number = 8; place = 0 })
-    (inr (sym e.before.is-miscounted.ensures ∙ e.if1.false, inl (sym c.before.is-astray.ensures ∙ c.if2.true, refl))))
+    (inr (sym e.is_miscounted.ensures ∙ e.if-is_miscounted.false, inl (sym c.is_astray.ensures ∙ c.if-is_astray.true, refl))))
 
-is-out-of-turn-requires : tie.Need-is-out-of-turn-requires
+is-out-of-turn-requires : tie.Need-is_out_of_turn-requires
 is-out-of-turn-requires c κs = search rules
 
-returns-3 : tie.Need-returns-3
+returns-3 : tie.Need-returns-then-is_out_of_turn
 returns-3 c =
     let d = c.before.before in
     let e = d.before.before in
-    let t = e.before.before.args in
+    let t = e.args in
     sym
     (first-unfit t.self t.opening (record { number = 12; place = 0 })
     (inr (
-      sym e.before.is-miscounted.ensures ∙ e.if1.false,
-      inr (sym d.before.is-astray.ensures ∙ d.if2.false, inl (sym c.before.is-out-of-turn.ensures ∙ c.if3.true, refl)),
+      sym e.is_miscounted.ensures ∙ e.if-is_miscounted.false,
+      inr (sym d.is_astray.ensures ∙ d.if-is_astray.false, inl (sym c.is_out_of_turn.ensures ∙ c.if-is_out_of_turn.true, refl)),
     )))
 
-returns-4 : tie.Need-returns-4
+returns-4 : tie.Need-returns
 returns-4 c =
     let d = c.before.before in
     let e = d.before.before in
-    let t = e.before.before.args in
+    let t = e.args in
     sym
     (none-fine t.self t.opening (
-      sym e.before.is-miscounted.ensures ∙ e.if1.false,
-      (sym d.before.is-astray.ensures ∙ d.if2.false, (sym c.before.is-out-of-turn.ensures ∙ c.if3.false, tt)),
+      sym e.is_miscounted.ensures ∙ e.if-is_miscounted.false,
+      (sym d.is_astray.ensures ∙ d.if-is_astray.false, (sym c.is_out_of_turn.ensures ∙ c.if-is_out_of_turn.false, tt)),
     ))
 
-pub check-spec : {M : Type 1} → statement M
-check-spec =
+pub check_spec : {M : Type 1} → statement M
+check_spec =
     tie.close
     (tie.spec
     is-miscounted-requires

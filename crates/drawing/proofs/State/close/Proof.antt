@@ -40,39 +40,39 @@ module _ (s : State) (l : List ℤ) (e : same s.current s.start ≡ true) (h : s
       let as_many : s.count + 0 ≡ s.count = omega arith in
       nothing s l e ∙ roomy s [] s.start true l (omega arith) (omega arith) ∙ (λ k. outcome (Next (record { count = as_many k; start = s.start; current = s.current; closed = true })) l)
 
-is-same-requires : tie.Need-is-same-requires
+is-same-requires : tie.Need-is_same-requires
 is-same-requires c κs = search rules
 
-add-three-requires : tie.Need-add-three-requires
+add-three-requires : tie.Need-add_three-requires
 add-three-requires c κs =
     let s = c.before.before.before.before.before in
     few s.args.self s.requires
 
-same_length : tie.Need-same-length
+same_length : tie.Need-shape_of-controls-then-not-is_same
 same_length c = search rules
 
-returns : tie.Need-returns
+returns : tie.Need-returns-then-not-is_same
 returns c =
     let e = c.before.before.before in
-    let t = e.before.before.before.before.args in
-    c.before.add-three.ensures ∙ sym (lined t.self t.controls.now (sym e.before.is_same.ensures ∙ not-true e.before.is_same.result e.if1.true))
+    let t = e.args in
+    c.add_three.ensures ∙ sym (lined t.self t.controls.now (sym e.is_same.ensures ∙ e.if-not-is_same.true))
 
-mul-if2 : tie.Need-overflow-mul-if2
+mul-if2 : tie.Need-overflow_mul-count
 mul-if2 c =
     let s = c.before.before.before.before in
     omega (arith, few s.args.self s.requires)
 
-returns-2 : tie.Need-returns-2
+returns-2 : tie.Need-returns-then-controls-count
 returns-2 c =
     let s = c.before.before.before.before.before in
     let e = c.before in
-    sym (no_room s.args.self s.args.controls.now (sym e.before.is_same.ensures ∙ not-false e.before.is_same.result e.if1.false) (few s.args.self s.requires) c.if2.true)
+    sym (no_room s.args.self s.args.controls.now (sym e.is_same.ensures ∙ e.if-not-is_same.false) (few s.args.self s.requires) c.if-controls-count.true)
 
-returns-3 : tie.Need-returns-3
+returns-3 : tie.Need-returns
 returns-3 c =
     let s = c.before.before.before.before.before in
     let e = c.before in
-    sym (stays s.args.self s.args.controls.now (sym e.before.is_same.ensures ∙ not-false e.before.is_same.result e.if1.false) (few s.args.self s.requires) c.if2.false)
+    sym (stays s.args.self s.args.controls.now (sym e.is_same.ensures ∙ e.if-not-is_same.false) (few s.args.self s.requires) c.if-controls-count.false)
 
 pub close_spec : {M : Type 1} → statement M
 close_spec =

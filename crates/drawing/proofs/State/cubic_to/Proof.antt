@@ -62,85 +62,76 @@ module _ (s : State) (x0 y0 x1 y1 x2 y2 : Float) (l : List ℤ) where
           numbers-good s (Cubic x0 y0 x1 y1 x2 y2) l (a.0, (a.1.0, (b.0, (b.1.0, (c.0, (c.1.0, tt))))))
           ∙ sym (λ k. extends s (p k ∷ q k ∷ r k ∷ []) s.start s.closed l)
 
-control-of-requires : tie.Need-control-of-requires
+control-of-requires : tie.Need-control_of-requires
 control-of-requires c κs = search rules
 
-enum-known-refusal : tie.Need-enum-known-refusal
+enum-known-refusal : tie.Need-enum_known-refusal
 enum-known-refusal c = search rules
 
-enum-known-first : tie.Need-enum-known-first
+enum-known-first : tie.Need-enum_known-first
 enum-known-first c = search rules
 
-control-of-requires-2 : tie.Need-control-of-requires-2
+control-of-requires-2 : tie.Need-control_of-requires-in-At
 control-of-requires-2 c κs = search rules
 
-enum-known-refusal-2 : tie.Need-enum-known-refusal-2
+enum-known-refusal-2 : tie.Need-enum_known-refusal-in-Amiss-control_of-2
 enum-known-refusal-2 c = search rules
 
-enum-known-second : tie.Need-enum-known-second
+enum-known-second : tie.Need-enum_known-second
 enum-known-second c = search rules
 
-control-of-requires-3 : tie.Need-control-of-requires-3
+control-of-requires-3 : tie.Need-control_of-requires-in-At-control_of
 control-of-requires-3 c κs = search rules
 
-enum-known-refusal-3 : tie.Need-enum-known-refusal-3
+enum-known-refusal-3 : tie.Need-enum_known-refusal-in-Amiss-control_of-3
 enum-known-refusal-3 c = search rules
 
-enum-known-third : tie.Need-enum-known-third
+enum-known-third : tie.Need-enum_known-third
 enum-known-third c = search rules
 
-add-three-requires : tie.Need-add-three-requires
+add-three-requires : tie.Need-add_three-requires
 add-three-requires c κs =
-    let s = c.before.before.before.before.before.before.before.before.before.before.before.before.before in
+    let s = c.before.before.before.before.before.before.before in
     reached-most s.args.self.count (fine-reached s.args.self false s.requires)
 
-returns : tie.Need-returns
+returns : tie.Need-returns-in-Amiss
 returns c =
-    let t = c.before.before.before.before.args in
-    let r = c.before.refusal.given in
-    sym (first-wrong t.self t.a t.b t.c t.d t.e t.f t.controls.now r.0.0 (sym c.before.before.before.control-of.ensures ∙ r.1))
+    let t = c.args in
+    sym (first-wrong t.self t.a t.b t.c t.d t.e t.f t.controls.now c.in-Amiss.refusal (sym c.control_of.ensures ∙ c.in-Amiss.is))
 
-returns-2 : tie.Need-returns-2
+returns-2 : tie.Need-returns-in-Amiss-control_of
 returns-2 c =
-    let e = c.before.before.before.before.before in
-    let t = e.before.before.before.args in
-    let p = e.first.given in
-    let r = c.before.refusal2.given in
+    let e = c.before.before in
+    let t = e.args in
     sym
-    (second-wrong t.self t.a t.b t.c t.d t.e t.f t.controls.now p.0.0 (sym e.before.before.control-of.ensures ∙ p.1) r.0.0
-    (sym c.before.before.before.control-of2.ensures ∙ r.1))
+    (second-wrong t.self t.a t.b t.c t.d t.e t.f t.controls.now e.in-At.first (sym e.control_of.ensures ∙ e.in-At.is) c.in-Amiss-control_of.refusal
+    (sym c.control_of-in-At.ensures ∙ c.in-Amiss-control_of.is))
 
-returns-3 : tie.Need-returns-3
+returns-3 : tie.Need-returns-in-Amiss-control_of-2
 returns-3 c =
-    let f = c.before.before.before.before.before in
-    let e = f.before.before.before.before in
-    let t = e.before.before.before.args in
-    let p = e.first.given in
-    let q = f.second.given in
-    let r = c.before.refusal3.given in
+    let f = c.before.before in
+    let e = f.before.before in
+    let t = e.args in
     sym
-    (third-wrong t.self t.a t.b t.c t.d t.e t.f t.controls.now p.0.0 (sym e.before.before.control-of.ensures ∙ p.1) q.0.0
-    (sym f.before.before.control-of2.ensures ∙ q.1) r.0.0 (sym c.before.before.before.control-of3.ensures ∙ r.1))
+    (third-wrong t.self t.a t.b t.c t.d t.e t.f t.controls.now e.in-At.first (sym e.control_of.ensures ∙ e.in-At.is) f.in-At-control_of.second
+    (sym f.control_of-in-At.ensures ∙ f.in-At-control_of.is) c.in-Amiss-control_of-2.refusal (sym c.control_of-in-At-control_of.ensures ∙ c.in-Amiss-control_of-2.is))
 
-same_length : tie.Need-same-length
+same_length : tie.Need-shape_of-controls
 same_length c = search rules
 
-returns-4 : tie.Need-returns-4
+returns-4 : tie.Need-returns-in-At-control_of-2
 returns-4 c =
-    let g = c.before.before.before.before in
-    let f = g.before.before.before.before in
-    let e = f.before.before.before.before in
-    let t = e.before.before.before.args in
-    let p = e.first.given in
-    let q = f.second.given in
-    let r = g.third.given in
-    c.before.add-three.ensures
+    let g = c.before.before.before in
+    let f = g.before.before in
+    let e = f.before.before in
+    let t = e.args in
+    c.add_three.ensures
     ∙ sym
-    (drawn t.self t.a t.b t.c t.d t.e t.f t.controls.now p.0.0 (sym e.before.before.control-of.ensures ∙ p.1) q.0.0
-    (sym f.before.before.control-of2.ensures ∙ q.1) r.0.0 (sym g.before.before.control-of3.ensures ∙ r.1))
+    (drawn t.self t.a t.b t.c t.d t.e t.f t.controls.now e.in-At.first (sym e.control_of.ensures ∙ e.in-At.is) f.in-At-control_of.second
+    (sym f.control_of-in-At.ensures ∙ f.in-At-control_of.is) g.in-At-control_of-2.third (sym g.control_of-in-At-control_of.ensures ∙ g.in-At-control_of-2.is))
 
-pub cubic-to-spec : {M : Type 1} → statement M
-cubic-to-spec =
+pub cubic_to_spec : {M : Type 1} → statement M
+cubic_to_spec =
     tie.close
     (tie.spec
     control-of-requires

@@ -33,32 +33,35 @@ some : (s : State) → (s.count ≡ 0 → ⊥) → ltb (first_outside (flat (s.s
 unfolding astray
 some s n = two_records s.start s.current ∙ simp (ne_eqb s.count 0 n)
 
-returns : tie.Need-returns
-returns c = none c.before.before.before.args.self c.if1.true
+returns : tie.Need-returns-then-count-eq0
+returns c = none c.args.self c.if-count-eq0.true
 
-slice-aggregate-first-outside : tie.Need-slice-aggregate-first-outside
+slice-aggregate-first-outside : tie.Need-slice_bounds-first_outside-end
 slice-aggregate-first-outside c = search rules
 
-first-outside-requires : tie.Need-first-outside-requires
+first-outside-requires : tie.Need-first_outside-requires
 first-outside-requires c κs = search rules
 
-returns-2 : tie.Need-returns-2
+returns-2 : tie.Need-returns
 returns-2 c =
-    let s = c.before.before.before.before.before.before.before.args.self in
-    let f = c.before.before.before.struct_told.given in
-    let g = c.before.before.struct-told2.given in
+    let s = c.args.self in
     ap (λ n. ltb n 2)
-    (c.first-outside.ensures
+    (c.first_outside.ensures
     ∙ (λ k.
     first_outside
-    (kept-is w32 s.start.x (record { sfits = f.0.1 }) k
-    ∷ kept-is w32 s.start.y (record { sfits = f.1.0.1 }) k
-    ∷ kept-is w32 s.current.x (record { sfits = g.0.1 }) k
-    ∷ kept-is w32 s.current.y (record { sfits = g.1.0.1 }) k
+    (kept-is w32 s.start.x (record { sfits = c.struct_told-1.given.0.1 }) k
+    ∷ kept-is w32 s.start.y (record { sfits = c.struct_told-1.given.1.0.1 }) k
+    ∷ kept-is w32 s.current.x (record { sfits = c.struct_told-2-1.given.0.1 }) k
+    ∷ kept-is w32 s.current.y (record { sfits = c.struct_told-2-1.given.1.0.1 }) k
     ∷ [])
     2))
-    ∙ some s c.before.before.before.before.if1.false
+    ∙ some s c.if-count-eq0.false
 
-pub is-astray-spec : {M : Type 1} → statement M
-is-astray-spec =
-    tie.close (tie.spec returns slice-aggregate-first-outside first-outside-requires returns-2)
+pub is_astray_spec : {M : Type 1} → statement M
+is_astray_spec =
+    tie.close
+    (tie.spec
+    returns
+    slice-aggregate-first-outside
+    first-outside-requires
+    returns-2)

@@ -23,14 +23,19 @@ by_three : (s : State) → (s.count ≡ 0 → ⊥) → s.count ≤ most_records 
 unfolding miscounted reached
 by_three s n h = simp (ne_eqb s.count 0 n, le-leb s.count most_records h, or-false-right)
 
-returns : tie.Need-returns
-returns c = at_none c.before.args.self c.if1.true
+returns : tie.Need-returns-then-count-eq0
+returns c = at_none c.args.self c.if-count-eq0.true
 
-returns-2 : tie.Need-returns-2
-returns-2 c = too_many c.before.before.args.self c.before.if1.false c.if2.true
+returns-2 : tie.Need-returns-then-count-gt-MOST_RECORDS
+returns-2 c = too_many c.args.self c.if-count-eq0.false c.if-count-gt-MOST_RECORDS.true
 
-returns-3 : tie.Need-returns-3
-returns-3 c = by_three c.before.before.args.self c.before.if1.false c.if2.false
+returns-3 : tie.Need-returns
+returns-3 c = by_three c.args.self c.if-count-eq0.false c.if-count-gt-MOST_RECORDS.false
 
-pub is-miscounted-spec : {M : Type 1} → statement M
-is-miscounted-spec = tie.close (tie.spec returns returns-2 returns-3)
+pub is_miscounted_spec : {M : Type 1} → statement M
+is_miscounted_spec =
+    tie.close
+    (tie.spec
+    returns
+    returns-2
+    returns-3)

@@ -20,14 +20,19 @@ later : (s : State) (opening : Bool) → s.closed ≡ false → (s.count ≡ 0 �
 unfolding out_of_turn
 later s opening e h = simp (e, ne_eqb s.count 0 h, or-false-right)
 
-returns : tie.Need-returns
-returns c = after-close c.before.args.self c.before.args.opening c.if1.true
+returns : tie.Need-returns-then-self
+returns c = after-close c.args.self c.args.opening c.if-self.true
 
-returns-2 : tie.Need-returns-2
-returns-2 c = at_first c.before.before.args.self c.before.before.args.opening c.before.if1.false c.if2.true
+returns-2 : tie.Need-returns-then-count-eq0
+returns-2 c = at_first c.args.self c.args.opening c.if-self.false c.if-count-eq0.true
 
-returns-3 : tie.Need-returns-3
-returns-3 c = later c.before.before.args.self c.before.before.args.opening c.before.if1.false c.if2.false
+returns-3 : tie.Need-returns
+returns-3 c = later c.args.self c.args.opening c.if-self.false c.if-count-eq0.false
 
-pub is-out-of-turn-spec : {M : Type 1} → statement M
-is-out-of-turn-spec = tie.close (tie.spec returns returns-2 returns-3)
+pub is_out_of_turn_spec : {M : Type 1} → statement M
+is_out_of_turn_spec =
+    tie.close
+    (tie.spec
+    returns
+    returns-2
+    returns-3)

@@ -30,38 +30,36 @@ unfolding added
 drawn s x y l end e =
     numbers-good s (Line x y) l (placed-none 0 x y end e) ∙ ap (λ p. extends s (line s.current p) s.start s.closed l) (sym (placed-is 0 x y end e))
 
-control-of-requires : tie.Need-control-of-requires
+control-of-requires : tie.Need-control_of-requires
 control-of-requires c κs = search rules
 
-enum-known-refusal : tie.Need-enum-known-refusal
+enum-known-refusal : tie.Need-enum_known-refusal
 enum-known-refusal c = search rules
 
-enum-known-end : tie.Need-enum-known-end
+enum-known-end : tie.Need-enum_known-end
 enum-known-end c = search rules
 
-add-three-requires : tie.Need-add-three-requires
+add-three-requires : tie.Need-add_three-requires
 add-three-requires c κs =
-    let s = c.before.before.before.before.before.before in
+    let s = c.before.before.before.before in
     reached-most s.args.self.count (fine-reached s.args.self false s.requires)
 
-returns : tie.Need-returns
+returns : tie.Need-returns-in-Amiss
 returns c =
-    let t = c.before.before.before.before.before.args in
-    let r = c.before.refusal.given in
-    sym (wrong t.self t.x t.y t.controls.now r.0.0 (sym c.before.before.before.control-of.ensures ∙ r.1))
+    let t = c.args in
+    sym (wrong t.self t.x t.y t.controls.now c.in-Amiss.refusal (sym c.control_of.ensures ∙ c.in-Amiss.is))
 
-same_length : tie.Need-same-length
+same_length : tie.Need-shape_of-controls
 same_length c = search rules
 
-returns-2 : tie.Need-returns-2
+returns-2 : tie.Need-returns-in-At
 returns-2 c =
-    let e = c.before.before.before.before in
-    let t = e.before.before.before.before.args in
-    let p = e.end.given in
-    c.before.add-three.ensures ∙ sym (drawn t.self t.x t.y t.controls.now p.0.0 (sym e.before.before.control-of.ensures ∙ p.1))
+    let e = c.before.before.before in
+    let t = e.args in
+    c.add_three.ensures ∙ sym (drawn t.self t.x t.y t.controls.now e.in-At.end (sym e.control_of.ensures ∙ e.in-At.is))
 
-pub line-to-spec : {M : Type 1} → statement M
-line-to-spec =
+pub line_to_spec : {M : Type 1} → statement M
+line_to_spec =
     tie.close
     (tie.spec
     control-of-requires

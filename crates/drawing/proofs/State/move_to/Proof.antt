@@ -47,42 +47,39 @@ module _ (s : State) (x y : Float) (l : List ℤ) (fine : judge_state s true ≡
       ∙ roomy s (at x y ∷ []) (at x y) s.closed l (omega arith) (omega arith)
       ∙ (λ k. outcome (Next (record { count = one k; start = control k; current = control k; closed = fine-open s true fine k })) (list k))
 
-control-of-requires : tie.Need-control-of-requires
+control-of-requires : tie.Need-control_of-requires
 control-of-requires c κs = search rules
 
-enum-known-refusal : tie.Need-enum-known-refusal
+enum-known-refusal : tie.Need-enum_known-refusal
 enum-known-refusal c = search rules
 
-enum-known-first : tie.Need-enum-known-first
+enum-known-first : tie.Need-enum_known-first
 enum-known-first c = search rules
 
-returns : tie.Need-returns
+returns : tie.Need-returns-then-controls-lt2
 returns c =
-    let e = c.before.before in
-    let t = e.before.before.before.args in
-    let p = e.first.given in
-    sym (no_room t.self t.x t.y t.controls.now e.before.before.before.requires p.0.0 (sym e.before.before.control-of.ensures ∙ p.1) c.if1.true)
+    let e = c.before in
+    let t = e.args in
+    sym (no_room t.self t.x t.y t.controls.now e.requires e.in-At.first (sym e.control_of.ensures ∙ e.in-At.is) c.if-controls-lt2.true)
 
 put-requires : tie.Need-put-requires
 put-requires c κs = search rules
 
-returns-2 : tie.Need-returns-2
+returns-2 : tie.Need-returns-in-Amiss
 returns-2 c =
-    let t = c.before.before.before.before.args in
-    let r = c.before.refusal.given in
-    sym (wrong t.self t.x t.y t.controls.now r.0.0 (sym c.before.before.before.control-of.ensures ∙ r.1))
+    let t = c.args in
+    sym (wrong t.self t.x t.y t.controls.now c.in-Amiss.refusal (sym c.control_of.ensures ∙ c.in-Amiss.is))
 
-same_length : tie.Need-same-length
+same_length : tie.Need-shape_of-controls
 same_length c = search rules
 
-returns-3 : tie.Need-returns-3
+returns-3 : tie.Need-returns-else-controls-lt2
 returns-3 c =
-    let e = c.before.before.before.before.before in
-    let t = e.before.before.before.args in
-    let p = e.first.given in
+    let e = c.before.before.before.before in
+    let t = e.args in
     sym
-    (written t.self t.x t.y t.controls.now e.before.before.before.requires p.0.0 (sym e.before.before.control-of.ensures ∙ p.1)
-    c.before.before.before.if1.false c.before.put.new.0 c.before.put.ensures)
+    (written t.self t.x t.y t.controls.now e.requires e.in-At.first (sym e.control_of.ensures ∙ e.in-At.is)
+    c.if-controls-lt2.false c.put.new.controls c.put.ensures)
 
 pub move_to_spec : {M : Type 1} → statement M
 move_to_spec =

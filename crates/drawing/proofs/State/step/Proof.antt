@@ -16,18 +16,18 @@ use Rattle.drawing.specs.Inner.{judge_state, goes_on}
 
 -- where the check found the state fit, it is fit for the kind that the step is
 fit-for :
-    (c : tie.After-enum-told) (kind : Step) → c.before.before.before.before.args.step ≡ kind → judge_state c.before.before.before.before.args.self (opens kind) ≡ Fine
+    (c : tie.In-Fine) (kind : Step) → c.args.step ≡ kind → judge_state c.args.self (opens kind) ≡ Fine
 fit-for c kind e =
-    let s = c.before.before.before.before.args.self in
-    sym (c.before.before.check.ensures ∙ ap (judge_state s) (c.before.before.before.opens.ensures ∙ ap opens e)) ∙ c.enum_told.given.1
+    let s = c.args.self in
+    sym (c.check.ensures ∙ ap (judge_state s) (c.opens.ensures ∙ ap opens e)) ∙ c.in-Fine.is
 
 -- what the kind's method ensures is what the call does
 went_on :
-    (c : tie.After-enum-told) (kind : Step) → c.before.before.before.before.args.step ≡ kind
-    → (out : Outcome Stepped (List ℤ)) → out ≡ goes_on c.before.before.before.before.args.self kind c.before.before.before.before.args.controls.now
-    → out ≡ stepped c.before.before.before.before.args.self c.before.before.before.before.args.step c.before.before.before.before.args.controls.now
+    (c : tie.In-Fine) (kind : Step) → c.args.step ≡ kind
+    → (out : Outcome Stepped (List ℤ)) → out ≡ goes_on c.args.self kind c.args.controls.now
+    → out ≡ stepped c.args.self c.args.step c.args.controls.now
 went_on c kind e out g =
-    let t = c.before.before.before.before.args in
+    let t = c.args in
     g ∙ sym (fit t.self kind t.controls.now (fit-for c kind e)) ∙ ap (λ k. stepped t.self k t.controls.now) (sym e)
 
 opens-requires : tie.Need-opens-requires
@@ -36,74 +36,73 @@ opens-requires c κs = search rules
 check-requires : tie.Need-check-requires
 check-requires c κs = search rules
 
-enum-known-refusal : tie.Need-enum-known-refusal
+enum-known-refusal : tie.Need-enum_known-refusal
 enum-known-refusal c = search rules
 
-enum_told : tie.Need-enum-told
+enum_told : tie.Need-enum_told-1
 enum_told c = search rules
 
-enum-known-step : tie.Need-enum-known-step
+enum-known-step : tie.Need-enum_known-step
 enum-known-step c = search rules
 
-move-to-requires : tie.Need-move-to-requires
-move-to-requires c κs = let b = c.before.before in fit-for b.before.before _ b.step.given.1
+move-to-requires : tie.Need-move_to-requires
+move-to-requires c κs = let b = c.before in fit-for b.before _ b.in-Move.is
 
-enum-known-step-2 : tie.Need-enum-known-step-2
+enum-known-step-2 : tie.Need-enum_known-step-in-Fine
 enum-known-step-2 c = search rules
 
-line-to-requires : tie.Need-line-to-requires
-line-to-requires c κs = let b = c.before.before in fit-for b.before.before _ b.step2.given.1
+line-to-requires : tie.Need-line_to-requires
+line-to-requires c κs = let b = c.before in fit-for b.before _ b.in-Line.is
 
-enum-known-step-3 : tie.Need-enum-known-step-3
+enum-known-step-3 : tie.Need-enum_known-step-in-Fine-2
 enum-known-step-3 c = search rules
 
-cubic-to-requires : tie.Need-cubic-to-requires
-cubic-to-requires c κs = let b = c.before.before in fit-for b.before.before _ b.step3.given.1
+cubic-to-requires : tie.Need-cubic_to-requires
+cubic-to-requires c κs = let b = c.before in fit-for b.before _ b.in-Cubic.is
 
-enum-told-2 : tie.Need-enum-told-2
+enum-told-2 : tie.Need-enum_told-in-Close
 enum-told-2 c = search rules
 
 close-requires : tie.Need-close-requires
-close-requires c κs = let b = c.before in fit-for b.before.before _ b.enum-told2.given.1
+close-requires c κs = let b = c.before in fit-for b.before _ b.in-Close.is
 
-returns : tie.Need-returns
+returns : tie.Need-returns-in-Bad
 returns c =
-    let n = c.before.before.before in
-    let t = n.before.before.args in
-    let r = c.before.refusal.given in
-    sym (unfit t.self t.step t.controls.now r.0.0 (sym (n.check.ensures ∙ ap (judge_state t.self) n.before.opens.ensures) ∙ r.1))
+    let n = c.before in
+    let t = n.args in
+    sym (unfit t.self t.step t.controls.now c.in-Bad.refusal (sym (n.check.ensures ∙ ap (judge_state t.self) n.opens.ensures) ∙ c.in-Bad.is))
 
-same_length : tie.Need-same-length
+same_length : tie.Need-shape_of-controls-in-Move
 same_length c = search rules
 
-returns-2 : tie.Need-returns-2
+returns-2 : tie.Need-returns-in-Move
 returns-2 c =
-    let b = c.before.before.before.before in
-    went_on b.before.before _ b.step.given.1 _ c.before.move-to.ensures
+    let b = c.before.before.before in
+    went_on b.before _ b.in-Move.is _ c.move_to.ensures
 
-same-length-2 : tie.Need-same-length-2
+same-length-2 : tie.Need-shape_of-controls-in-Line
 same-length-2 c = search rules
 
-returns-3 : tie.Need-returns-3
+returns-3 : tie.Need-returns-in-Line
 returns-3 c =
-    let b = c.before.before.before.before in
-    went_on b.before.before _ b.step2.given.1 _ c.before.line-to.ensures
+    let b = c.before.before.before in
+    went_on b.before _ b.in-Line.is _ c.line_to.ensures
 
-same-length-3 : tie.Need-same-length-3
+same-length-3 : tie.Need-shape_of-controls-in-Cubic
 same-length-3 c = search rules
 
-returns-4 : tie.Need-returns-4
+returns-4 : tie.Need-returns-in-Cubic
 returns-4 c =
-    let b = c.before.before.before.before in
-    went_on b.before.before _ b.step3.given.1 _ c.before.cubic-to.ensures
+    let b = c.before.before.before in
+    went_on b.before _ b.in-Cubic.is _ c.cubic_to.ensures
 
-same-length-4 : tie.Need-same-length-4
+same-length-4 : tie.Need-shape_of-controls-in-Close
 same-length-4 c = search rules
 
-returns-5 : tie.Need-returns-5
+returns-5 : tie.Need-returns-in-Close
 returns-5 c =
     let b = c.before.before.before in
-    went_on b.before.before _ b.enum-told2.given.1 _ c.before.close.ensures
+    went_on b.before _ b.in-Close.is _ c.close.ensures
 
 pub step_spec : {M : Type 1} → statement M
 step_spec =

@@ -14,18 +14,20 @@ use Rattle.drawing.proofs.controls.is_same.Tie as tie
 apart : (a b : Control) → (of_z w32 a.x ≡ of_z w32 b.x → ⊥) → false ≡ same a b
 apart a b h = ap (λ p. p && equal a.y b.y) (sym (is-unequal a.x b.x (λ e. h (ap (of_z w32) e))))
 
-returns : tie.Need-returns
-returns c = let t = c.before.before.before.before.before.args in apart t.a t.b c.if1.true
+returns : tie.Need-returns-then-a-b
+returns c = let t = c.args in apart t.a t.b c.if-a-b.true
 
-returns-2 : tie.Need-returns-2
+returns-2 : tie.Need-returns
 returns-2 c =
     let e = c.before.before.before.before in
-    let t = e.before.before.before.before.before.args in
-    let fa = e.before.before.before.struct_told.given in
-    let fb = e.before.struct-told2.given in
-    let x = same_bits w32 t.a.x t.b.x (record { sfits = fa.0.1 }) (record { sfits = fb.0.1 }) e.if1.false in
-    bits-test w32 t.a.y t.b.y (record { sfits = c.before.before.struct-told3.given.1.0.1 }) (record { sfits = c.struct-told4.given.1.0.1 })
+    let t = e.args in
+    let x = same_bits w32 t.a.x t.b.x (record { sfits = e.struct_told-1.given.0.1 }) (record { sfits = e.struct_told-2-1.given.0.1 }) e.if-a-b.false in
+    bits-test w32 t.a.y t.b.y (record { sfits = c.struct_told-3-1.given.1.0.1 }) (record { sfits = c.struct_told-4-1.given.1.0.1 })
     ∙ ap (λ p. p && equal t.a.y t.b.y) (sym (is-equal t.a.x t.b.x x))
 
-pub is-same-spec : {M : Type 1} → statement M
-is-same-spec = tie.close (tie.spec returns returns-2)
+pub is_same_spec : {M : Type 1} → statement M
+is_same_spec =
+    tie.close
+    (tie.spec
+    returns
+    returns-2)

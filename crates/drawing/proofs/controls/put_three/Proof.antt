@@ -14,19 +14,19 @@ use Rattle.drawing.proofs.controls.put_three.Tie as tie
 put-requires : tie.Need-put-requires
 put-requires c κs = search rules
 
-add-put : tie.Need-overflow-add-put
+add-put : tie.Need-overflow_add-at
 add-put c = search rules
 
 put-requires-2 : tie.Need-put-requires-2
 put-requires-2 c κs = search rules
 
-add-put-2 : tie.Need-overflow-add-put-2
+add-put-2 : tie.Need-overflow_add-at-2
 add-put-2 c = search rules
 
 put-requires-3 : tie.Need-put-requires-3
 put-requires-3 c κs = search rules
 
-same_length : tie.Need-same-length
+same_length : tie.Need-shape_of-controls
 same_length c = search rules
 
 one_by_one :
@@ -38,14 +38,21 @@ one_by_one l n a b c =
 
 returns : tie.Need-returns
 returns c =
-    let t = c.before.before.before.before.before.before.before.before.before.args in
-    let first = c.before.before.before.before.before.before.before.put.ensures in
-    let second = c.before.before.before.before.put2.ensures in
-    c.before.put3.ensures
+    let t = c.args in
+    let first = c.put.ensures in
+    let second = c.put-2.ensures in
+    c.put-3.ensures
     ∙ ap (λ l. sets l (t.at + 4) (flat (t.c ∷ []))) (second ∙ ap (λ l. sets l (t.at + 2) (flat (t.b ∷ []))) first)
     ∙ one_by_one t.controls.now t.at t.a t.b t.c
 
-pub put-three-spec : {M : Type 1} → statement M
-put-three-spec =
+pub put_three_spec : {M : Type 1} → statement M
+put_three_spec =
     tie.close
-    (tie.spec put-requires add-put put-requires-2 add-put-2 put-requires-3 same_length returns)
+    (tie.spec
+    put-requires
+    add-put
+    put-requires-2
+    add-put-2
+    put-requires-3
+    same_length
+    returns)

@@ -29,33 +29,39 @@ good i x n e = rw e
 micrometres-requires : tie.Need-micrometres-requires
 micrometres-requires c κs = search rules
 
-enum_told : tie.Need-enum-told
+enum_told : tie.Need-enum_told-1
 enum_told c = search rules
 
-enum-told-2 : tie.Need-enum-told-2
+enum-told-2 : tie.Need-enum_told-in-Outside
 enum-told-2 c = search rules
 
-enum-known-n : tie.Need-enum-known-n
+enum-known-n : tie.Need-enum_known-n
 enum-known-n c = search rules
 
-returns : tie.Need-returns
+returns : tie.Need-returns-in-NotFinite
 returns c =
-    let a = c.before.before.before.args in
-    not_finite a.place a.mm (sym c.before.before.micrometres.ensures ∙ c.enum_told.given.1)
+    let a = c.args in
+    not_finite a.place a.mm (sym c.micrometres.ensures ∙ c.in-NotFinite.is)
 
-returns-2 : tie.Need-returns-2
+returns-2 : tie.Need-returns-in-Outside
 returns-2 c =
-    let a = c.before.before.before.args in
-    outside a.place a.mm (sym c.before.before.micrometres.ensures ∙ c.enum-told2.given.1)
+    let a = c.args in
+    outside a.place a.mm (sym c.micrometres.ensures ∙ c.in-Outside.is)
 
-returns-3 : tie.Need-returns-3
+returns-3 : tie.Need-returns-in-Micrometres
 returns-3 c =
-    let a = c.before.before.before.before.args in
-    let n = c.before.n.given in
-    ap Good (kept-is w32 n.0.0 (record { sfits = c.known-told.given.0.1 }))
-    ∙ good a.place a.mm n.0.0 (sym c.before.before.before.micrometres.ensures ∙ n.1)
+    let a = c.args in
+    ap Good (kept-is w32 c.in-Micrometres.n (record { sfits = c.in-Micrometres.known_told-1-own.given.0.1 }))
+    ∙ good a.place a.mm c.in-Micrometres.n (sym c.micrometres.ensures ∙ c.in-Micrometres.is)
 
-pub number-spec : {M : Type 1} → statement M
-number-spec =
+pub number_spec : {M : Type 1} → statement M
+number_spec =
     tie.close
-    (tie.spec micrometres-requires enum_told enum-told-2 enum-known-n returns returns-2 returns-3)
+    (tie.spec
+    micrometres-requires
+    enum_told
+    enum-told-2
+    enum-known-n
+    returns
+    returns-2
+    returns-3)

@@ -50,53 +50,53 @@ below t = and 1 kinds.ps (falls 1 kinds.ps ◌<◌ μ t) reads.Pre
 abbrev callees : ℕ → lts.Claims
 callees t = (is-flat-reads.Asked, is-flat-reads.Learnt, divisor-bits-reads.Asked, divisor-bits-reads.Learnt, put-point-reads.Asked, put-point-reads.Learnt, left-half-reads.Asked, left-half-reads.Learnt, below t, reads.Post, right-half-reads.Asked, right-half-reads.Learnt)
 
-is-flat-requires : (t : ℕ) → lts.Need-is-flat-requires (callees t) (here t) reads.Post
+is-flat-requires : (t : ℕ) → lts.Need-is_flat-requires (callees t) (here t) reads.Post
 is-flat-requires t c κs =
     let a = c.args in
     let w = c.requires.1.0.0 in
     (walkable-small a.basis a.level a.x a.y w, (w.shallow, c.requires.1.1.0))
 
 -- a flat piece's tree
-flat : (t : ℕ) (c : lts.Then1 (callees t) (here t) reads.Post) → tree_at c.before.before.args.basis c.before.before.args.tolerance c.before.before.args.level c.before.before.args.x c.before.before.args.y
-    ≡ Flat (piece c.before.before.args.level c.before.before.args.x c.before.before.args.y)
-flat t c = let a = c.before.before.args in at-flat a.basis a.tolerance a.level a.x a.y (sym c.before.is-flat.ensures ∙ c.if1.true)
+flat : (t : ℕ) (c : lts.Then-is_flat (callees t) (here t) reads.Post) → tree_at c.args.basis c.args.tolerance c.args.level c.args.x c.args.y
+    ≡ Flat (piece c.args.level c.args.x c.args.y)
+flat t c = let a = c.args in at-flat a.basis a.tolerance a.level a.x a.y (sym c.is_flat.ensures ∙ c.if-is_flat.true)
 
 -- a first control as the machine keeps it
 kept_near : (b : Basis) (level : ℕ) (q : Four) → level ≤ finest → Cuttable (finest - level) (divisor b finest) q → nat_abs (kept w64 q.a) ≤ divisor b level * far_reach
 kept_near b level q h cut = subst (λ z. nat_abs z ≤ divisor b level * far_reach) (sym (kept-is w64 q.a (leaf-fits (finest - level) (divisor b finest) q cut))) (start-near b level q h cut)
 
-divisor-bits-requires : (t : ℕ) → lts.Need-divisor-bits-requires (callees t) (here t) reads.Post
-divisor-bits-requires t c κs = omega (arith, c.before.before.requires.1.0.0.shallow)
+divisor-bits-requires : (t : ℕ) → lts.Need-divisor_bits-bits-requires (callees t) (here t) reads.Post
+divisor-bits-requires t c κs = omega (arith, c.requires.1.0.0.shallow)
 
 -- the level's divisor by its bits
-over : (t : ℕ) (c : lts.After-divisor-bits (callees t) (here t) reads.Post) → divisor_of c.divisor-bits.result ≡ divisor c.before.before.before.args.basis c.before.before.before.args.level
-over t c = let a = c.before.before.before.args in ap divisor_of c.divisor-bits.ensures ∙ sym (divisor-bits a.basis a.level)
+over : (t : ℕ) (c : lts.After-divisor_bits-bits (callees t) (here t) reads.Post) → divisor_of c.divisor_bits-bits.result ≡ divisor c.args.basis c.args.level
+over t c = let a = c.args in ap divisor_of c.divisor_bits-bits.ensures ∙ sym (divisor-bits a.basis a.level)
 
-put-point-requires : (t : ℕ) → lts.Need-put-point-requires (callees t) (here t) reads.Post
+put-point-requires : (t : ℕ) → lts.Need-put_point-exact-requires (callees t) (here t) reads.Post
 put-point-requires t c κs =
     let d = c.before.before.before in
     let f = d.before in
     let s = f.before.before in
     let a = s.args in
     let w = s.requires.1.0.0 in
-    let bits = subst (λ (n : ℕ). n ≤ most_bits) (sym d.divisor-bits.ensures) (bits_most a.basis a.level (omega (arith, w.shallow))) in
-    let near : (q : Four) → Cuttable (finest - a.level) (divisor a.basis finest) q → nat_abs (kept w64 q.a) ≤ divisor_of d.divisor-bits.result * far_reach =
+    let bits = subst (λ (n : ℕ). n ≤ most_bits) (sym d.divisor_bits-bits.ensures) (bits_most a.basis a.level (omega (arith, w.shallow))) in
+    let near : (q : Four) → Cuttable (finest - a.level) (divisor a.basis finest) q → nat_abs (kept w64 q.a) ≤ divisor_of d.divisor_bits-bits.result * far_reach =
     λ q cut. subst (λ (n : ℕ). nat_abs (kept w64 q.a) ≤ n * far_reach) (sym (over t d)) (kept_near a.basis a.level q w.shallow cut) in
     let x = near a.x w.on-x in
     let y = near a.y w.on-y in
     let two = starts-flat (divisor a.basis) _ _ (flat t f) in (bits, ((search rules, search rules), (omega (arith, ap length two, s.requires.1.1.1.1), s.requires.1.1.1.0)))
 
-add-t15 : (t : ℕ) → lts.Need-overflow-add-t15 (callees t) (here t) reads.Post
+add-t15 : (t : ℕ) → lts.Need-overflow_add-result (callees t) (here t) reads.Post
 add-t15 t c =
     let f = c.before.before.before.before.before.before in
     let s = f.before.before in
     let a = s.args in
     omega (arith, ap length (starts-flat (divisor a.basis) _ _ (flat t f)), s.requires.1.1.1.1)
 
-same_length : (t : ℕ) → lts.Need-same-length (callees t) (here t) reads.Post
-same_length t c = c.before.put-point.auto.0
+same_length : (t : ℕ) → lts.Need-shape_of-points-then-is_flat (callees t) (here t) reads.Post
+same_length t c = c.put_point-exact.auto.points
 
-returns : (t : ℕ) → lts.Need-returns (callees t) (here t) reads.Post
+returns : (t : ℕ) → lts.Need-returns-then-is_flat (callees t) (here t) reads.Post
 returns t c =
     let d = c.before.before.before.before.before in
     let f = d.before in
@@ -106,45 +106,45 @@ returns t c =
     let x = kept-is w64 a.x.a (leaf-fits (finest - a.level) (divisor a.basis finest) a.x w.on-x) in
     let y = kept-is w64 a.y.a (leaf-fits (finest - a.level) (divisor a.basis finest) a.y w.on-y) in
     writes-both (divisor a.basis a.level) a.x.a a.y.a a.filled a.points.now _
-    (c.before.put-point.ensures ∙ (λ i. rounds (over t d i) (x i ∷ y i ∷ []) a.filled.next a.filled.exact a.points.now))
+    (c.put_point-exact.ensures ∙ (λ i. rounds (over t d i) (x i ∷ y i ∷ []) a.filled.next a.filled.exact a.points.now))
     ∙ ap (λ values. writes values a.filled a.points.now) (sym (starts-flat (divisor a.basis) _ _ (flat t f)))
 
 -- a piece that is not flat is above the finest level, and its tree is that of its halves
-shallow : (t : ℕ) (c : lts.Else1 (callees t) (here t) reads.Post) → c.before.before.args.level < finest
+shallow : (t : ℕ) (c : lts.Else-is_flat (callees t) (here t) reads.Post) → c.args.level < finest
 shallow t c =
     let s = c.before.before in
     let a = s.args in
-    sound-shallow a.basis a.tolerance a.level a.x a.y s.requires.1.0.0.shallow (sym c.before.is-flat.ensures ∙ c.if1.false) s.requires.1.0.1
+    sound-shallow a.basis a.tolerance a.level a.x a.y s.requires.1.0.0.shallow (sym c.is_flat.ensures ∙ c.if-is_flat.false) s.requires.1.0.1
 
-is_cut : (t : ℕ) (c : lts.Else1 (callees t) (here t) reads.Post) → tree_at c.before.before.args.basis c.before.before.args.tolerance c.before.before.args.level c.before.before.args.x c.before.before.args.y
-    ≡ Cut (tree_at c.before.before.args.basis c.before.before.args.tolerance (c.before.before.args.level + 1) (left_half c.before.before.args.x) (left_half c.before.before.args.y))
-    (tree_at c.before.before.args.basis c.before.before.args.tolerance (c.before.before.args.level + 1) (right_half c.before.before.args.x) (right_half c.before.before.args.y))
+is_cut : (t : ℕ) (c : lts.Else-is_flat (callees t) (here t) reads.Post) → tree_at c.args.basis c.args.tolerance c.args.level c.args.x c.args.y
+    ≡ Cut (tree_at c.args.basis c.args.tolerance (c.args.level + 1) (left_half c.args.x) (left_half c.args.y))
+    (tree_at c.args.basis c.args.tolerance (c.args.level + 1) (right_half c.args.x) (right_half c.args.y))
 is_cut t c =
-    let a = c.before.before.args in
-    at_cut a.basis a.tolerance a.level a.x a.y (sym c.before.is-flat.ensures ∙ c.if1.false) (shallow t c)
+    let a = c.args in
+    at_cut a.basis a.tolerance a.level a.x a.y (sym c.is_flat.ensures ∙ c.if-is_flat.false) (shallow t c)
 
-add-fill-starts : (t : ℕ) → lts.Need-overflow-add-fill-starts (callees t) (here t) reads.Post
+add-fill-starts : (t : ℕ) → lts.Need-overflow_add-level (callees t) (here t) reads.Post
 add-fill-starts t c = omega (arith, shallow t c.before)
 
-left-half-requires : (t : ℕ) → lts.Need-left-half-requires (callees t) (here t) reads.Post
+left-half-requires : (t : ℕ) → lts.Need-left_half-requires (callees t) (here t) reads.Post
 left-half-requires t c κs = let s = c.before.before.before in (walkable-small s.args.basis s.args.level s.args.x s.args.y s.requires.1.0.0).0
 
-left-half-requires-2 : (t : ℕ) → lts.Need-left-half-requires-2 (callees t) (here t) reads.Post
+left-half-requires-2 : (t : ℕ) → lts.Need-left_half-requires-2 (callees t) (here t) reads.Post
 left-half-requires-2 t c κs = let s = c.before.before.before.before in (walkable-small s.args.basis s.args.level s.args.x s.args.y s.requires.1.0.0).1
 
 -- so many numbers are its halves' together
-halves-length : (t : ℕ) (c : lts.Else1 (callees t) (here t) reads.Post) → length (starts (divisor c.before.before.args.basis) (tree_at c.before.before.args.basis c.before.before.args.tolerance c.before.before.args.level c.before.before.args.x c.before.before.args.y))
-    ≡ length (starts (divisor c.before.before.args.basis) (tree_at c.before.before.args.basis c.before.before.args.tolerance (c.before.before.args.level + 1) (left_half c.before.before.args.x) (left_half c.before.before.args.y)))
-    + length (starts (divisor c.before.before.args.basis) (tree_at c.before.before.args.basis c.before.before.args.tolerance (c.before.before.args.level + 1) (right_half c.before.before.args.x) (right_half c.before.before.args.y)))
-halves-length t c = cut-length (divisor c.before.before.args.basis) _ _ _ (is_cut t c)
+halves-length : (t : ℕ) (c : lts.Else-is_flat (callees t) (here t) reads.Post) → length (starts (divisor c.args.basis) (tree_at c.args.basis c.args.tolerance c.args.level c.args.x c.args.y))
+    ≡ length (starts (divisor c.args.basis) (tree_at c.args.basis c.args.tolerance (c.args.level + 1) (left_half c.args.x) (left_half c.args.y)))
+    + length (starts (divisor c.args.basis) (tree_at c.args.basis c.args.tolerance (c.args.level + 1) (right_half c.args.x) (right_half c.args.y)))
+halves-length t c = cut-length (divisor c.args.basis) _ _ _ (is_cut t c)
 
-fill-starts-requires : (t : ℕ) → lts.Need-fill-starts-requires (callees t) (here t) reads.Post
+fill-starts-requires : (t : ℕ) → lts.Need-fill_starts-on_left-requires (callees t) (here t) reads.Post
 fill-starts-requires t c κs =
     let e = c.before.before.before in
     let s = e.before.before in
     let a = s.args in
-    let x = c.before.left-half.ensures in
-    let y = c.left-half2.ensures in
+    let x = c.left_half.ensures in
+    let y = c.left_half-2.ensures in
     let same = same-tree a.basis a.tolerance (a.level + 1) x y in (
       omega (arith, shallow t e, s.requires.0),
       (
@@ -156,67 +156,67 @@ fill-starts-requires t c κs =
       ),
     )
 
-add-fill-starts-2 : (t : ℕ) → lts.Need-overflow-add-fill-starts-2 (callees t) (here t) reads.Post
+add-fill-starts-2 : (t : ℕ) → lts.Need-overflow_add-level-2 (callees t) (here t) reads.Post
 add-fill-starts-2 t c = omega (arith, shallow t c.before.before.before.before.before.before)
 
-right-half-requires : (t : ℕ) → lts.Need-right-half-requires (callees t) (here t) reads.Post
+right-half-requires : (t : ℕ) → lts.Need-right_half-requires (callees t) (here t) reads.Post
 right-half-requires t c κs = let s = c.before.before.before.before.before.before.before.before in (walkable-small s.args.basis s.args.level s.args.x s.args.y s.requires.1.0.0).0
 
-right-half-requires-2 : (t : ℕ) → lts.Need-right-half-requires-2 (callees t) (here t) reads.Post
+right-half-requires-2 : (t : ℕ) → lts.Need-right_half-requires-2 (callees t) (here t) reads.Post
 right-half-requires-2 t c κs = let s = c.before.before.before.before.before.before.before.before.before in (walkable-small s.args.basis s.args.level s.args.x s.args.y s.requires.1.0.0).1
 
 -- the piece itself, before its halves were written
-abbrev whole : {t : ℕ} → lts.After-fill-starts (callees t) (here t) reads.Post → lts.Else1 (callees t) (here t) reads.Post
+abbrev whole : {t : ℕ} → lts.After-fill_starts-on_left (callees t) (here t) reads.Post → lts.Else-is_flat (callees t) (here t) reads.Post
 whole c = c.before.before.before.before
 
 -- what the left half comes to
-left-written : (t : ℕ) (c : lts.After-fill-starts (callees t) (here t) reads.Post) → outcome c.fill-starts.result c.fill-starts.new.0
-    ≡ writes (starts (divisor (whole c).before.before.args.basis) (tree_at (whole c).before.before.args.basis (whole c).before.before.args.tolerance ((whole c).before.before.args.level + 1) (left_half (whole c).before.before.args.x) (left_half (whole c).before.before.args.y)))
-    (whole c).before.before.args.filled (whole c).before.before.args.points.now
+left-written : (t : ℕ) (c : lts.After-fill_starts-on_left (callees t) (here t) reads.Post) → outcome c.fill_starts-on_left.result c.fill_starts-on_left.new.points
+    ≡ writes (starts (divisor (whole c).args.basis) (tree_at (whole c).args.basis (whole c).args.tolerance ((whole c).args.level + 1) (left_half (whole c).args.x) (left_half (whole c).args.y)))
+    (whole c).args.filled (whole c).args.points.now
 left-written t c =
-    let a = (whole c).before.before.args in
-    c.fill-starts.ensures ∙ ap (λ r. writes (starts (divisor a.basis) r) a.filled a.points.now) (same-tree a.basis a.tolerance (a.level + 1) c.before.before.left-half.ensures c.before.left-half2.ensures)
+    let a = (whole c).args in
+    c.fill_starts-on_left.ensures ∙ ap (λ r. writes (starts (divisor a.basis) r) a.filled a.points.now) (same-tree a.basis a.tolerance (a.level + 1) c.left_half.ensures c.left_half-2.ensures)
 
-fill-starts-requires-2 : (t : ℕ) → lts.Need-fill-starts-requires-2 (callees t) (here t) reads.Post
+fill-starts-requires-2 : (t : ℕ) → lts.Need-fill_starts-requires (callees t) (here t) reads.Post
 fill-starts-requires-2 t c κs =
     let l = c.before.before.before.before in
     let e = whole l in
     let s = e.before.before in
     let a = s.args in
-    let x = c.before.right-half.ensures in
-    let y = c.right-half2.ensures in
+    let x = c.right_half.ensures in
+    let y = c.right_half-2.ensures in
     let same = same-tree a.basis a.tolerance (a.level + 1) x y in
     let next = writes-next _ _ _ _ (left-written t l) in (
-      omega (arith, shallow t e, s.pre.0),
+      omega (arith, shallow t e, s.requires.0),
       (
-        (walkable-same a.basis (a.level + 1) x y (walkable-right a.basis a.level a.x a.y (shallow t e) s.pre.1.0.0), subst Sound (sym same) (sound-halves _ _ _ (is_cut t e) s.pre.1.0.1).1),
+        (walkable-same a.basis (a.level + 1) x y (walkable-right a.basis a.level a.x a.y (shallow t e) s.requires.1.0.0), subst Sound (sym same) (sound-halves _ _ _ (is_cut t e) s.requires.1.0.1).1),
         (
-          s.pre.1.1.0,
+          s.requires.1.1.0,
           (
-            omega (arith, writes-most _ _ _ _ (left-written t l) s.pre.1.1.1.0, s.pre.1.1.1.0),
-            omega (arith, ap (λ r. length (starts (divisor a.basis) r)) same, s.pre.1.1.1.1, halves-length t e, next, l.fill-starts.auto.0),
+            omega (arith, writes-most _ _ _ _ (left-written t l) s.requires.1.1.1.0, s.requires.1.1.1.0),
+            omega (arith, ap (λ r. length (starts (divisor a.basis) r)) same, s.requires.1.1.1.1, halves-length t e, next, l.fill_starts-on_left.auto.points),
           ),
         ),
       ),
     )
 
-same-length-2 : (t : ℕ) → lts.Need-same-length-2 (callees t) (here t) reads.Post
-same-length-2 t c = c.before.fill-starts2.auto.0 ∙ c.before.before.before.before.before.before.fill-starts.auto.0
+same-length-2 : (t : ℕ) → lts.Need-shape_of-points (callees t) (here t) reads.Post
+same-length-2 t c = c.fill_starts.auto.points ∙ c.fill_starts-on_left.auto.points
 
-returns-2 : (t : ℕ) → lts.Need-returns-2 (callees t) (here t) reads.Post
+returns-2 : (t : ℕ) → lts.Need-returns (callees t) (here t) reads.Post
 returns-2 t c =
     let l = c.before.before.before.before.before.before in
-    let a = (whole l).before.before.args in
+    let a = (whole l).args in
     let right = c.before.before in
-    let same = same-tree a.basis a.tolerance (a.level + 1) right.before.right-half.ensures right.right-half2.ensures in
-    c.before.fill-starts2.ensures
-    ∙ ap (λ r. writes (starts (divisor a.basis) r) l.fill-starts.result l.fill-starts.new.0) same
+    let same = same-tree a.basis a.tolerance (a.level + 1) right.right_half.ensures right.right_half-2.ensures in
+    c.fill_starts.ensures
+    ∙ ap (λ r. writes (starts (divisor a.basis) r) l.fill_starts-on_left.result l.fill_starts-on_left.new.points) same
     ∙ ap (onward (starts (divisor a.basis) (tree_at a.basis a.tolerance (a.level + 1) (right_half a.x) (right_half a.y)))) (left-written t l)
     ∙ writes-append _ _ a.filled a.points.now
     ∙ ap (λ values. writes values a.filled a.points.now) (sym (starts-cut (divisor a.basis) _ _ _ (is_cut t (whole l))))
 
-pub +fill-starts-spec : {M : Type 1} → statement M
-+fill-starts-spec =
+pub +fill_starts_spec : {M : Type 1} → statement M
++fill_starts_spec =
     close μ
     λ t.
     lts.spec (callees t) (here t) reads.Post (is-flat-requires t) (divisor-bits-requires t) (put-point-requires t) (add-t15 t) (same_length t) (returns t) (add-fill-starts t) (left-half-requires t) (left-half-requires-2 t) (fill-starts-requires t) (add-fill-starts-2 t) (right-half-requires t) (right-half-requires-2 t) (fill-starts-requires-2 t) (same-length-2 t) (returns-2 t)

@@ -22,13 +22,13 @@ bounded c = (c.requires.0, (c.requires.1, (c.requires.2, tt)))
 abbrev twice : Ex
 twice = lit (pos 2) ⊗ var 1
 
-mul-magnitude : tie.Need-overflow-mul-magnitude
+mul-magnitude : tie.Need-overflow_mul-b
 mul-magnitude c = need w64 (three c) most (bounded c) twice tt
 
-sub-magnitude : tie.Need-overflow-sub-magnitude
+sub-magnitude : tie.Need-overflow_sub-a
 sub-magnitude c = need w64 (three c) most (bounded c) (var 0 ⊖ twice) tt
 
-add-magnitude : tie.Need-overflow-add-magnitude
+add-magnitude : tie.Need-overflow_add-a
 add-magnitude c = need w64 (three c) most (bounded c) (var 0 ⊖ twice ⊕ var 2) tt
 
 magnitude-requires : tie.Need-magnitude-requires
@@ -37,5 +37,12 @@ magnitude-requires c κs = search rules
 returns : tie.Need-returns
 returns c = c.magnitude.ensures ∙ ap nat_abs (exact w64 (three c.before) most (bounded c.before) (var 0 ⊖ twice ⊕ var 2) tt)
 
-pub second-difference-spec : {M : Type 1} → statement M
-second-difference-spec = tie.close (tie.spec mul-magnitude sub-magnitude add-magnitude magnitude-requires returns)
+pub second_difference_spec : {M : Type 1} → statement M
+second_difference_spec =
+    tie.close
+    (tie.spec
+    mul-magnitude
+    sub-magnitude
+    add-magnitude
+    magnitude-requires
+    returns)
