@@ -1,6 +1,6 @@
 -- What is known of the bytes that were read: how many there are. What they are, no contract of the language can say.
 use Rattle.std.specs.Prelude.{List, ℕ}
-use Rattle.io.specs.Counts.{IsPrefixLen}
+use Rattle.std.specs.Counts.{IsPrefixLen}
 use Rattle.console.specs.declared.input.Input.{Input}
 use Rattle.console.specs.declared.input.Input.TheVariants.{Bytes, Failed}
 

@@ -3,6 +3,8 @@ ghost use Rattle.std.specs.Prelude.{◌≡◌, true, ◌+◌, ◌-◌, ◌*◌, 
 ghost use Rattle.listing.specs.Decimal.{worth_after};
 ghost use Rattle.console.specs.Argument.{is_digit, all_digits, held, number_of};
 
+use std::env::Env;
+
 // What a text is where a natural number is asked for.
 #[derive(Clone, Copy)]
 pub enum Number {
@@ -16,10 +18,12 @@ pub enum Number {
 const LONGEST: usize = 4096;
 
 // The program's argument at a place, the first at 1. One that is missing is no number.
-pub fn read_argument(at: usize) -> Number {
+pub fn read_argument(rt: &impl Env, at: usize) -> Number {
     let mut text = [0u8; LONGEST];
-    let length = os::arg(at, &mut text);
-    number_of(&text[..length])
+    match rt.arg(at, &mut text) {
+        Ok(length) => number_of(&text[..length]),
+        Err(_) => Number::None,
+    }
 }
 
 // Reads a text as a natural number in decimal.

@@ -1,7 +1,9 @@
 // Standard input, with a read that failed told from the end.
+ghost use Rattle.std.specs.Io.{ReadsAtMost};
 ghost use Rattle.console.specs.Input.{Taken};
 
-use libc::{EINTR, STDIN_FILENO};
+use std::io;
+use std::io::{ErrorKind, Read};
 
 // What reading came to: so many bytes at the start of the list, or a read that failed.
 #[derive(Clone, Copy)]
@@ -11,48 +13,49 @@ pub enum Input {
 }
 
 // One read, which a signal may interrupt before it has a byte: then it is tried again. A loop has to end, so this one counts down from a number that no run uses up.
-fn read_some(bytes: &mut [u8]) -> Input
-    ensures { Taken result bytes.new }
+fn read_some(reader: &mut impl Read, bytes: &mut [u8]) -> io::Result<usize>
+    ensures { ReadsAtMost result bytes.new }
 {
     let mut tries = u64::MAX;
     while tries > 0 {
-        let got = libc::read(STDIN_FILENO, bytes);
-        if got >= 0 {
-            let length = io::count(got, bytes);
-            return Input::Bytes(length);
-        }
-        if os::errno() != EINTR {
-            return Input::Failed;
+        match reader.read(bytes) {
+            Ok(length) => return Ok(length),
+            Err(error) => {
+                if error.kind() != ErrorKind::Interrupted {
+                    return Err(error);
+                }
+            }
         }
         tries -= 1;
     }
-    Input::Failed
+    Err(io::Error::from(ErrorKind::Interrupted))
 }
 
 // Reads until the list is full or the input has ended.
-fn read_full(bytes: &mut [u8]) -> Input
-    ensures { Taken result bytes.new }
+fn read_full(reader: &mut impl Read, bytes: &mut [u8]) -> io::Result<usize>
+    ensures { ReadsAtMost result bytes.new }
 {
     let mut done = 0;
     while done < bytes.len() {
-        let Input::Bytes(more) = read_some(&mut bytes[done..]) else {
-            return Input::Failed;
-        };
+        let more = read_some(reader, &mut bytes[done..])?;
         if more == 0 {
-            return Input::Bytes(done);
+            return Ok(done);
         }
         done += more;
     }
-    Input::Bytes(done)
+    Ok(done)
 }
 
 // The same of standard input; a failure is said.
-pub fn read_input(bytes: &mut [u8]) -> Input
+pub fn read_input(rt: &(impl io::Input + Eprint), bytes: &mut [u8]) -> Input
     ensures { Taken result bytes.new }
 {
-    let input = read_full(bytes);
-    if let Input::Failed = input {
-        os::fail(b"reading");
+    let mut reader = rt.reader();
+    match read_full(&mut reader, bytes) {
+        Ok(length) => Input::Bytes(length),
+        Err(error) => {
+            let _ = eprintln!(rt; "reading: {error}");
+            Input::Failed
+        }
     }
-    input
 }

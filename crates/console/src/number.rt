@@ -1,5 +1,5 @@
 // One word or one number in a lent text, from a place on. Each call answers the place past what it wrote; what does not fit is left out, and what comes next stands there.
-ghost use Rattle.io.specs.Counts.{IsPrefixLen};
+ghost use Rattle.std.specs.Counts.{IsPrefixLen};
 
 use listing::{Put, put_decimal, put_natural, put_word};
 

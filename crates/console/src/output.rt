@@ -1,20 +1,21 @@
 // Standard output, and the line on standard error that says how a run ended.
-use libc::{STDERR_FILENO, STDOUT_FILENO};
 
 // Writes all of a text, and answers whether that was done.
-pub fn write_output(text: &[u8]) -> bool {
-    let done = io::write_all(STDOUT_FILENO, text);
-    if !done {
-        os::fail(b"writing");
+pub fn write_output(rt: &(impl Print + Eprint), text: &[u8]) -> bool {
+    match rt.write_all(text) {
+        Ok(()) => true,
+        Err(error) => {
+            let _ = eprintln!(rt; "writing: {error}");
+            false
+        }
     }
-    done
 }
 
 // Writes a listing, and tells a refusal as well.
-pub fn write_listing(text: &[u8]) {
-    let is_written = write_output(text);
+pub fn write_listing(rt: &(impl Print + Eprint), text: &[u8]) {
+    let is_written = write_output(rt, text);
     if is_written && is_refusal(text) {
-        tell(text);
+        tell(rt, text);
     }
 }
 
@@ -27,7 +28,10 @@ fn is_refusal(text: &[u8]) -> bool {
     }
 }
 
-// Says on standard error how the run ended, for the script that runs the program.
-pub fn tell(text: &[u8]) {
-    io::write_all(STDERR_FILENO, text);
+// Says on standard error how the run ended, for the script that runs the program. Each text is ASCII; of
+// another, what is no UTF-8 is left out.
+pub fn tell(rt: &impl Eprint, text: &[u8]) {
+    for chunk in text.utf8_chunks() {
+        let _ = rt.eprint(chunk.valid());
+    }
 }

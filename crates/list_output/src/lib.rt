@@ -27,18 +27,18 @@ pub struct Listed {
 }
 
 // Writes the listing of a file, or the line of its refusal.
-pub fn write_file(file: &[u8]) -> Listed
+pub fn write_file(rt: &(impl Print + Eprint), file: &[u8]) -> Listed
     ensures reading_value { result.reading ≡ (reading file.now controls).answer }
     ensures handed { Handed result.written (file_text file.now) }
 {
     let mut controls = [0i32; MOST_CONTROLS];
     let reading = read(file, &mut controls);
-    let written = write_parts(reading, &controls);
+    let written = write_parts(rt, reading, &controls);
     Listed { reading, written }
 }
 
 // Writes each part once, in order, by what reading the file came to and the controls that it left.
-fn write_parts(reading: Reading, controls: &[i32]) -> Written
+fn write_parts(rt: &(impl Print + Eprint), reading: Reading, controls: &[i32]) -> Written
     requires { Fitting reading controls.now }
     ensures { Handed result (joined (part_text reading controls.now) 0 (parts_of reading)) }
 {
@@ -48,7 +48,7 @@ fn write_parts(reading: Reading, controls: &[i32]) -> Written
     let mut part = 0;
     while part < parts {
         let end = list_part(reading, part, controls, &mut text);
-        if !write_output(&text[..end]) {
+        if !write_output(rt, &text[..end]) {
             return Written::Failed;
         }
         count += end;

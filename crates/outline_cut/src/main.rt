@@ -4,30 +4,31 @@
 
 use console::{Input, Number, read_argument, read_input, tell, write_listing};
 use file_list::{MOST_READ, MOST_TEXT, cut_file};
+use std::io;
 
-fn main() {
-    let Number::Is(tolerance) = read_argument(1) else {
-        tell(b"not a number: TOLERANCE\n");
+fn main(rt: HostRuntime) {
+    let Number::Is(tolerance) = read_argument(&rt, 1) else {
+        tell(&rt, b"not a number: TOLERANCE\n");
         return;
     };
-    let Number::Is(most) = read_argument(2) else {
-        tell(b"not a number: MOST\n");
+    let Number::Is(most) = read_argument(&rt, 2) else {
+        tell(&rt, b"not a number: MOST\n");
         return;
     };
-    cut_input(tolerance, most);
+    cut_input(&rt, tolerance, most);
 }
 
 // Reads the file, and writes its listing.
-fn cut_input(tolerance: usize, most: usize) {
+fn cut_input(rt: &(impl io::Input + Print + Eprint), tolerance: usize, most: usize) {
     let mut file = [0u8; MOST_READ];
-    if let Input::Bytes(length) = read_input(&mut file) {
-        cut(&file[..length], tolerance, most);
+    if let Input::Bytes(length) = read_input(rt, &mut file) {
+        cut(rt, &file[..length], tolerance, most);
     }
 }
 
 // Writes the listing of a file, or its refusal.
-fn cut(file: &[u8], tolerance: usize, most: usize) {
+fn cut(rt: &(impl Print + Eprint), file: &[u8], tolerance: usize, most: usize) {
     let mut text = [0u8; MOST_TEXT];
     let end = cut_file(file, tolerance, most, &mut text);
-    write_listing(&text[..end]);
+    write_listing(rt, &text[..end]);
 }

@@ -6,29 +6,29 @@ use file_list::{MOST_PART, MOST_READ, list_part};
 use list_output::{Written, write_file};
 use record_file::Reading;
 
-fn main() {
+fn main(rt: HostRuntime) {
     let mut file = [0u8; MOST_READ];
-    if let Input::Bytes(length) = read_input(&mut file) {
-        list(&file[..length]);
+    if let Input::Bytes(length) = read_input(&rt, &mut file) {
+        list(&rt, &file[..length]);
     }
 }
 
 // Writes the listing of a file, or its refusal, which is said on standard error as well.
-fn list(file: &[u8]) {
-    let listed = write_file(file);
+fn list(rt: &(impl Print + Eprint), file: &[u8]) {
+    let listed = write_file(rt, file);
     let written = listed.written;
     let reading = listed.reading;
     if let Written::All(_) = written {
-        tell_refusal(reading);
+        tell_refusal(rt, reading);
     }
 }
 
 // The line of a refusal is the only part, whatever the controls.
-fn tell_refusal(reading: Reading) {
+fn tell_refusal(rt: &impl Eprint, reading: Reading) {
     let Reading::Refused(_) = reading else {
         return;
     };
     let mut text = [0u8; MOST_PART];
     let end = list_part(reading, 0, &[], &mut text);
-    tell(&text[..end]);
+    tell(rt, &text[..end]);
 }

@@ -24,32 +24,44 @@ pub(crate) fn go_on(is_written: bool, bench: Bench) -> Turn {
 }
 
 // What drawing answered, said.
-fn say_drawn(answer: Drawn) -> bool {
+fn say_drawn(rt: &(impl Print + Eprint), answer: Drawn) -> bool {
     match answer {
-        Drawn::Refused(refusal) => say_refusal(refusal),
-        Drawn::Done(figures) => say(b"drawn", &[figures.points, figures.exact]),
+        Drawn::Refused(refusal) => say_refusal(rt, refusal),
+        Drawn::Done(figures) => say(rt, b"drawn", &[figures.points, figures.exact]),
     }
 }
 
 // The outline, by the way that the operation names.
-pub(crate) fn draw(shape: Shape, op: u8, controls: &[i32], points: &mut [i32]) -> bool {
+pub(crate) fn draw(
+    rt: &(impl Print + Eprint),
+    shape: Shape,
+    op: u8,
+    controls: &[i32],
+    points: &mut [i32],
+) -> bool {
     match op {
-        10 => say_drawn(outline::by_weights(shape, controls, points)),
-        11 => say_drawn(outline::by_halving(shape, controls, points)),
-        _ => say_drawn(outline::by_differences(shape, controls, points)),
+        10 => say_drawn(rt, outline::by_weights(shape, controls, points)),
+        11 => say_drawn(rt, outline::by_halving(shape, controls, points)),
+        _ => say_drawn(rt, outline::by_differences(shape, controls, points)),
     }
 }
 
 // What drawing by tolerance answered, said.
-fn say_chosen(answer: Chosen) -> bool {
+fn say_chosen(rt: &(impl Print + Eprint), answer: Chosen) -> bool {
     match answer {
-        Chosen::Refused(refusal) => say_refusal(refusal),
-        Chosen::Done(steps) => say(b"cut", &[steps.points, steps.cuts, steps.exact]),
+        Chosen::Refused(refusal) => say_refusal(rt, refusal),
+        Chosen::Done(steps) => say(rt, b"cut", &[steps.points, steps.cuts, steps.exact]),
     }
 }
 
 // The outline within a tolerance, by at most so many cuts.
-pub(crate) fn cut(bench: Bench, r: Record, controls: &[i32], points: &mut [i32]) -> Turn {
+pub(crate) fn cut(
+    rt: &(impl Print + Eprint),
+    bench: Bench,
+    r: Record,
+    controls: &[i32],
+    points: &mut [i32],
+) -> Turn {
     if r.a >= PAST_LAST {
         return Turn::Bad;
     }
@@ -58,16 +70,17 @@ pub(crate) fn cut(bench: Bench, r: Record, controls: &[i32], points: &mut [i32])
     }
     let shape = bench.shape;
     let answer = by_tolerance(shape, r.a as usize, r.b as usize, controls, points);
-    go_on(say_chosen(answer), bench)
+    go_on(say_chosen(rt, answer), bench)
 }
 
 // What an edit answered, said, and the shape that it leaves.
-fn edited(bench: Bench, answer: Edited) -> Turn {
+fn edited(rt: &(impl Print + Eprint), bench: Bench, answer: Edited) -> Turn {
     match answer {
-        Edited::Refused(refusal) => go_on(say_refusal(refusal), bench),
+        Edited::Refused(refusal) => go_on(say_refusal(rt, refusal), bench),
         Edited::Done(change) => {
             let shape = change.shape;
             let is_written = say(
+                rt,
                 b"edited",
                 &[
                     shape.basis,
@@ -100,6 +113,7 @@ fn place_at(
 }
 
 pub(crate) fn place_record(
+    rt: &(impl Print + Eprint),
     bench: Bench,
     r: Record,
     controls: &mut [i32],
@@ -114,10 +128,11 @@ pub(crate) fn place_record(
     let op = r.op;
     let shape = bench.shape;
     let answer = place_at(op, shape, r.a as usize, at, controls, points);
-    edited(bench, answer)
+    edited(rt, bench, answer)
 }
 
 pub(crate) fn remove_record(
+    rt: &(impl Print + Eprint),
     bench: Bench,
     r: Record,
     controls: &mut [i32],
@@ -128,57 +143,74 @@ pub(crate) fn remove_record(
     }
     let shape = bench.shape;
     let answer = edit::remove_record(shape, r.a as usize, controls, points);
-    edited(bench, answer)
+    edited(rt, bench, answer)
 }
 
 // The view of a span: its length, and its numbers where there are any.
-pub(crate) fn view(bench: Bench, r: Record, points: &[i32]) -> Turn {
+pub(crate) fn view(rt: &(impl Print + Eprint), bench: Bench, r: Record, points: &[i32]) -> Turn {
     if r.a >= PAST_LAST {
         return Turn::Bad;
     }
     let shape = bench.shape;
     let part = outline::view(shape, r.a as usize, points);
-    let is_written = say(b"view", &[part.len()]);
+    let is_written = say(rt, b"view", &[part.len()]);
     if is_written && part.len() != 0 {
-        return go_on(say_numbers(part), bench);
+        return go_on(say_numbers(rt, part), bench);
     }
     go_on(is_written, bench)
 }
 
-pub(crate) fn draw_preview(bench: Bench, controls: &[i32], preview: &mut [f64]) -> Turn {
+pub(crate) fn draw_preview(
+    rt: &(impl Print + Eprint),
+    bench: Bench,
+    controls: &[i32],
+    preview: &mut [f64],
+) -> Turn {
     let shape = bench.shape;
     let is_written = match preview::preview(shape, controls, preview) {
-        Previewed::Refused(refusal) => say_refusal(refusal),
-        Previewed::Drawn(count) => say(b"previewed", &[count]),
+        Previewed::Refused(refusal) => say_refusal(rt, refusal),
+        Previewed::Drawn(count) => say(rt, b"previewed", &[count]),
     };
     go_on(is_written, bench)
 }
 
-fn show_state(state: State) -> bool {
+fn show_state(rt: &(impl Print + Eprint), state: State) -> bool {
     let start = state.start;
     let current = state.current;
     let closed = if state.closed { 1 } else { 0 };
     say_state(
+        rt,
         state.count,
         &[start.x, start.y, current.x, current.y, closed],
     )
 }
 
 // A step of the drawing.
-pub(crate) fn step(bench: Bench, r: Record, controls: &mut [i32]) -> Turn {
+pub(crate) fn step(
+    rt: &(impl Print + Eprint),
+    bench: Bench,
+    r: Record,
+    controls: &mut [i32],
+) -> Turn {
     let state = bench.state;
     match state.step(step_of(r), controls) {
-        Stepped::Refused(refusal) => go_on(say_refusal(refusal), bench),
-        Stepped::Next(next) => go_on(show_state(next), bench.with_state(next)),
+        Stepped::Refused(refusal) => go_on(say_refusal(rt, refusal), bench),
+        Stepped::Next(next) => go_on(show_state(rt, next), bench.with_state(next)),
     }
 }
 
 // The file read into the controls.
-pub(crate) fn read_file(bench: Bench, file: &[u8], controls: &mut [i32]) -> Turn {
+pub(crate) fn read_file(
+    rt: &(impl Print + Eprint),
+    bench: Bench,
+    file: &[u8],
+    controls: &mut [i32],
+) -> Turn {
     match record_file::read(file, controls) {
-        Reading::Refused(refusal) => go_on(say_refusal(refusal), bench),
+        Reading::Refused(refusal) => go_on(say_refusal(rt, refusal), bench),
         Reading::Read(shape) => {
             let is_written = say(
+                rt,
                 b"read",
                 &[shape.basis, shape.depth, shape.count, shape.parameter],
             );
@@ -188,8 +220,8 @@ pub(crate) fn read_file(bench: Bench, file: &[u8], controls: &mut [i32]) -> Turn
 }
 
 // The file listed as outline-list does.
-pub(crate) fn show_file(file: &[u8]) -> bool {
-    let listed = write_file(file);
+pub(crate) fn show_file(rt: &(impl Print + Eprint), file: &[u8]) -> bool {
+    let listed = write_file(rt, file);
     let written = listed.written;
     match written {
         Written::All(_) => true,

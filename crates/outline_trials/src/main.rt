@@ -14,6 +14,7 @@ use calls::go_on;
 use console::{Input, read_input};
 use record::{Record, decoded};
 use setting::{lend, more_file, set_bench, set_number};
+use std::io;
 use text::{say_bad, say_numbers, say_patterns};
 
 // The bytes of a record of the trials file.
@@ -68,41 +69,48 @@ fn work_of(op: u8) -> Work {
 }
 
 // A record on one list of numbers: one of them set, or all shown.
-fn play_numbers(bench: Bench, r: Record, list: &mut [i32]) -> Turn {
+fn play_numbers(rt: &(impl Print + Eprint), bench: Bench, r: Record, list: &mut [i32]) -> Turn {
     if r.op < SHOWING {
         return set_number(bench, r, list);
     }
-    go_on(say_numbers(list), bench)
+    go_on(say_numbers(rt, list), bench)
 }
 
 // A record on the outline: the lent controls and points.
-fn play_outline(bench: Bench, r: Record, controls: &mut [i32], points: &mut [i32]) -> Turn {
+fn play_outline(
+    rt: &(impl Print + Eprint),
+    bench: Bench,
+    r: Record,
+    controls: &mut [i32],
+    points: &mut [i32],
+) -> Turn {
     let op = r.op;
     match op {
-        3 | 60 => play_numbers(bench, r, controls),
-        4 | 61 => play_numbers(bench, r, points),
+        3 | 60 => play_numbers(rt, bench, r, controls),
+        4 | 61 => play_numbers(rt, bench, r, points),
         10..=12 => {
             let shape = bench.shape;
-            go_on(calls::draw(shape, op, controls, points), bench)
+            go_on(calls::draw(rt, shape, op, controls, points), bench)
         }
-        13 => calls::cut(bench, r, controls, points),
-        20 | 21 => calls::place_record(bench, r, controls, points),
-        22 => calls::remove_record(bench, r, controls, points),
-        _ => calls::view(bench, r, points),
+        13 => calls::cut(rt, bench, r, controls, points),
+        20 | 21 => calls::place_record(rt, bench, r, controls, points),
+        22 => calls::remove_record(rt, bench, r, controls, points),
+        _ => calls::view(rt, bench, r, points),
     }
 }
 
 // A record that shows the file or the preview.
-fn show(bench: Bench, op: u8, preview: &[f64], file: &[u8]) -> Turn {
+fn show(rt: &(impl Print + Eprint), bench: Bench, op: u8, preview: &[f64], file: &[u8]) -> Turn {
     match op {
-        56 => go_on(calls::show_file(file), bench),
-        62 => go_on(say_patterns(preview), bench),
+        56 => go_on(calls::show_file(rt, file), bench),
+        62 => go_on(say_patterns(rt, preview), bench),
         _ => Turn::Bad,
     }
 }
 
 // A record on the drawing: the lent controls and preview, and the file as long as it is.
 fn play_drawing(
+    rt: &(impl Print + Eprint),
     bench: Bench,
     r: Record,
     controls: &mut [i32],
@@ -111,22 +119,29 @@ fn play_drawing(
 ) -> Turn {
     let op = r.op;
     match op {
-        40 => calls::draw_preview(bench, controls, preview),
-        51..=54 => calls::step(bench, r, controls),
-        55 => calls::read_file(bench, file, controls),
-        _ => show(bench, op, preview, file),
+        40 => calls::draw_preview(rt, bench, controls, preview),
+        51..=54 => calls::step(rt, bench, r, controls),
+        55 => calls::read_file(rt, bench, file, controls),
+        _ => show(rt, bench, op, preview, file),
     }
 }
 
 // The lent parts of the outline's lists, and a record on them.
-fn lend_outline(bench: Bench, r: Record, controls: &mut [i32], points: &mut [i32]) -> Turn {
+fn lend_outline(
+    rt: &(impl Print + Eprint),
+    bench: Bench,
+    r: Record,
+    controls: &mut [i32],
+    points: &mut [i32],
+) -> Turn {
     let a = least(bench.controls, controls.len());
     let b = least(bench.points, points.len());
-    play_outline(bench, r, &mut controls[0..a], &mut points[0..b])
+    play_outline(rt, bench, r, &mut controls[0..a], &mut points[0..b])
 }
 
 // The lent parts of the drawing's lists, and a record on them.
 fn lend_drawing(
+    rt: &(impl Print + Eprint),
     bench: Bench,
     r: Record,
     controls: &mut [i32],
@@ -137,6 +152,7 @@ fn lend_drawing(
     let c = least(bench.preview, preview.len());
     let d = least(bench.file, file.len());
     play_drawing(
+        rt,
         bench,
         r,
         &mut controls[0..a],
@@ -147,6 +163,7 @@ fn lend_drawing(
 
 // One record: it sets the bench up, or works on what is lent.
 fn play(
+    rt: &(impl Print + Eprint),
     bench: Bench,
     r: Record,
     controls: &mut Controls,
@@ -158,8 +175,8 @@ fn play(
     match work_of(op) {
         Work::Lists => lend(bench, r, controls, points, preview),
         Work::Bench => set_bench(bench, r),
-        Work::Outline => lend_outline(bench, r, controls, points),
-        Work::Drawing => lend_drawing(bench, r, controls, preview, file),
+        Work::Outline => lend_outline(rt, bench, r, controls, points),
+        Work::Drawing => lend_drawing(rt, bench, r, controls, preview, file),
     }
 }
 
@@ -170,6 +187,7 @@ fn cut_short(got: usize) -> Turn {
 
 // The next record of the input. The file is written by one operation alone, with the record's own bytes.
 fn play_next(
+    rt: &(impl io::Input + Print + Eprint),
     bench: Bench,
     controls: &mut Controls,
     points: &mut Points,
@@ -177,7 +195,7 @@ fn play_next(
     file: &mut File,
 ) -> Turn {
     let mut bytes = [0u8; TRIAL];
-    let Input::Bytes(got) = read_input(&mut bytes) else {
+    let Input::Bytes(got) = read_input(rt, &mut bytes) else {
         return Turn::End;
     };
     if got < TRIAL {
@@ -187,24 +205,30 @@ fn play_next(
     if r.op == MORE_FILE {
         return more_file(bench, r, &bytes, file);
     }
-    play(bench, r, controls, points, preview, file)
+    play(rt, bench, r, controls, points, preview, file)
 }
 
 // A bad record is named, and ends the run.
-fn told(turn: Turn, number: usize) -> Turn {
+fn told(rt: &(impl Print + Eprint), turn: Turn, number: usize) -> Turn {
     if let Turn::Bad = turn {
-        say_bad(number);
+        say_bad(rt, number);
     }
     turn
 }
 
 // The records to the end of the input, or to the first that is bad.
-fn play_all(controls: &mut Controls, points: &mut Points, preview: &mut Preview, file: &mut File) {
+fn play_all(
+    rt: &(impl io::Input + Print + Eprint),
+    controls: &mut Controls,
+    points: &mut Points,
+    preview: &mut Preview,
+    file: &mut File,
+) {
     let mut bench = Bench::new();
     let mut number: usize = 0;
     while number < usize::MAX {
-        let turn = play_next(bench, controls, points, preview, file);
-        let Turn::Next(next) = told(turn, number) else {
+        let turn = play_next(rt, bench, controls, points, preview, file);
+        let Turn::Next(next) = told(rt, turn, number) else {
             return;
         };
         bench = next;
@@ -212,10 +236,10 @@ fn play_all(controls: &mut Controls, points: &mut Points, preview: &mut Preview,
     }
 }
 
-fn main() {
+fn main(rt: HostRuntime) {
     let mut controls = [0i32; LONGEST_CONTROLS];
     let mut points = [0i32; LONGEST_POINTS];
     let mut preview = [0.0f64; LONGEST_PREVIEW];
     let mut file = [0u8; LONGEST_FILE];
-    play_all(&mut controls, &mut points, &mut preview, &mut file);
+    play_all(&rt, &mut controls, &mut points, &mut preview, &mut file);
 }

@@ -14,55 +14,55 @@ const NUMBERS: usize = 12 * LONGEST_POINTS;
 const PATTERNS: usize = 21 * LONGEST_PREVIEW;
 
 // Ends the line at a place of the text, and writes it.
-fn send(text: &mut [u8], at: usize) -> bool {
+fn send(rt: &(impl Print + Eprint), text: &mut [u8], at: usize) -> bool {
     let end = end_line(text, at);
     let n = length_of(end, text);
-    write_output(&text[..n])
+    write_output(rt, &text[..n])
 }
 
 // The line of a word and naturals.
-pub(crate) fn say(name: &[u8], numbers: &[usize]) -> bool {
+pub(crate) fn say(rt: &(impl Print + Eprint), name: &[u8], numbers: &[usize]) -> bool {
     let mut text = [0u8; SHORT];
     let start = add_word(&mut text, 0, name);
     let end = add_naturals(&mut text, start, numbers);
-    send(&mut text, end)
+    send(rt, &mut text, end)
 }
 
 // The line of a refusal.
-pub(crate) fn say_refusal(refusal: Refusal) -> bool {
-    say(b"refused", &[refusal.number, refusal.place])
+pub(crate) fn say_refusal(rt: &(impl Print + Eprint), refusal: Refusal) -> bool {
+    say(rt, b"refused", &[refusal.number, refusal.place])
 }
 
 // The line of a list.
-pub(crate) fn say_numbers(numbers: &[i32]) -> bool {
+pub(crate) fn say_numbers(rt: &(impl Print + Eprint), numbers: &[i32]) -> bool {
     let mut text = [0u8; NUMBERS];
     let end = add_numbers(&mut text, 0, numbers);
-    send(&mut text, end)
+    send(rt, &mut text, end)
 }
 
 // The line of a drawing state: its count, start and current, and 1 where it is closed.
-pub(crate) fn say_state(count: usize, numbers: &[i32]) -> bool {
+pub(crate) fn say_state(rt: &(impl Print + Eprint), count: usize, numbers: &[i32]) -> bool {
     let mut text = [0u8; SHORT];
     let past_count = add_phrase(&mut text, 0, b"state", count);
     let start = add_word(&mut text, past_count, b" ");
     let end = add_numbers(&mut text, start, numbers);
-    send(&mut text, end)
+    send(rt, &mut text, end)
 }
 
 // The line of a list of doubles.
-pub(crate) fn say_patterns(doubles: &[f64]) -> bool {
+pub(crate) fn say_patterns(rt: &(impl Print + Eprint), doubles: &[f64]) -> bool {
     let mut text = [0u8; PATTERNS];
     let end = add_patterns(&mut text, 0, doubles);
-    send(&mut text, end)
+    send(rt, &mut text, end)
 }
 
 // The line of a bad record, which is told as well.
-pub(crate) fn say_bad(number: usize) {
+pub(crate) fn say_bad(rt: &(impl Print + Eprint), number: usize) {
     let mut text = [0u8; SHORT];
     let past_number = add_phrase(&mut text, 0, b"bad record", number);
     let end = end_line(&mut text, past_number);
     let n = length_of(end, &text);
-    if write_output(&text[..n]) {
-        tell(&text[..n]);
+    if write_output(rt, &text[..n]) {
+        tell(rt, &text[..n]);
     }
 }

@@ -5,11 +5,15 @@ use borrow.Author.Tests.{leb-true, leb-false}
 use Rattle.listing.proofs.has_room.Statement.{statement}
 use Rattle.listing.proofs.has_room.Tie as tie
 
-returns : tie.Need-returns
+returns : tie.Need-returns-then-at-room
 returns c = record { yes = λ e. omega (arith, leb-true); no = λ e. omega (arith, leb-false) }
 
-returns-2 : tie.Need-returns-2
+returns-2 : tie.Need-returns-else-at-room
 returns-2 c = record { yes = λ e. absurd (false≢true e); no = λ e. omega arith }
 
-pub has-room-spec : {M : Type 1} → statement M
-has-room-spec = tie.close (tie.spec returns returns-2)
+pub has_room_spec : {M : Type 1} → statement M
+has_room_spec =
+    tie.close
+    (tie.spec
+    returns
+    returns-2)

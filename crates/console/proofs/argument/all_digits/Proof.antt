@@ -9,47 +9,46 @@ use Rattle.console.proofs.Arguments.{by-digit}
 use Rattle.console.proofs.argument.all_digits.Statement.{statement}
 use Rattle.console.proofs.argument.all_digits.Tie as tie
 
-abbrev invariant-loop : tie.invariant-loop
+abbrev invariant-loop : tie.invariant-loop-i
 invariant-loop text i₀ i = all_digits text ≡ all_digits (drop i text)
 
-abbrev decreases-loop : tie.decreases-loop
+abbrev decreases-loop : tie.decreases-loop-i
 decreases-loop text i₀ i = length text - i
 
-loop-holds : tie.Need-loop-init invariant-loop decreases-loop
+loop-holds : tie.Need-loop-i-init invariant-loop decreases-loop
 loop-holds c = search rules
 
-shared-slice-read-is-digit : tie.Need-shared-slice-read-is-digit invariant-loop decreases-loop
+shared-slice-read-is-digit : tie.Need-bounds-text-i invariant-loop decreases-loop
 shared-slice-read-is-digit c = search rules
 
-is-digit-requires : tie.Need-is-digit-requires invariant-loop decreases-loop
+is-digit-requires : tie.Need-is_digit-requires invariant-loop decreases-loop
 is-digit-requires c κs = search rules
 
-add-i : tie.Need-overflow-add-i invariant-loop decreases-loop
+add-i : tie.Need-overflow_add-i invariant-loop decreases-loop
 add-i c = search rules
 
-loop-less : tie.Need-loop-smaller invariant-loop decreases-loop
+loop-less : tie.Need-loop-i-smaller invariant-loop decreases-loop
 loop-less c = search rules
 
-loop-again : tie.Need-loop-preserved invariant-loop decreases-loop
+loop-again : tie.Need-loop-i-preserved invariant-loop decreases-loop
 loop-again c =
-    let l = c.before.before.before.before.loop in
-    l.invariant ∙ by-digit c.before.before.before.before.before.before.args.text.now l.i c.before.before.before.loop-test.true true (sym c.before.is_digit.ensures ∙ c.if1.true)
+    let l = c.loop-i in
+    l.invariant ∙ by-digit c.args.text.now l.i c.loop-i-test.true true (sym c.is_digit.ensures ∙ c.if-is_digit.true)
 
-returns : tie.Need-returns invariant-loop decreases-loop
+returns : tie.Need-returns-else-is_digit invariant-loop decreases-loop
 returns c =
-    let l = c.before.before.before.before.loop in
-    sym (l.invariant ∙ by-digit c.before.before.before.before.before.before.args.text.now l.i c.before.before.before.loop-test.true false (sym c.before.is_digit.ensures ∙ c.if1.false))
+    let l = c.loop-i in
+    sym (l.invariant ∙ by-digit c.args.text.now l.i c.loop-i-test.true false (sym c.is_digit.ensures ∙ c.if-is_digit.false))
 
-returns-2 : tie.Need-returns-2 invariant-loop decreases-loop
+returns-2 : tie.Need-returns invariant-loop decreases-loop
 unfolding all_digits
-returns-2 c = sym (c.before.loop.invariant ∙ ap all_digits (drop_of_length-le c.before.before.before.args.text.now c.loop-test.false))
+returns-2 c = sym (c.loop-i.invariant ∙ ap all_digits (drop_of_length-le c.args.text.now c.loop-i-test.false))
 
-pub all-digits-spec : {M : Type 1} → statement M
-all-digits-spec =
+pub all_digits_spec : {M : Type 1} → statement M
+all_digits_spec =
     tie.close
     (tie.spec
-    invariant-loop
-    decreases-loop
+    invariant-loop decreases-loop
     loop-holds
     shared-slice-read-is-digit
     is-digit-requires

@@ -7,24 +7,30 @@ use Rattle.console.specs.Argument.{number_of}
 use Rattle.console.proofs.argument.number_of.Statement.{statement}
 use Rattle.console.proofs.argument.number_of.Tie as tie
 
-returns : tie.Need-returns
+returns : tie.Need-returns-then-text-eq0
 unfolding number_of
-returns c = simp (eq-eqb _ _ c.if1.true)
+returns c = simp (eq-eqb _ _ c.if-text-eq0.true)
 
-all-digits-requires : tie.Need-all-digits-requires
+all-digits-requires : tie.Need-all_digits-requires
 all-digits-requires c κs = search rules
 
 worth-requires : tie.Need-worth-requires
-worth-requires c κs = sym c.before.all_digits.ensures ∙ c.if2.true
+worth-requires c κs = sym c.all_digits.ensures ∙ c.if-all_digits.true
 
-returns-2 : tie.Need-returns-2
+returns-2 : tie.Need-returns-then-all_digits
 unfolding number_of
-returns-2 c = simp (ne_eqb _ _ c.before.before.before.if1.false, sym c.before.before.all_digits.ensures ∙ c.before.if2.true) (ap Is c.worth.ensures)
+returns-2 c = simp (ne_eqb _ _ c.if-text-eq0.false, sym c.all_digits.ensures ∙ c.if-all_digits.true) (ap Is c.worth.ensures)
 
-returns-3 : tie.Need-returns-3
+returns-3 : tie.Need-returns-else-all_digits
 unfolding number_of
-returns-3 c = simp (ne_eqb _ _ c.before.before.if1.false, sym c.before.all_digits.ensures ∙ c.if2.false)
+returns-3 c = simp (ne_eqb _ _ c.if-text-eq0.false, sym c.all_digits.ensures ∙ c.if-all_digits.false)
 
-pub number-of-spec : {M : Type 1} → statement M
-number-of-spec =
-    tie.close (tie.spec returns all-digits-requires worth-requires returns-2 returns-3)
+pub number_of_spec : {M : Type 1} → statement M
+number_of_spec =
+    tie.close
+    (tie.spec
+    returns
+    all-digits-requires
+    worth-requires
+    returns-2
+    returns-3)

@@ -6,55 +6,53 @@ use borrow.Author.Rules.{rules}
 use Rattle.console.proofs.line.add_numbers.Statement.{statement}
 use Rattle.console.proofs.line.add_numbers.Tie as tie
 
-abbrev invariant-loop : tie.invariant-loop
+abbrev invariant-loop : tie.invariant-loop-i
 invariant-loop text₀ at numbers end₀ i₀ text end i = length text ≡ length text₀
 
-abbrev decreases-loop : tie.decreases-loop
+abbrev decreases-loop : tie.decreases-loop-i
 decreases-loop text₀ at numbers end₀ i₀ text end i = length numbers - i
 
-returns : tie.Need-returns invariant-loop decreases-loop
+returns : tie.Need-returns-then-numbers-eq0 invariant-loop decreases-loop
 returns c = search rules
 
-shared-slice-copy-out-add-number : tie.Need-shared-slice-copy-out-add-number invariant-loop decreases-loop
+shared-slice-copy-out-add-number : tie.Need-bounds-numbers-0 invariant-loop decreases-loop
 shared-slice-copy-out-add-number c = search rules
 
-add-number-requires : tie.Need-add-number-requires invariant-loop decreases-loop
+add-number-requires : tie.Need-add_number-end-requires invariant-loop decreases-loop
 add-number-requires c κs = search rules
 
-loop-holds : tie.Need-loop-init invariant-loop decreases-loop
+loop-holds : tie.Need-loop-i-init invariant-loop decreases-loop
 loop-holds c = search rules
 
-mul-add-spaced-number : tie.Need-overflow-mul-add-spaced-number invariant-loop decreases-loop
+mul-add-spaced-number : tie.Need-offset_bounds-numbers-i invariant-loop decreases-loop
 mul-add-spaced-number c = search rules
 
-shared-slice-copy-out-add-spaced-number :
-    tie.Need-shared-slice-copy-out-add-spaced-number invariant-loop decreases-loop
+shared-slice-copy-out-add-spaced-number : tie.Need-bounds-numbers-i invariant-loop decreases-loop
 shared-slice-copy-out-add-spaced-number c = search rules
 
-add-spaced-number-requires : tie.Need-add-spaced-number-requires invariant-loop decreases-loop
+add-spaced-number-requires : tie.Need-add_spaced_number-end-requires invariant-loop decreases-loop
 add-spaced-number-requires c κs = search rules
 
-add-i : tie.Need-overflow-add-i invariant-loop decreases-loop
+add-i : tie.Need-overflow_add-i invariant-loop decreases-loop
 add-i c = search rules
 
-loop-less : tie.Need-loop-smaller invariant-loop decreases-loop
+loop-less : tie.Need-loop-i-smaller invariant-loop decreases-loop
 loop-less c = search rules
 
-loop-again : tie.Need-loop-preserved invariant-loop decreases-loop
+loop-again : tie.Need-loop-i-preserved invariant-loop decreases-loop
 loop-again c = search rules
 
-same_length : tie.Need-same-length invariant-loop decreases-loop
+same_length : tie.Need-shape_of-text invariant-loop decreases-loop
 same_length c = search rules
 
-returns-2 : tie.Need-returns-2 invariant-loop decreases-loop
+returns-2 : tie.Need-returns invariant-loop decreases-loop
 returns-2 c = search rules
 
-pub add-numbers-spec : {M : Type 1} → statement M
-add-numbers-spec =
+pub add_numbers_spec : {M : Type 1} → statement M
+add_numbers_spec =
     tie.close
     (tie.spec
-    invariant-loop
-    decreases-loop
+    invariant-loop decreases-loop
     returns
     shared-slice-copy-out-add-number
     add-number-requires

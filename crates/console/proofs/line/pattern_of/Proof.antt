@@ -14,14 +14,19 @@ a-number nan e = absurd (true≢false (sym nan_differs ∙ e))
 a-number (inf s) e = tt
 a-number (fin s m k) e = tt
 
-float-to-bits-result : tie.Need-float-to-bits-result
-float-to-bits-result c = a-number c.before.args.x c.if1.false
+float-to-bits-result : tie.Need-float_to_bits-result
+float-to-bits-result c = a-number c.args.x c.if-x.false
 
-returns : tie.Need-returns
+returns : tie.Need-returns-then-x
 returns c = search rules
 
-returns-2 : tie.Need-returns-2
+returns-2 : tie.Need-returns-else-x
 returns-2 c = search rules
 
-pub pattern-of-spec : {M : Type 1} → statement M
-pattern-of-spec = tie.close (tie.spec float-to-bits-result returns returns-2)
+pub pattern_of_spec : {M : Type 1} → statement M
+pattern_of_spec =
+    tie.close
+    (tie.spec
+    float-to-bits-result
+    returns
+    returns-2)

@@ -14,36 +14,42 @@ use Rattle.listing.proofs.number.decimal_width.Tie as tie
 magnitude-requires : tie.Need-magnitude-requires
 magnitude-requires c κs = search rules
 
-width-requires : tie.Need-width-requires
+width-requires : tie.Need-width-digits-requires
 width-requires c κs = search rules
 
-digits : (c : tie.After-width) → c.width.result ≡ length (natural (nat_abs c.before.before.args.z))
+digits : (c : tie.After-width-digits) → c.width-digits.result ≡ length (natural (nat_abs c.before.before.args.z))
 digits c =
     let s = c.before.before in
-    c.width.ensures.is ∙ ap (λ (k : ℕ). length (natural k)) (c.before.magnitude.ensures ∙ ap nat_abs (back s.args.z s.ranges.z))
+    c.width-digits.ensures.is ∙ ap (λ (k : ℕ). length (natural k)) (c.before.magnitude.ensures ∙ ap nat_abs (back s.args.z s.ranges.z))
 
-few : (c : tie.After-width) → c.width.result ≤ 19
+few : (c : tie.After-width-digits) → c.width-digits.result ≤ 19
 few c =
     let s = c.before.before in
     omega (arith, digits c, width-63 (nat_abs s.args.z) (size_few s.args.z s.ranges.z))
 
-add-result : tie.Need-overflow-add-result
+add-result : tie.Need-overflow_add-result
 add-result c = search rules
 
-returns : tie.Need-returns
+returns : tie.Need-returns-then-z-lt0
 returns c =
     let s = c.before.before.before in
-    let text = ap length (below s.args.z s.ranges.z c.if1.true).text in
+    let text = ap length (below s.args.z s.ranges.z c.if-z-lt0.true).text in
     record { is = omega (arith, digits c.before); few = omega (arith, few c.before) }
 
-returns-2 : tie.Need-returns-2
+returns-2 : tie.Need-returns-else-z-lt0
 returns-2 c =
     let s = c.before.before.before in
     record {
-      is = digits c.before ∙ sym (ap length (not-below s.args.z s.ranges.z c.if1.false).text);
+      is = digits c.before ∙ sym (ap length (not-below s.args.z s.ranges.z c.if-z-lt0.false).text);
       few = omega arith;
     }
 
-pub decimal-width-spec : {M : Type 1} → statement M
-decimal-width-spec =
-    tie.close (tie.spec magnitude-requires width-requires add-result returns returns-2)
+pub decimal_width_spec : {M : Type 1} → statement M
+decimal_width_spec =
+    tie.close
+    (tie.spec
+    magnitude-requires
+    width-requires
+    add-result
+    returns
+    returns-2)

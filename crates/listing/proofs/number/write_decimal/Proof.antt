@@ -12,55 +12,55 @@ use Rattle.listing.proofs.Sign.{back, below, not-below}
 use Rattle.listing.proofs.number.write_decimal.Statement.{statement}
 use Rattle.listing.proofs.number.write_decimal.Tie as tie
 
-digits : (c : tie.After-magnitude) → natural c.magnitude.result ≡ natural (nat_abs c.before.before.args.z)
+digits : (c : tie.After-magnitude-size) → natural c.magnitude-size.result ≡ natural (nat_abs c.before.before.args.z)
 digits c =
     let s = c.before.before in
-    ap natural (c.magnitude.ensures ∙ ap nat_abs (back s.args.z s.ranges.z))
+    ap natural (c.magnitude-size.ensures ∙ ap nat_abs (back s.args.z s.ranges.z))
 
-negative : (c : tie.Then1) → decimal c.before.before.before.args.z ≡ minus ∷ natural c.before.magnitude.result
+negative : (c : tie.Then-minus) → decimal c.before.before.before.args.z ≡ minus ∷ natural c.before.magnitude-size.result
 negative c =
     let s = c.before.before.before in
-    (below s.args.z s.ranges.z c.if1.true).text ∙ ap (λ (t : List ℕ). minus ∷ t) (sym (digits c.before))
+    (below s.args.z s.ranges.z c.if-minus.true).text ∙ ap (λ (t : List ℕ). minus ∷ t) (sym (digits c.before))
 
-positive : (c : tie.Else1) → decimal c.before.before.before.args.z ≡ natural c.before.magnitude.result
+positive : (c : tie.Else-minus) → decimal c.before.before.before.args.z ≡ natural c.before.magnitude-size.result
 positive c =
     let s = c.before.before.before in
-    (not-below s.args.z s.ranges.z c.if1.false).text ∙ sym (digits c.before)
+    (not-below s.args.z s.ranges.z c.if-minus.false).text ∙ sym (digits c.before)
 
-magnitude-requires : tie.Need-magnitude-requires
+magnitude-requires : tie.Need-magnitude-size-requires
 magnitude-requires c κs = search rules
 
-slice-write-text : tie.Need-slice-write-text
+slice-write-text : tie.Need-bounds-text-at
 slice-write-text c = omega (arith, ap length (negative c))
 
-add-write-natural : tie.Need-overflow-add-write-natural
+add-write-natural : tie.Need-overflow_add-at
 add-write-natural c = search rules
 
-write-natural-requires : tie.Need-write-natural-requires
+write-natural-requires : tie.Need-write_natural-requires
 write-natural-requires c κs = simp length-set (omega (arith, ap length (negative c.before)))
 
-write-natural-requires-2 : tie.Need-write-natural-requires-2
+write-natural-requires-2 : tie.Need-write_natural-requires-else-minus
 write-natural-requires-2 c κs = omega (arith, ap length (positive c.before))
 
-same_length : tie.Need-same-length
-same_length c = c.before.before.write-natural.auto.0 ∙ simp length-set
+same_length : tie.Need-shape_of-text-then-minus
+same_length c = c.before.before.write_natural.auto.text ∙ simp length-set
 
-returns : tie.Need-returns
+returns : tie.Need-returns-then-minus
 returns c =
     let n = c.before.before in
     let a = n.before.before.before.before.before.args in
-    rw (negative n.before.before) (then (one a.text.now a.at minus) n.write-natural.ensures)
+    rw (negative n.before.before) (then (one a.text.now a.at minus) n.write_natural.ensures)
 
-same-length-2 : tie.Need-same-length-2
+same-length-2 : tie.Need-shape_of-text-else-minus
 same-length-2 c = search rules
 
-returns-2 : tie.Need-returns-2
+returns-2 : tie.Need-returns-else-minus
 returns-2 c =
     let n = c.before.before in
-    rw (positive n.before.before) n.write-natural2.ensures
+    rw (positive n.before.before) n.write_natural-else-minus.ensures
 
-pub write-decimal-spec : {M : Type 1} → statement M
-write-decimal-spec =
+pub write_decimal_spec : {M : Type 1} → statement M
+write_decimal_spec =
     tie.close
     (tie.spec
     magnitude-requires

@@ -12,24 +12,30 @@ use Rattle.listing.proofs.number.write_decimal_and.Tie as tie
 same : (c : tie.Start) → decimal (held c.args.z) ≡ decimal c.args.z
 same c = held-text c.args.z c.ranges.z
 
-write-decimal-requires : tie.Need-write-decimal-requires
+write-decimal-requires : tie.Need-write_decimal-end-requires
 write-decimal-requires c κs = omega (arith, ap length (same c.before.before))
 
-slice-write-text : tie.Need-slice-write-text
+slice-write-text : tie.Need-bounds-text-end
 slice-write-text c = omega (arith, ap length (same c.before.before.before.before.before))
 
-add-result : tie.Need-overflow-add-result
+add-result : tie.Need-overflow_add-result
 add-result c = omega (arith, ap length (same c.before.before.before.before.before))
 
-same_length : tie.Need-same-length
+same_length : tie.Need-shape_of-text
 same_length c = search rules
 
 returns : tie.Need-returns
 returns c =
     let s = c.before.before.before.before.before in
-    let w = c.before.before.write-decimal in
-    rw (← same s) (then w.ensures (one w.new.0 w.result s.args.mark))
+    let w = c.before.before.write_decimal-end in
+    rw (← same s) (then w.ensures (one w.new.text w.result s.args.mark))
 
-pub write-decimal-and-spec : {M : Type 1} → statement M
-write-decimal-and-spec =
-    tie.close (tie.spec write-decimal-requires slice-write-text add-result same_length returns)
+pub write_decimal_and_spec : {M : Type 1} → statement M
+write_decimal_and_spec =
+    tie.close
+    (tie.spec
+    write-decimal-requires
+    slice-write-text
+    add-result
+    same_length
+    returns)

@@ -24,78 +24,77 @@ lay-only l at i n few here =
     let there : i ≡ at = omega (arith, width_few n few) in
     ap (λ (k : ℕ). set l k (digit n)) there ∙ sym (ap (sets l at) (natural-few n few))
 
-abbrev invariant-loop : tie.invariant-loop
+abbrev invariant-loop : tie.invariant-loop-left
 invariant-loop text₀ at n end i₀ left₀ text i left =
     (i + 1 ≡ at + length (natural left)) × (i < length text₀) × (length text ≡ length text₀) × (sets text at (natural left) ≡ sets text₀ at (natural n))
 
-abbrev decreases-loop : tie.decreases-loop
+abbrev decreases-loop : tie.decreases-loop-left
 decreases-loop text₀ at n end i₀ left₀ text i left = left
 
 width-requires : tie.Need-width-requires invariant-loop decreases-loop
 width-requires c κs = search rules
 
-add-end : tie.Need-overflow-add-end invariant-loop decreases-loop
+add-end : tie.Need-overflow_add-end invariant-loop decreases-loop
 add-end c = omega arith
 
-sub-i : tie.Need-overflow-sub-i invariant-loop decreases-loop
+sub-i : tie.Need-overflow_sub-i invariant-loop decreases-loop
 sub-i c = omega (arith, some-digit c.before.before.args.n)
 
-loop-holds : tie.Need-loop-init invariant-loop decreases-loop
+loop-holds : tie.Need-loop-left-init invariant-loop decreases-loop
 loop-holds c =
     let a = c.before.before.args in
     let some = some-digit a.n in
     (omega arith, omega arith, refl, refl)
 
-cast-text : tie.Need-overflow-cast-text invariant-loop decreases-loop
+cast-text : tie.Need-overflow_cast-text invariant-loop decreases-loop
 cast-text c = omega arith
 
-add-text : tie.Need-overflow-add-text invariant-loop decreases-loop
+add-text : tie.Need-overflow_add-text invariant-loop decreases-loop
 add-text c = omega arith
 
-slice-write-text : tie.Need-slice-write-text invariant-loop decreases-loop
+slice-write-text : tie.Need-bounds-text-i invariant-loop decreases-loop
 slice-write-text c = omega arith
 
-sub-i-2 : tie.Need-overflow-sub-i-2 invariant-loop decreases-loop
+sub-i-2 : tie.Need-overflow_sub-i-in-loop-left invariant-loop decreases-loop
 sub-i-2 c =
-    let left = c.before.loop.left in
+    let left = c.before.loop-left.left in
     omega (arith, width-more left (omega arith), some-digit (left / 10))
 
-loop-less : tie.Need-loop-smaller invariant-loop decreases-loop
+loop-less : tie.Need-loop-left-smaller invariant-loop decreases-loop
 loop-less c = omega arith
 
-loop-again : tie.Need-loop-preserved invariant-loop decreases-loop
+loop-again : tie.Need-loop-left-preserved invariant-loop decreases-loop
 loop-again c =
     let a = c.before.before.before.before.args in
-    let l = c.before.loop in
+    let l = c.before.loop-left in
     let many : 10 ≤ l.left = omega arith in
     let fewer = width-more l.left many in
     let some = some-digit (l.left / 10) in
     (omega arith, omega arith, length-set l.text l.i (digit (l.left % 10)) ∙ l.invariant.2, lay-last l.text a.at l.i l.left many l.invariant.0 ∙ l.invariant.3)
 
-cast-text-2 : tie.Need-overflow-cast-text-2 invariant-loop decreases-loop
+cast-text-2 : tie.Need-overflow_cast-text-2 invariant-loop decreases-loop
 cast-text-2 c = omega arith
 
-add-text-2 : tie.Need-overflow-add-text-2 invariant-loop decreases-loop
+add-text-2 : tie.Need-overflow_add-text-2 invariant-loop decreases-loop
 add-text-2 c = omega arith
 
-slice-write-text-2 : tie.Need-slice-write-text-2 invariant-loop decreases-loop
+slice-write-text-2 : tie.Need-bounds-text-i-2 invariant-loop decreases-loop
 slice-write-text-2 c = omega arith
 
-same_length : tie.Need-same-length invariant-loop decreases-loop
-same_length c = simp length-set c.before.loop.invariant.2
+same_length : tie.Need-shape_of-text invariant-loop decreases-loop
+same_length c = simp length-set c.before.loop-left.invariant.2
 
 returns : tie.Need-returns invariant-loop decreases-loop
 returns c =
     let a = c.before.before.before.before.args in
-    let l = c.before.loop in
+    let l = c.before.loop-left in
     record { past = omega arith; holds = lay-only l.text a.at l.i l.left (omega arith) l.invariant.0 ∙ l.invariant.3 }
 
-pub write-natural-spec : {M : Type 1} → statement M
-write-natural-spec =
+pub write_natural_spec : {M : Type 1} → statement M
+write_natural_spec =
     tie.close
     (tie.spec
-    invariant-loop
-    decreases-loop
+    invariant-loop decreases-loop
     width-requires
     add-end
     sub-i

@@ -10,25 +10,25 @@ use Rattle.listing.proofs.outline.point_width.Tie as tie
 width-requires : tie.Need-width-requires
 width-requires c κs = search rules
 
-cast-decimal-width : tie.Need-overflow-cast-decimal-width
+cast-decimal-width : tie.Need-overflow_cast-x
 cast-decimal-width c = widens c.before.args.x c.before.ranges.x
 
-decimal-width-requires : tie.Need-decimal-width-requires
+decimal-width-requires : tie.Need-decimal_width-requires
 decimal-width-requires c κs = search rules
 
-add-result : tie.Need-overflow-add-result
+add-result : tie.Need-overflow_add-result
 add-result c = search rules
 
-cast-decimal-width-2 : tie.Need-overflow-cast-decimal-width-2
+cast-decimal-width-2 : tie.Need-overflow_cast-y
 cast-decimal-width-2 c = widens c.before.before.args.y c.before.before.ranges.y
 
-decimal-width-requires-2 : tie.Need-decimal-width-requires-2
+decimal-width-requires-2 : tie.Need-decimal_width-requires-2
 decimal-width-requires-2 c κs = search rules
 
-add-result-2 : tie.Need-overflow-add-result-2
+add-result-2 : tie.Need-overflow_add-result-2
 add-result-2 c = search rules
 
-add-result-3 : tie.Need-overflow-add-result-3
+add-result-3 : tie.Need-overflow_add-result-3
 add-result-3 c = search rules
 
 returns : tie.Need-returns
@@ -38,8 +38,8 @@ returns c =
     let y = ap length (wide-text s.args.y s.ranges.y) in
     simp length-append (omega arith)
 
-pub point-width-spec : {M : Type 1} → statement M
-point-width-spec =
+pub point_width_spec : {M : Type 1} → statement M
+point_width_spec =
     tie.close
     (tie.spec
     width-requires

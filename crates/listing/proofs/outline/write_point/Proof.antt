@@ -30,53 +30,53 @@ y-text : (s : tie.Start) → decimal (held (narrow s.args.y)) ≡ decimal s.args
 y-text s = wide-text s.args.y s.ranges.y
 
 -- the function's entry, from behind the number and from behind x
-abbrev from-number : tie.After-write-natural-and → tie.Start
+abbrev from-number : tie.After-write_natural_and-past_number → tie.Start
 from-number c = c.before.before.before
 
-abbrev from-x : tie.After-write-decimal-and → tie.Start
+abbrev from-x : tie.After-write_decimal_and-past_x → tie.Start
 from-x c = from-number c.before.before.before.before
 
 at-start : (s : tie.Start) → Left s s.args.text.now s.args.at (Line s)
 at-start s = begin s.args.text.now s.args.at (Line s)
 
-past-number : (c : tie.After-write-natural-and) → Left (from-number c) c.write-natural-and.new.0 c.write-natural-and.result (after-number (from-number c))
+past-number : (c : tie.After-write_natural_and-past_number) → Left (from-number c) c.write_natural_and-past_number.new.text c.write_natural_and-past_number.result (after-number (from-number c))
 past-number c =
     let s = from-number c in
-    word-laid (natural s.args.number) space (after-number s) (at-start s) c.write-natural-and.ensures
+    word-laid (natural s.args.number) space (after-number s) (at-start s) c.write_natural_and-past_number.ensures
 
-past-x : (c : tie.After-write-decimal-and) → Left (from-x c) c.write-decimal-and.new.0 c.write-decimal-and.result (after-x (from-x c))
+past-x : (c : tie.After-write_decimal_and-past_x) → Left (from-x c) c.write_decimal_and-past_x.new.text c.write_decimal_and-past_x.result (after-x (from-x c))
 past-x c =
     let s = from-x c in
-    word-laid (decimal s.args.x) space (after-x s) (past-number c.before.before.before.before) (rw (x-text s) at c.write-decimal-and.ensures)
+    word-laid (decimal s.args.x) space (after-x s) (past-number c.before.before.before.before) (rw (x-text s) at c.write_decimal_and-past_x.ensures)
 
-write-natural-and-requires : tie.Need-write-natural-and-requires
+write-natural-and-requires : tie.Need-write_natural_and-past_number-requires
 write-natural-and-requires c κs =
     let s = c.before.before in
     word_fits (natural s.args.number) space (after-number s) s.requires (at-start s)
 
-cast-write-decimal-and : tie.Need-overflow-cast-write-decimal-and
+cast-write-decimal-and : tie.Need-overflow_cast-x
 cast-write-decimal-and c =
     let s = from-number c.before.before.before in
-    widens s.args.x s.fits.x
+    widens s.args.x s.ranges.x
 
-write-decimal-and-requires : tie.Need-write-decimal-and-requires
+write-decimal-and-requires : tie.Need-write_decimal_and-past_x-requires
 write-decimal-and-requires c κs =
     let n = c.before.before.before in
     let s = from-number n in
-    rw (x-text s) (word_fits (decimal s.args.x) space (after-x s) s.pre (past-number n))
+    rw (x-text s) (word_fits (decimal s.args.x) space (after-x s) s.requires (past-number n))
 
-cast-write-decimal-and-2 : tie.Need-overflow-cast-write-decimal-and-2
+cast-write-decimal-and-2 : tie.Need-overflow_cast-y
 cast-write-decimal-and-2 c =
     let s = from-x c.before.before.before in
-    widens s.args.y s.fits.y
+    widens s.args.y s.ranges.y
 
-write-decimal-and-requires-2 : tie.Need-write-decimal-and-requires-2
+write-decimal-and-requires-2 : tie.Need-write_decimal_and-requires
 write-decimal-and-requires-2 c κs =
     let x = c.before.before.before in
     let s = from-x x in
-    rw (y-text s) (word_fits (decimal s.args.y) newline [] s.pre (past-x x))
+    rw (y-text s) (word_fits (decimal s.args.y) newline [] s.requires (past-x x))
 
-same_length : tie.Need-same-length
+same_length : tie.Need-shape_of-text
 same_length c = search rules
 
 returns : tie.Need-returns
@@ -84,10 +84,10 @@ returns c =
     let y = c.before.before in
     let x = y.before.before.before.before in
     let s = from-x x in
-    done (word-laid (decimal s.args.y) newline [] (past-x x) (rw (y-text s) at y.write-decimal-and2.ensures))
+    done (word-laid (decimal s.args.y) newline [] (past-x x) (rw (y-text s) at y.write_decimal_and.ensures))
 
-pub write-point-spec : {M : Type 1} → statement M
-write-point-spec =
+pub write_point_spec : {M : Type 1} → statement M
+write_point_spec =
     tie.close
     (tie.spec
     write-natural-and-requires

@@ -11,15 +11,21 @@ width-requires c κs = search rules
 width-requires-2 : tie.Need-width-requires-2
 width-requires-2 c κs = search rules
 
-add-result : tie.Need-overflow-add-result
+add-result : tie.Need-overflow_add-result
 add-result c = search rules
 
-add-result-2 : tie.Need-overflow-add-result-2
+add-result-2 : tie.Need-overflow_add-result-2
 add-result-2 c = search rules
 
 returns : tie.Need-returns
 returns c = simp length-append (omega arith)
 
-pub refusal-width-spec : {M : Type 1} → statement M
-refusal-width-spec =
-    tie.close (tie.spec width-requires width-requires-2 add-result add-result-2 returns)
+pub refusal_width_spec : {M : Type 1} → statement M
+refusal_width_spec =
+    tie.close
+    (tie.spec
+    width-requires
+    width-requires-2
+    add-result
+    add-result-2
+    returns)

@@ -27,46 +27,43 @@ abbrev after-number : tie.Start → List ℕ
 after-number s = line (natural s.args.place ∷ [])
 
 -- the function's entry, from behind the word and from behind the number
-abbrev from-word : tie.After-write-word → tie.Start
-from-word c = c.before.before.before.before
+abbrev from-word : tie.After-write_word-past_word → tie.Start
+from-word c = c.before.before.before.before.before
 
-abbrev from-number : tie.After-write-natural-and → tie.Start
+abbrev from-number : tie.After-write_natural_and-past_number → tie.Start
 from-number c = from-word c.before.before.before.before
 
 at-start : (s : tie.Start) → Left s s.args.text.now 0 (Line s)
 at-start s = begin s.args.text.now 0 (Line s)
 
-past_word : (c : tie.After-write-word) → Left (from-word c) c.write_word.new.0 c.write_word.result (after-word (from-word c))
+past_word : (c : tie.After-write_word-past_word) → Left (from-word c) c.write_word-past_word.new.text c.write_word-past_word.result (after-word (from-word c))
 past_word c =
     let s = from-word c in
-    word-laid refused space (after-word s) (at-start s) c.write_word.ensures
+    word-laid refused space (after-word s) (at-start s) c.write_word-past_word.ensures
 
-past-number : (c : tie.After-write-natural-and) → Left (from-number c) c.write-natural-and.new.0 c.write-natural-and.result (after-number (from-number c))
+past-number : (c : tie.After-write_natural_and-past_number) → Left (from-number c) c.write_natural_and-past_number.new.text c.write_natural_and-past_number.result (after-number (from-number c))
 past-number c =
     let s = from-number c in
-    word-laid (natural s.args.number) space (after-number s) (past_word c.before.before.before.before) c.write-natural-and.ensures
+    word-laid (natural s.args.number) space (after-number s) (past_word c.before.before.before.before) c.write_natural_and-past_number.ensures
 
-slice-aggregate-write-word : tie.Need-slice-aggregate-write-word
-slice-aggregate-write-word c = search rules
-
-write-word-requires : tie.Need-write-word-requires
+write-word-requires : tie.Need-write_word-past_word-requires
 write-word-requires c κs =
-    let s = c.before.before.before in
+    let s = c.before.before.before.before in
     word_fits refused space (after-word s) (room s) (at-start s)
 
-write-natural-and-requires : tie.Need-write-natural-and-requires
+write-natural-and-requires : tie.Need-write_natural_and-past_number-requires
 write-natural-and-requires c κs =
     let w = c.before.before.before in
     let s = from-word w in
     word_fits (natural s.args.number) space (after-number s) (room s) (past_word w)
 
-write-natural-and-requires-2 : tie.Need-write-natural-and-requires-2
+write-natural-and-requires-2 : tie.Need-write_natural_and-requires
 write-natural-and-requires-2 c κs =
     let n = c.before.before.before in
     let s = from-number n in
     word_fits (natural s.args.place) newline [] (room s) (past-number n)
 
-same_length : tie.Need-same-length
+same_length : tie.Need-shape_of-text
 same_length c = search rules
 
 returns : tie.Need-returns
@@ -74,13 +71,12 @@ returns c =
     let p = c.before.before in
     let n = p.before.before.before.before in
     let s = from-number n in
-    done (word-laid (natural s.args.place) newline [] (past-number n) p.write-natural-and2.ensures)
+    done (word-laid (natural s.args.place) newline [] (past-number n) p.write_natural_and.ensures)
 
-pub write-refusal-spec : {M : Type 1} → statement M
-write-refusal-spec =
+pub write_refusal_spec : {M : Type 1} → statement M
+write_refusal_spec =
     tie.close
     (tie.spec
-    slice-aggregate-write-word
     write-word-requires
     write-natural-and-requires
     write-natural-and-requires-2

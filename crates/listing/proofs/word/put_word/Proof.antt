@@ -4,26 +4,31 @@ use Rattle.listing.proofs.Fitting.{stands, stays}
 use Rattle.listing.proofs.word.put_word.Statement.{statement}
 use Rattle.listing.proofs.word.put_word.Tie as tie
 
-has-room-requires : tie.Need-has-room-requires
+has-room-requires : tie.Need-has_room-requires
 has-room-requires c κs = search rules
 
-write-word-requires : tie.Need-write-word-requires
-write-word-requires c κs = c.before.before.has_room.ensures.yes c.before.if1.true
+write-word-requires : tie.Need-write_word-requires
+write-word-requires c κs = c.before.before.has_room.ensures.yes c.before.if-has_room.true
 
-same_length : tie.Need-same-length
+same_length : tie.Need-shape_of-text
 same_length c = search rules
 
-returns : tie.Need-returns
+returns : tie.Need-returns-then-has_room
 returns c =
     let t = c.before.before.before.before in
-    stands c.before.before.write_word.ensures (t.before.has_room.ensures.yes t.if1.true)
+    stands c.before.before.write_word.ensures (t.before.has_room.ensures.yes t.if-has_room.true)
 
-returns-2 : tie.Need-returns-2
+returns-2 : tie.Need-returns-else-has_room
 returns-2 c =
     let a = c.before.before.before.before.args in
-    stays a.text.now a.at a.word.now (c.before.has_room.ensures.no c.if1.false)
+    stays a.text.now a.at a.word.now (c.before.has_room.ensures.no c.if-has_room.false)
 
-pub put-word-spec : {M : Type 1} → statement M
-put-word-spec =
+pub put_word_spec : {M : Type 1} → statement M
+put_word_spec =
     tie.close
-    (tie.spec has-room-requires write-word-requires same_length returns returns-2)
+    (tie.spec
+    has-room-requires
+    write-word-requires
+    same_length
+    returns
+    returns-2)
