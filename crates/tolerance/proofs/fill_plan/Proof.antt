@@ -24,42 +24,52 @@ few c =
 counted : (c : tie.Start) → c.args.plan.spans + c.args.cuts + 1 ≡ points_for c.args.plan (cuts_of c.args.plan c.args.tolerance c.args.controls.now)
 counted c = ap (points_for c.args.plan) c.requires.1
 
-add-count : tie.Need-overflow-add-count
+add-count : tie.Need-overflow_add-count
 add-count c = omega (arith, few c.before)
 
-add-count-2 : tie.Need-overflow-add-count-2
+add-count-2 : tie.Need-overflow_add-count-2
 add-count-2 c = omega (arith, few c.before)
 
-mul-if1 : tie.Need-overflow-mul-if1
+mul-if1 : tie.Need-overflow_mul-count
 mul-if1 c = omega (arith, few c.before)
 
 refused-requires : tie.Need-refused-requires
 refused-requires c κs = search rules
 
-returns : tie.Need-returns
+returns : tie.Need-returns-then-points-count
 returns c =
     let s = c.before.before.before in
     let a = s.args in
     ap (λ r. outcome r a.points.now) c.refused.ensures
-    ∙ sym (last-short a.plan a.tolerance a.controls.now a.points.now (subst (λ (n : ℕ). length a.points.now < 2 * n) (counted s) c.before.if1.true))
+    ∙ sym (last-short a.plan a.tolerance a.controls.now a.points.now (subst (λ (n : ℕ). length a.points.now < 2 * n) (counted s) c.if-points-count.true))
 
-fill-all-requires : tie.Need-fill-all-requires
+fill-all-requires : tie.Need-fill_all-exact-requires
 fill-all-requires c κs =
     let s = c.before.before.before in
     let a = s.args in
-    (s.requires.0, omega (arith, values_length a.plan a.tolerance a.controls.now, counted s, c.before.if1.false))
+    (s.requires.0, omega (arith, values_length a.plan a.tolerance a.controls.now, counted s, c.if-points-count.false))
 
-same_length : tie.Need-same-length
+same_length : tie.Need-shape_of-points
 same_length c = search rules
 
-returns-2 : tie.Need-returns-2
+returns-2 : tie.Need-returns
 returns-2 c =
     let s = c.before.before.before.before.before in
     let a = s.args in
     let made = s.requires.1 in
-    let all = c.before.fill-all.ensures in
+    let all = c.fill_all-exact.ensures in
     (λ i. outcome (Done (record { points = counted s i; cuts = made i; exact = (all i).answer })) (all i).held)
-    ∙ sym (last-room a.plan a.tolerance a.controls.now a.points.now (subst (λ (n : ℕ). 2 * n ≤ length a.points.now) (counted s) c.before.before.before.if1.false))
+    ∙ sym (last-room a.plan a.tolerance a.controls.now a.points.now (subst (λ (n : ℕ). 2 * n ≤ length a.points.now) (counted s) c.if-points-count.false))
 
-pub fill-plan-spec : {M : Type 1} → statement M
-fill-plan-spec = tie.close (tie.spec add-count add-count-2 mul-if1 refused-requires returns fill-all-requires same_length returns-2)
+pub fill_plan_spec : {M : Type 1} → statement M
+fill_plan_spec =
+    tie.close
+    (tie.spec
+    add-count
+    add-count-2
+    mul-if1
+    refused-requires
+    returns
+    fill-all-requires
+    same_length
+    returns-2)

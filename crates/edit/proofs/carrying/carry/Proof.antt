@@ -32,75 +32,90 @@ left past spans w h = omega (arith, run_end past spans w h)
 small : (n w : ℕ) → n ≤ most_records → w ≤ per_span deepest → n * w ≤ most_records * per_span deepest
 small n w h k = mul-le-mul h k
 
-returns : tie.Need-returns
+returns : tie.Need-returns-then-spans-past
 returns c =
-    let a = c.before.args in
-    sym (none_filled (λ q. get_or a.points.now (carried_from a.edit a.width q) (pos 0)) (a.past * a.width) (run_length a.past a.spans a.width) a.points.now (run_none a.past a.spans a.width c.if1.true))
+    let a = c.args in
+    sym (none_filled (λ q. get_or a.points.now (carried_from a.edit a.width q) (pos 0)) (a.past * a.width) (run_length a.past a.spans a.width) a.points.now (run_none a.past a.spans a.width c.if-spans-past.true))
 
-mul-from : tie.Need-overflow-mul-from
+mul-from : tie.Need-overflow_mul-from
 mul-from c = let s = c.before in omega (arith, small s.args.past s.args.width (omega arith) s.requires.0.1)
 
-mul-to : tie.Need-overflow-mul-to
+mul-to : tie.Need-overflow_mul-to
 mul-to c = let s = c.before in omega (arith, small s.args.spans s.args.width s.requires.0.0 s.requires.0.1)
 
-add-to : tie.Need-overflow-add-to
+add-to : tie.Need-overflow_add-to
 add-to c = let s = c.before in omega (arith, small s.args.spans s.args.width s.requires.0.0 s.requires.0.1)
 
-enum_told : tie.Need-enum-told
+enum_told : tie.Need-enum_told-1
 enum_told c = search rules
 
-enum-told-2 : tie.Need-enum-told-2
+enum-told-2 : tie.Need-enum_told-in-Insert
 enum-told-2 c = search rules
 
-carry-on-requires : tie.Need-carry-on-requires
+carry-on-requires : tie.Need-carry_on-requires
 carry-on-requires c κs =
-    let s = c.before.before.before.before in
+    let s = c.before.before.before in
     let a = s.args in
-    let can = subst (λ ed. Carriable ed a.past a.spans a.width (length a.points.now)) c.before.enum-told2.given.1 s.requires.1 in
+    let can = subst (λ ed. Carriable ed a.past a.spans a.width (length a.points.now)) c.in-Insert.is s.requires.1 in
     let top = mul-le-mul_right {m = a.past} {n = a.spans} a.width (omega arith) in
     ((omega (arith, one-mul a.width, mul-le-mul_right {m = 1} {n = a.past} a.width can.0), omega (arith, top)), omega (arith, can.1))
 
-enum-told-3 : tie.Need-enum-told-3
+enum-told-3 : tie.Need-enum_told-in-Remove
 enum-told-3 c = search rules
 
-carry-back-requires : tie.Need-carry-back-requires
+carry-back-requires : tie.Need-carry_back-requires
 carry-back-requires c κs =
-    let s = c.before.before.before.before in
+    let s = c.before.before.before in
     let a = s.args in
-    let can = subst (λ ed. Carriable ed a.past a.spans a.width (length a.points.now)) c.before.enum-told3.given.1 s.requires.1 in
+    let can = subst (λ ed. Carriable ed a.past a.spans a.width (length a.points.now)) c.in-Remove.is s.requires.1 in
     (omega (arith, mul-le-mul_right {m = a.past} {n = a.spans} a.width (omega arith)), omega (arith, can))
 
-returns-2 : tie.Need-returns-2
+returns-2 : tie.Need-returns-in-Move
 returns-2 c =
-    let a = c.before.before.before.args in
+    let a = c.args in
     let n = run_length a.past a.spans a.width in
     sym (same-filled a.points.now (a.past * a.width) n)
-    ∙ ap (λ ed. after ed a.points.now a.width (a.past * a.width) n) (sym c.enum_told.given.1)
+    ∙ ap (λ ed. after ed a.points.now a.width (a.past * a.width) n) (sym c.in-Move.is)
 
-same_length : tie.Need-same-length
+same_length : tie.Need-shape_of-points-in-Insert
 same_length c = search rules
 
-returns-3 : tie.Need-returns-3
+returns-3 : tie.Need-returns-in-Insert
 returns-3 c =
     let t = c.before.before.before in
-    let s = t.before.before.before in
+    let s = t.before.before in
     let a = s.args in
-    let edit = t.enum-told2.given.0 in
-    c.before.carry-on.ensures
-    ∙ ap (λ (n : ℕ). after (Insert edit.0 edit.1.0) a.points.now a.width (a.past * a.width) n) (left a.past a.spans a.width (omega (arith, t.before.before)))
-    ∙ ap (λ ed. after ed a.points.now a.width (a.past * a.width) (run_length a.past a.spans a.width)) (sym t.enum-told2.given.1)
+    c.carry_on.ensures
+    ∙ ap (λ (n : ℕ). after (Insert t.in-Insert.field-0 t.in-Insert.field-1) a.points.now a.width (a.past * a.width) n) (left a.past a.spans a.width (omega (arith, t.before)))
+    ∙ ap (λ ed. after ed a.points.now a.width (a.past * a.width) (run_length a.past a.spans a.width)) (sym t.in-Insert.is)
 
-same-length-2 : tie.Need-same-length-2
+same-length-2 : tie.Need-shape_of-points-in-Remove
 same-length-2 c = search rules
 
-returns-4 : tie.Need-returns-4
+returns-4 : tie.Need-returns-in-Remove
 returns-4 c =
     let t = c.before.before.before in
-    let s = t.before.before.before in
+    let s = t.before.before in
     let a = s.args in
-    c.before.carry_back.ensures
-    ∙ ap (λ (n : ℕ). after Remove a.points.now a.width (a.past * a.width) n) (left a.past a.spans a.width (omega (arith, t.before.before)))
-    ∙ ap (λ ed. after ed a.points.now a.width (a.past * a.width) (run_length a.past a.spans a.width)) (sym t.enum-told3.given.1)
+    c.carry_back.ensures
+    ∙ ap (λ (n : ℕ). after Remove a.points.now a.width (a.past * a.width) n) (left a.past a.spans a.width (omega (arith, t.before)))
+    ∙ ap (λ ed. after ed a.points.now a.width (a.past * a.width) (run_length a.past a.spans a.width)) (sym t.in-Remove.is)
 
-pub carry-spec : {M : Type 1} → statement M
-carry-spec = tie.close (tie.spec returns mul-from mul-to add-to enum_told enum-told-2 carry-on-requires enum-told-3 carry-back-requires returns-2 same_length returns-3 same-length-2 returns-4)
+pub carry_spec : {M : Type 1} → statement M
+carry_spec =
+    tie.close
+    (tie.spec
+    returns
+    mul-from
+    mul-to
+    add-to
+    enum_told
+    enum-told-2
+    carry-on-requires
+    enum-told-3
+    carry-back-requires
+    returns-2
+    same_length
+    returns-3
+    same-length-2
+    returns-4)

@@ -22,67 +22,67 @@ use Rattle.edit.proofs.Rows.{good-after, shape-bad, ask-bad, may-edit, room-bad,
 use Rattle.edit.proofs.checks.check_edit.Statement.{statement}
 use Rattle.edit.proofs.checks.check_edit.Tie as tie
 
-check-shape-requires : tie.Need-check-shape-requires
+check-shape-requires : tie.Need-check_shape-requires
 check-shape-requires c κs = search rules
 
-enum-known-refusal : tie.Need-enum-known-refusal
+enum-known-refusal : tie.Need-enum_known-refusal
 enum-known-refusal c = search rules
 
-returns : tie.Need-returns
+returns : tie.Need-returns-in-Unsound
 returns c =
-    let t = c.before.before.before in
-    let a = t.before.args in
-    shape-bad a.edit a.shape a.place a.controls.now a.points.now c.before.refusal.given.0.0 (sym t.check-shape.ensures ∙ c.before.refusal.given.1)
+    let t = c.before in
+    let a = t.args in
+    shape-bad a.edit a.shape a.place a.controls.now a.points.now c.in-Unsound.refusal (sym t.check_shape.ensures ∙ c.in-Unsound.is)
 
-enum-known-plan : tie.Need-enum-known-plan
+enum-known-plan : tie.Need-enum_known-plan
 enum-known-plan c = search rules
 
-check-ask-requires : tie.Need-check-ask-requires
+check-ask-requires : tie.Need-check_ask-requires
 check-ask-requires c κs = search rules
 
-enum-known-refusal-2 : tie.Need-enum-known-refusal-2
+enum-known-refusal-2 : tie.Need-enum_known-refusal-in-Bad-1
 enum-known-refusal-2 c = search rules
 
 -- the shape's plan
-module _ (k : tie.After-known-told2) where
+module _ (k : tie.In-Sound) where
   abbrev s : tie.Start
-  s = k.before.before.before.before
+  s = k.before.before
 
   abbrev p : Plan
-  p = k.before.plan.given.0.0
+  p = k.in-Sound.plan
 
   is-sound : judge_shape s.args.shape ≡ Sound p
-  is-sound = sym k.before.before.before.check-shape.ensures ∙ k.before.plan.given.1
+  is-sound = sym k.check_shape.ensures ∙ k.in-Sound.is
 
   good : Good s.args.shape p
   good = sound-facts s.args.shape p is-sound
 
-returns-2 : tie.Need-returns-2
+returns-2 : tie.Need-returns-in-Bad
 returns-2 c =
-    let t = c.before.before.before in
+    let t = c.before in
     let k = t.before in
     let a = (s k).args in
-    ask-bad a.edit a.shape a.place a.controls.now a.points.now (p k) (is-sound k) c.before.refusal2.given.0.0 (sym t.check-ask.ensures ∙ c.before.refusal2.given.1)
+    ask-bad a.edit a.shape a.place a.controls.now a.points.now (p k) (is-sound k) c.in-Bad.refusal (sym t.check_ask.ensures ∙ c.in-Bad.is)
 
-enum_told : tie.Need-enum-told
+enum_told : tie.Need-enum_told-1
 enum_told c = search rules
 
-spans-after-requires : tie.Need-spans-after-requires
-spans-after-requires c κs = let g = good c.before.before.before in (g.spans-least, omega (arith, g.spans-most, g.records-most))
+spans-after-requires : tie.Need-spans_after-spans-requires
+spans-after-requires c κs = let g = good c.before.before in (g.spans-least, omega (arith, g.spans-most, g.records-most))
 
 recounted-requires : tie.Need-recounted-requires
 recounted-requires c κs = search rules
 
 points-requires : tie.Need-points-requires
-points-requires c κs = let g = good c.before.before.before.before.before in (g.depth-most, omega (arith, g.spans-most, g.records-most))
+points-requires c κs = let g = good c.before.before.before.before in (g.depth-most, omega (arith, g.spans-most, g.records-most))
 
 -- what is asked may be done
-module _ (u : tie.After-enum-told) where
-  abbrev k : tie.After-known-told2
-  k = u.before.before.before
+module _ (u : tie.In-Fine) where
+  abbrev k : tie.In-Sound
+  k = u.before.before
 
   fine : judge_ask (s k).args.edit (p k).basis (s k).args.place (s k).args.shape.count ≡ Fine
-  fine = sym u.before.before.check-ask.ensures ∙ u.enum_told.given.1
+  fine = sym u.check_ask.ensures ∙ u.in-Fine.is
 
   -- the new shape has at most as many spans as records
   few : spans_after (s k).args.edit (p k).spans ≤ most_records
@@ -97,20 +97,20 @@ module _ (u : tie.After-enum-told) where
 points-requires-2 : tie.Need-points-requires-2
 points-requires-2 c κs =
     let u = c.before.before.before in
-    ((good (k u)).depth-most, subst (λ (n : ℕ). n ≤ most_records) (sym c.before.before.spans-after.ensures) (few u))
+    ((good (k u)).depth-most, subst (λ (n : ℕ). n ≤ most_records) (sym c.spans_after-spans.ensures) (few u))
 
-greatest-requires : tie.Need-greatest-requires
+greatest-requires : tie.Need-greatest-most-requires
 greatest-requires c κs = search rules
 
 -- the greater of the two numbers of points
-most-is : (c : tie.After-greatest) → c.greatest.result ≡ most c.before.before.before.before.before
+most-is : (c : tie.After-greatest-most) → c.greatest-most.result ≡ most c.before.before.before.before.before
 most-is c =
     let plan = p (k c.before.before.before.before.before) in
-    c.greatest.ensures
-    ∙ ap (λ (n : ℕ). max n c.before.points2.result) c.before.before.points.ensures
-    ∙ ap (max (points plan)) (c.before.points2.ensures ∙ ap (points_of plan.depth) c.before.before.before.before.spans-after.ensures)
+    c.greatest-most.ensures
+    ∙ ap (λ (n : ℕ). max n c.points-2.result) c.points.ensures
+    ∙ ap (max (points plan)) (c.points-2.ensures ∙ ap (points_of plan.depth) c.spans_after-spans.ensures)
 
-check-room-requires : tie.Need-check-room-requires
+check-room-requires : tie.Need-check_room-requires
 check-room-requires c κs =
     let u = c.before.before.before.before.before in
     let plan = p (k u) in
@@ -122,42 +122,42 @@ check-room-requires c κs =
           (points-at-most plan.depth (spans_after (s (k u)).args.edit plan.spans) g.depth-most (few u))),
     )
 
-enum-known-refusal-3 : tie.Need-enum-known-refusal-3
+enum-known-refusal-3 : tie.Need-enum_known-refusal-in-Bad-check_room
 enum-known-refusal-3 c = search rules
 
-enum-told-2 : tie.Need-enum-told-2
+enum-told-2 : tie.Need-enum_told-in-Fine-check_room
 enum-told-2 c = search rules
 
 -- what the last check found
-module _ (c : tie.After-check-room) where
-  abbrev u : tie.After-enum-told
+module _ (c : tie.After-check_room) where
+  abbrev u : tie.In-Fine
   u = c.before.before.before.before.before.before
 
-  found : c.check-room.result ≡ judge_room (s (k u)).args.edit (s (k u)).args.shape.count (s (k u)).args.controls.now (most u) (length (s (k u)).args.points.now)
+  found : c.check_room.result ≡ judge_room (s (k u)).args.edit (s (k u)).args.shape.count (s (k u)).args.controls.now (most u) (length (s (k u)).args.points.now)
   found =
       let a = (s (k u)).args in
-      c.check-room.ensures ∙ ap (λ (n : ℕ). judge_room a.edit a.shape.count a.controls.now n (length a.points.now)) (most-is c.before)
+      c.check_room.ensures ∙ ap (λ (n : ℕ). judge_room a.edit a.shape.count a.controls.now n (length a.points.now)) (most-is c.before)
 
-returns-3 : tie.Need-returns-3
+returns-3 : tie.Need-returns-in-Bad-check_room
 returns-3 c =
-    let t = c.before.before.before in
+    let t = c.before in
     let a = (s (k (u t))).args in
-    room-bad a.edit a.shape a.place a.controls.now a.points.now (p (k (u t))) (is-sound (k (u t))) (fine (u t)) c.before.refusal3.given.0.0 (sym (found t) ∙ c.before.refusal3.given.1)
+    room-bad a.edit a.shape a.place a.controls.now a.points.now (p (k (u t))) (is-sound (k (u t))) (fine (u t)) c.in-Bad-check_room.refusal (sym (found t) ∙ c.in-Bad-check_room.is)
 
-returns-4 : tie.Need-returns-4
+returns-4 : tie.Need-returns-in-Fine-check_room
 returns-4 c =
-    let t = c.before.before in
+    let t = c.before in
     let a = (s (k (u t))).args in
     let plan = p (k (u t)) in
     let r = t.before.before.before.before in
-    let spans = r.before.spans-after.ensures in
+    let spans = r.spans_after-spans.ensures in
     let basis = r.recounted.ensures ∙ ap (λ (m : ℕ). recount m plan.basis) spans in
     subst (λ (q : Plan). Vetted a.edit a.shape a.place a.controls.now a.points.now (Sound q))
     (sym (λ i. record { basis = basis i; depth = plan.depth; spans = spans i }))
-    (room-fine a.edit a.shape a.place a.controls.now a.points.now plan (is-sound (k (u t))) (fine (u t)) (sym (found t) ∙ c.enum-told2.given.1))
+    (room-fine a.edit a.shape a.place a.controls.now a.points.now plan (is-sound (k (u t))) (fine (u t)) (sym (found t) ∙ c.in-Fine-check_room.is))
 
-pub check-edit-spec : {M : Type 1} → statement M
-check-edit-spec =
+pub check_edit_spec : {M : Type 1} → statement M
+check_edit_spec =
     tie.close
     (tie.spec
     check-shape-requires

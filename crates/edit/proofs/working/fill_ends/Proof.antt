@@ -26,7 +26,7 @@ use Rattle.edit.proofs.working.fill_ends.Tie as tie
 some : (s : tie.Start) → 1 ≤ s.args.plan.spans
 some s = omega (arith, runs-least s.args.plan.basis s.args.plan.spans s.requires.0.1.round s.requires.0.2)
 
-fill-stretch-requires : tie.Need-fill-stretch-requires
+fill-stretch-requires : tie.Need-fill_stretch-last-requires
 fill-stretch-requires c κs =
     let s = c.before in
     let p = s.args.plan in (
@@ -40,7 +40,7 @@ fill-stretch-requires c κs =
       },
     )
 
-fill-stretch-requires-2 : tie.Need-fill-stretch-requires-2
+fill-stretch-requires-2 : tie.Need-fill_stretch-requires
 fill-stretch-requires-2 c κs =
     let f = c.before.before in
     let s = f.before.before in
@@ -52,7 +52,7 @@ fill-stretch-requires-2 c κs =
         high = omega (arith, s.requires.1.0.0, s.requires.1.0.1);
         some = some s;
         joint = λ none. (s.requires.0.2, inl (zero-mul (per_span p.depth)));
-        room = omega (arith, within, s.requires.1.1, f.fill-stretch.auto.0);
+        room = omega (arith, within, s.requires.1.1, f.fill_stretch-last.auto.points);
       },
     )
 
@@ -65,7 +65,7 @@ exact-few p controls l q n o e =
 stretch-few : (k n : ℕ) → k ≤ deepest → n ≤ most_records → n * per_span k ≤ most_records * per_span deepest
 stretch-few k n deep few = mul-le-mul few (mul-le-mul (le_refl 2) (pow_mono {i = k} {j = deepest} deep))
 
-add-result : tie.Need-overflow-add-result
+add-result : tie.Need-overflow_add-result
 add-result c =
     let g = c.before in
     let f = g.before.before.before in
@@ -76,13 +76,13 @@ add-result c =
     let few = s.requires.0.1.few in
     omega (
       arith,
-      exact-few p a.controls.now a.points.now (a.from * w) ((p.spans - a.from) * w + 2) (outcome f.fill-stretch.result f.fill-stretch.new.0) f.fill-stretch.ensures,
-      exact-few p a.controls.now f.fill-stretch.new.0 (0 * w) ((a.to - 0) * w + 2) (outcome g.fill-stretch2.result g.fill-stretch2.new.0) g.fill-stretch2.ensures,
+      exact-few p a.controls.now a.points.now (a.from * w) ((p.spans - a.from) * w + 2) (outcome f.fill_stretch-last.result f.fill_stretch-last.new.points) f.fill_stretch-last.ensures,
+      exact-few p a.controls.now f.fill_stretch-last.new.points (0 * w) ((a.to - 0) * w + 2) (outcome g.fill_stretch.result g.fill_stretch.new.points) g.fill_stretch.ensures,
       stretch-few p.depth (p.spans - a.from) s.requires.0.0 (omega (arith, few)),
       stretch-few p.depth (a.to - 0) s.requires.0.0 (omega (arith, few, s.requires.1.0.0, s.requires.1.0.1)),
     )
 
-same_length : tie.Need-same-length
+same_length : tie.Need-shape_of-points
 same_length c = search rules
 
 returns : tie.Need-returns
@@ -95,10 +95,15 @@ returns c =
     let p = a.plan in
     let w = per_span p.depth in
     let first : List ℤ → Outcome ℕ (List ℤ) = λ l. fills p a.controls.now (0 * w) ((a.to - 0) * w + 2) l in
-    ap (λ (o : Outcome ℕ (List ℤ)). outcome (f.fill-stretch.result + o.answer) o.held) g.fill-stretch2.ensures
-    ∙ ap (λ (o : Outcome ℕ (List ℤ)). outcome (o.answer + (first o.held).answer) (first o.held).held) f.fill-stretch.ensures
+    ap (λ (o : Outcome ℕ (List ℤ)). outcome (f.fill_stretch-last.result + o.answer) o.held) g.fill_stretch.ensures
+    ∙ ap (λ (o : Outcome ℕ (List ℤ)). outcome (o.answer + (first o.held).answer) (first o.held).held) f.fill_stretch-last.ensures
 
-pub fill-ends-spec : {M : Type 1} → statement M
-fill-ends-spec =
+pub fill_ends_spec : {M : Type 1} → statement M
+fill_ends_spec =
     tie.close
-    (tie.spec fill-stretch-requires fill-stretch-requires-2 add-result same_length returns)
+    (tie.spec
+    fill-stretch-requires
+    fill-stretch-requires-2
+    add-result
+    same_length
+    returns)

@@ -16,10 +16,10 @@ use Rattle.edit.proofs.working.rework.Tie as tie
 abbrev run : tie.Start → Run
 run s = record { first = s.args.first; count = s.args.count }
 
-returns : tie.Need-returns
-returns c = let s = c.before in none-refreshed (run s) s.args.plan s.args.controls.now s.args.points.now s.requires.1 c.if1.true
+returns : tie.Need-returns-then-count-eq0
+returns c = let s = c.before in none-refreshed (run s) s.args.plan s.args.controls.now s.args.points.now s.requires.1 c.if-count-eq0.true
 
-is-loop-requires : tie.Need-is-loop-requires
+is-loop-requires : tie.Need-is_loop-requires
 is-loop-requires c κs = search rules
 
 -- what is known of the run of a loop, and of an open outline
@@ -33,52 +33,52 @@ ends s none =
     let p = s.args.plan in
     subst (λ t. cond t ((s.args.first < p.spans) × (s.args.count ≤ p.spans)) (s.args.first + s.args.count ≤ p.spans)) none s.requires.0.2
 
-rework-round-requires : tie.Need-rework-round-requires
+rework-round-requires : tie.Need-rework_round-requires
 rework-round-requires c κs =
     let i = c.before.before in
     let s = i.before.before in
-    let loop = sym i.is_Loop.ensures ∙ c.before.if2.true in
-    ((s.requires.0.0, s.requires.0.1, loop), ((omega (arith, i.before.if1.false), (round s loop).0, (round s loop).1), s.requires.1))
+    let loop = sym i.is_loop.ensures ∙ c.if-is_loop.true in
+    ((s.requires.0.0, s.requires.0.1, loop), ((omega (arith, i.if-count-eq0.false), (round s loop).0, (round s loop).1), s.requires.1))
 
-same_length : tie.Need-same-length
+same_length : tie.Need-shape_of-points-then-is_loop
 same_length c = search rules
 
-returns-2 : tie.Need-returns-2
+returns-2 : tie.Need-returns-then-is_loop
 returns-2 c = search rules
 
-add-fill-by-weights : tie.Need-overflow-add-fill-by-weights
-add-fill-by-weights c = let i = c.before.before in let s = i.before.before in omega (arith, ends s (sym i.is_Loop.ensures ∙ c.before.if2.false), s.requires.0.1.few)
+add-fill-by-weights : tie.Need-overflow_add-first
+add-fill-by-weights c = let i = c.before.before in let s = i.before.before in omega (arith, ends s (sym i.is_loop.ensures ∙ c.if-is_loop.false), s.requires.0.1.few)
 
-fill-by-weights-requires : tie.Need-fill-by-weights-requires
+fill-by-weights-requires : tie.Need-fill_by_weights-requires
 fill-by-weights-requires c κs =
     let i = c.before.before in
     let s = i.before.before in
     let a = s.args in
-    let most = ends s (sym i.is_Loop.ensures ∙ c.before.if2.false) in
+    let most = ends s (sym i.is_loop.ensures ∙ c.if-is_loop.false) in
     record {
       deep = s.requires.0.0;
-      some = omega (arith, i.before.if1.false);
+      some = omega (arith, i.if-count-eq0.false);
       there = most;
       drawable = s.requires.0.1;
       room = omega (arith, s.requires.1, mul-le-mul_right {m = a.first + a.count} {n = a.plan.spans} (per_span a.plan.depth) most);
     }
 
-same-length-2 : tie.Need-same-length-2
+same-length-2 : tie.Need-shape_of-points
 same-length-2 c = search rules
 
-returns-3 : tie.Need-returns-3
+returns-3 : tie.Need-returns
 returns-3 c =
     let f = c.before in
     let t = f.before.before in
     let i = t.before in
     let s = i.before.before in
     let a = s.args in
-    let none = sym i.is_Loop.ensures ∙ t.if2.false in
-    f.fill-by-weights.ensures
-    ∙ stretch-refreshed (run s) a.plan a.controls.now a.points.now s.requires.1 a.first (a.first + a.count) (open-stretch (run s) a.plan none (omega (arith, i.before.if1.false)) (ends s none))
+    let none = sym i.is_loop.ensures ∙ t.if-is_loop.false in
+    f.fill_by_weights.ensures
+    ∙ stretch-refreshed (run s) a.plan a.controls.now a.points.now s.requires.1 a.first (a.first + a.count) (open-stretch (run s) a.plan none (omega (arith, i.if-count-eq0.false)) (ends s none))
 
-pub rework-spec : {M : Type 1} → statement M
-rework-spec =
+pub rework_spec : {M : Type 1} → statement M
+rework_spec =
     tie.close
     (tie.spec
     returns

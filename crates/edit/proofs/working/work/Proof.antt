@@ -19,7 +19,7 @@ use Rattle.edit.proofs.Worked.{worked}
 use Rattle.edit.proofs.working.work.Statement.{statement}
 use Rattle.edit.proofs.working.work.Tie as tie
 
-past-fresh-requires : tie.Need-past-fresh-requires
+past-fresh-requires : tie.Need-past_fresh-past-requires
 past-fresh-requires c κs = search rules
 
 steps-requires : tie.Need-steps-requires
@@ -30,10 +30,10 @@ per-span-small : (k : ℕ) → k ≤ deepest → per_span k ≤ per_span deepest
 per-span-small k h = mul-le-mul (le_refl 2) (pow_mono {i = k} {j = deepest} h)
 
 -- twice the steps are a span's numbers
-width : (c : tie.After-steps) → 2 * c.steps.result ≡ per_span c.before.before.before.args.plan.depth
+width : (c : tie.After-steps) → 2 * c.steps.result ≡ per_span c.args.plan.depth
 width c = ap (λ (n : ℕ). 2 * n) c.steps.ensures
 
-mul-carry : tie.Need-overflow-mul-carry
+mul-carry : tie.Need-overflow_mul-steps
 mul-carry c = let s = c.before.before.before in omega (arith, width c, per-span-small s.args.plan.depth s.requires.0.0)
 
 carry-requires : tie.Need-carry-requires
@@ -42,11 +42,11 @@ carry-requires c κs =
     let a = s.args in
     let p = a.plan in (
       (s.requires.1.0.0.few, omega (arith, width c, per-span-small p.depth s.requires.0.0)),
-      subst (λ (w : ℕ). Carriable a.edit c.before.before.past-fresh.result p.spans w (length a.points.now)) (sym (width c))
-          (subst (λ (n : ℕ). Carriable a.edit n p.spans (per_span p.depth) (length a.points.now)) (sym c.before.before.past-fresh.ensures) s.requires.1.1.1),
+      subst (λ (w : ℕ). Carriable a.edit c.past_fresh-past.result p.spans w (length a.points.now)) (sym (width c))
+          (subst (λ (n : ℕ). Carriable a.edit n p.spans (per_span p.depth) (length a.points.now)) (sym c.past_fresh-past.ensures) s.requires.1.1.1),
     )
 
-run-of-requires : tie.Need-run-of-requires
+run-of-requires : tie.Need-run_of-run-requires
 run-of-requires c κs =
     let s = c.before.before.before.before.before in
     (s.requires.0.1, s.requires.1.0.0.few, s.requires.1.0.0.round)
@@ -57,11 +57,11 @@ rework-requires c κs =
     let y = r.before.before in
     let s = y.before.before.before.before in
     let p = s.args.plan in (
-      (s.requires.0.0, s.requires.1.0.0, subst (λ run. Runnable run p) (sym r.run_of.ensures) s.requires.1.0.1),
-      omega (arith, s.requires.1.1.0, y.carry.auto.1.0),
+      (s.requires.0.0, s.requires.1.0.0, subst (λ run. Runnable run p) (sym r.run_of-run.ensures) s.requires.1.0.1),
+      omega (arith, s.requires.1.1.0, y.carry.auto.points),
     )
 
-same_length : tie.Need-same-length
+same_length : tie.Need-shape_of-points
 same_length c = search rules
 
 returns : tie.Need-returns
@@ -78,14 +78,24 @@ returns c =
     let carry : ℕ → ℕ → List ℤ = λ v past. filled (λ q. get_or lent (carried_from a.edit v q) (pos 0)) (past * v) (run_length past p.spans v) lent in
     let fresh = run_of a.edit p a.place in
     let moved = carry w (past_fresh a.edit p a.place) in
-    let run = r.run_of.ensures in
-    let done : outcome c.before.rework.result c.before.rework.new.0 ≡ refreshes fresh p a.controls.now moved =
-    c.before.rework.ensures
-    ∙ ap (λ (n : Run). refreshes n p a.controls.now y.carry.new.1.0) run
-    ∙ ap (refreshes fresh p a.controls.now) (y.carry.ensures ∙ ap (λ (v : ℕ). carry v f.past-fresh.result) (width y.before) ∙ ap (carry w) f.past-fresh.ensures) in (
+    let run = r.run_of-run.ensures in
+    let done : outcome c.rework.result c.rework.new.points ≡ refreshes fresh p a.controls.now moved =
+    c.rework.ensures
+    ∙ ap (λ (n : Run). refreshes n p a.controls.now y.carry.new.points) run
+    ∙ ap (refreshes fresh p a.controls.now) (y.carry.ensures ∙ ap (λ (v : ℕ). carry v f.past_fresh-past.result) (width y.before) ∙ ap (carry w) f.past_fresh-past.ensures) in (
       ap (λ (o : Outcome ℕ (List ℤ)). o.answer) done,
       ap (λ (o : Outcome ℕ (List ℤ)). o.held) done ∙ worked a.edit p a.place a.controls.now lent s.requires.1.0.0.round s.requires.0.2 s.requires.1.1.0,
     )
 
-pub work-spec : {M : Type 1} → statement M
-work-spec = tie.close (tie.spec past-fresh-requires steps-requires mul-carry carry-requires run-of-requires rework-requires same_length returns)
+pub work_spec : {M : Type 1} → statement M
+work_spec =
+    tie.close
+    (tie.spec
+    past-fresh-requires
+    steps-requires
+    mul-carry
+    carry-requires
+    run-of-requires
+    rework-requires
+    same_length
+    returns)
