@@ -4,7 +4,7 @@ use mathlib.Core.Path.{◌≡◌, refl, sym, ap, ◌∙◌}
 use mathlib.Core.List.{List, [], ◌∷◌}
 use Prim.Native.Nat.{ℕ}
 use lib.IntN.{ℤ}
-use denote.Ref.{Bor}
+use denote.Ref.{Bor, MutBor}
 use Rattle.whole.specs.Outcome.{Outcome}
 use Rattle.shape.specs.declared.Shape.{Shape}
 use Rattle.spans.specs.declared.run.Way.{Way}
@@ -41,13 +41,17 @@ meets-reading Remove asked o call = sym call.leaves ∙ call.meets ∙ ap readin
 abbrev lent : List ℤ → Bor (List ℤ)
 lent l = record { ref_ptr = (0, 0); now = l }
 
+-- and one that is lent to be written
+abbrev lent_to_write : List ℤ → MutBor (List ℤ)
+lent_to_write l = record { ref_ptr = (0, 0); ghost_name = 0; now = l }
+
 -- the three drawing calls have one signature and one contract
 one-drawing : (s : Shape) (controls points : List ℤ) → MeetsDrawing Weights (s, controls, points) (draws s controls points)
 one-drawing s controls points =
     let o = draws s controls points in
     record {
       lifetimes = ([], ([], tt));
-      arguments = (s, (lent controls, (lent points, tt)));
+      arguments = (s, (lent controls, (lent_to_write points, tt)));
       result = o.answer;
       last = (tt, (tt, (o.held, tt)));
       asks = refl;
@@ -65,7 +69,7 @@ reading-meets (Move x y) t j =
     let o = answered t (record { edit = Move x y; place = j }) in
     record {
       lifetimes = ([], ([], tt));
-      arguments = (t.shape, (j, (x, (y, (lent t.controls, (lent t.held, tt))))));
+      arguments = (t.shape, (j, (x, (y, (lent_to_write t.controls, (lent_to_write t.held, tt))))));
       result = o.answer;
       last = (tt, (tt, (tt, (tt, (o.held.0, (o.held.1, tt))))));
       asks = refl;
@@ -76,7 +80,7 @@ reading-meets (Insert x y) t j =
     let o = answered t (record { edit = Insert x y; place = j }) in
     record {
       lifetimes = ([], ([], tt));
-      arguments = (t.shape, (j, (x, (y, (lent t.controls, (lent t.held, tt))))));
+      arguments = (t.shape, (j, (x, (y, (lent_to_write t.controls, (lent_to_write t.held, tt))))));
       result = o.answer;
       last = (tt, (tt, (tt, (tt, (o.held.0, (o.held.1, tt))))));
       asks = refl;
@@ -87,7 +91,7 @@ reading-meets Remove t j =
     let o = answered t (record { edit = Remove; place = j }) in
     record {
       lifetimes = ([], ([], tt));
-      arguments = (t.shape, (j, (lent t.controls, (lent t.held, tt))));
+      arguments = (t.shape, (j, (lent_to_write t.controls, (lent_to_write t.held, tt))));
       result = o.answer;
       last = (tt, (tt, (o.held.0, (o.held.1, tt))));
       asks = refl;

@@ -9,23 +9,29 @@ use borrow.Author.Rules.{rules}
 use Rattle.file_list.proofs.cut.cut_file.Statement.{statement}
 use Rattle.file_list.proofs.cut.cut_file.Tie as tie
 
-put-file-requires : tie.Need-put-file-requires
+put-file-requires : tie.Need-put_file-requires
 put-file-requires c κs = search rules
 
-count-of-requires : tie.Need-count-of-requires
+count-of-requires : tie.Need-count_of-requires
 count-of-requires c κs = search rules
 
-same_length : tie.Need-same-length
+same_length : tie.Need-shape_of-text
 same_length c = search rules
 
 returns : tie.Need-returns
 returns c =
-    let a = c.before.before.before.before.before.before.before.args in
-    let put = c.before.before.before.put-file in
+    let a = c.args in
+    let put = c.put_file in
     let text = cut_file_text a.tolerance a.most a.file.now in
     let count = c.count_of.ensures in
-    let held = put.new.1.1.1.0 in
+    let held = put.new.text in
     (subst (λ (n : ℕ). Within n held) (sym count) (count-within a.text.now text put.result held put.ensures), ap (λ (n : ℕ). outcome n held) count ∙ counted-text a.text.now text put.result held put.ensures)
 
-pub cut-file-spec : {M : Type 1} → statement M
-cut-file-spec = tie.close (tie.spec put-file-requires count-of-requires same_length returns)
+pub cut_file_spec : {M : Type 1} → statement M
+cut_file_spec =
+    tie.close
+    (tie.spec
+    put-file-requires
+    count-of-requires
+    same_length
+    returns)

@@ -8,51 +8,49 @@ use borrow.Author.Rules.{rules}
 use Rattle.file_list.proofs.cut.put_file.Statement.{statement}
 use Rattle.file_list.proofs.cut.put_file.Tie as tie
 
-slice-aggregate-read : tie.Need-slice-aggregate-read
+slice-aggregate-read : tie.Need-slice_bounds-read-end
 slice-aggregate-read c = search rules
 
 read-requires : tie.Need-read-requires
 read-requires c κs = search rules
 
-enum-known-refusal : tie.Need-enum-known-refusal
+enum-known-refusal : tie.Need-enum_known-refusal
 enum-known-refusal c = search rules
 
-put-refusal-requires : tie.Need-put-refusal-requires
+put-refusal-requires : tie.Need-put_refusal-requires
 put-refusal-requires c κs = search rules
 
-enum-known-shape : tie.Need-enum-known-shape
+enum-known-shape : tie.Need-enum_known-shape
 enum-known-shape c = search rules
 
-slice-aggregate-put-shape : tie.Need-slice-aggregate-put-shape
+slice-aggregate-put-shape : tie.Need-slice_bounds-put_shape-end
 slice-aggregate-put-shape c = search rules
 
-put-shape-requires : tie.Need-put-shape-requires
+put-shape-requires : tie.Need-put_shape-requires
 put-shape-requires c κs = search rules
 
-same_length : tie.Need-same-length
+same_length : tie.Need-shape_of-text-in-Refused
 same_length c = search rules
 
-returns : tie.Need-returns
+returns : tie.Need-returns-in-Refused
 returns c =
-    let a = c.before.before.before.before.before.before.before.before.before.before.before.before.args in
-    let got = c.before.before.before.before.before.before.before.before.read in
-    let refused = c.before.before.before.before.before.refusal.given in
-    c.before.before.put-refusal.ensures
-    ∙ ap (written a.text.now 0) (sym (unread-text (by_tolerance a.tolerance a.most) a.file.now refused.0.0 got.new.1.0 (sym got.ensures ∙ ap (λ r. outcome r got.new.1.0) refused.1)))
+    let a = c.args in
+    let got = c.read in
+    c.put_refusal.ensures
+    ∙ ap (written a.text.now 0) (sym (unread-text (by_tolerance a.tolerance a.most) a.file.now c.in-Refused.refusal got.new.controls (sym got.ensures ∙ ap (λ r. outcome r got.new.controls) c.in-Refused.is)))
 
-same-length-2 : tie.Need-same-length-2
+same-length-2 : tie.Need-shape_of-text-in-Read
 same-length-2 c = search rules
 
-returns-2 : tie.Need-returns-2
+returns-2 : tie.Need-returns-in-Read
 returns-2 c =
-    let a = c.before.before.before.before.before.before.before.before.before.before.before.before.before.args in
-    let got = c.before.before.before.before.before.before.before.before.before.read in
-    let shape = c.before.before.before.before.before.before.shape.given in
-    c.before.before.put-shape.ensures
-    ∙ ap (written a.text.now 0) (sym (read-text (by_tolerance a.tolerance a.most) a.file.now shape.0.0 got.new.1.0 (sym got.ensures ∙ ap (λ r. outcome r got.new.1.0) shape.1)))
+    let a = c.args in
+    let got = c.read in
+    c.put_shape.ensures
+    ∙ ap (written a.text.now 0) (sym (read-text (by_tolerance a.tolerance a.most) a.file.now c.in-Read.shape got.new.controls (sym got.ensures ∙ ap (λ r. outcome r got.new.controls) c.in-Read.is)))
 
-pub put-file-spec : {M : Type 1} → statement M
-put-file-spec =
+pub put_file_spec : {M : Type 1} → statement M
+put_file_spec =
     tie.close
     (tie.spec
     slice-aggregate-read

@@ -6,11 +6,15 @@ use Rattle.shape.specs.Shape.{b_spline, loop}
 use Rattle.file_list.proofs.parts.alone_basis.Statement.{statement}
 use Rattle.file_list.proofs.parts.alone_basis.Tie as tie
 
-returns : tie.Need-returns
-returns c = let n = c.before.args.number in ap (λ (t : Bool). cond t b_spline n) (sym (eq-eqb n loop c.if1.true))
+returns : tie.Need-returns-then-number-eq-LOOP
+returns c = let n = c.args.number in ap (λ (t : Bool). cond t b_spline n) (sym (eq-eqb n loop c.if-number-eq-LOOP.true))
 
-returns-2 : tie.Need-returns-2
-returns-2 c = let n = c.before.args.number in ap (λ (t : Bool). cond t b_spline n) (sym (ne_eqb n loop c.if1.false))
+returns-2 : tie.Need-returns-else-number-eq-LOOP
+returns-2 c = let n = c.args.number in ap (λ (t : Bool). cond t b_spline n) (sym (ne_eqb n loop c.if-number-eq-LOOP.false))
 
-pub alone-basis-spec : {M : Type 1} → statement M
-alone-basis-spec = tie.close (tie.spec returns returns-2)
+pub alone_basis_spec : {M : Type 1} → statement M
+alone_basis_spec =
+    tie.close
+    (tie.spec
+    returns
+    returns-2)

@@ -7,21 +7,27 @@ use borrow.Author.Rules.{rules}
 use Rattle.file_list.proofs.parts.put_only.Statement.{statement}
 use Rattle.file_list.proofs.parts.put_only.Tie as tie
 
-put-refusal-requires : tie.Need-put-refusal-requires
+put-refusal-requires : tie.Need-put_refusal-requires
 put-refusal-requires c κs = search rules
 
-same_length : tie.Need-same-length
+same_length : tie.Need-shape_of-text
 same_length c = search rules
 
-returns : tie.Need-returns
+returns : tie.Need-returns-then-part-eq0
 returns c =
-    let a = c.before.before.before.before.before.before.args in
-    c.before.before.put-refusal.ensures ∙ ap (written a.text.now 0) (sym (only-first (refused_text a.refusal) a.part c.before.before.before.before.if1.true))
+    let a = c.args in
+    c.put_refusal.ensures ∙ ap (written a.text.now 0) (sym (only-first (refused_text a.refusal) a.part c.if-part-eq0.true))
 
-returns-2 : tie.Need-returns-2
+returns-2 : tie.Need-returns-else-part-eq0
 returns-2 c =
-    let a = c.before.before.args in
-    no_text a.text.now _ (only-later (refused_text a.refusal) a.part c.if1.false)
+    let a = c.args in
+    no_text a.text.now _ (only-later (refused_text a.refusal) a.part c.if-part-eq0.false)
 
-pub put-only-spec : {M : Type 1} → statement M
-put-only-spec = tie.close (tie.spec put-refusal-requires same_length returns returns-2)
+pub put_only_spec : {M : Type 1} → statement M
+put_only_spec =
+    tie.close
+    (tie.spec
+    put-refusal-requires
+    same_length
+    returns
+    returns-2)

@@ -12,43 +12,43 @@ use Rattle.file_list.proofs.parts.put_outline_part.Tie as tie
 points-requires : tie.Need-points-requires
 points-requires c κs = search rules
 
-list-heading-requires : tie.Need-list-heading-requires
+list-heading-requires : tie.Need-list_heading-requires
 list-heading-requires c κs = search rules
 
-same_length : tie.Need-same-length
+same_length : tie.Need-shape_of-text-then-part-eq0
 same_length c = search rules
 
-returns : tie.Need-returns
+returns : tie.Need-returns-then-part-eq0
 returns c =
     let p = c.before.before.before in
-    let a = p.before.before.before.before.args in
-    c.before.before.list-heading.ensures
+    let a = p.args in
+    c.list_heading.ensures
     ∙ ap (λ (n : ℕ). written a.text.now 0 (heading_text a.shape.basis a.shape.depth a.plan.spans n)) p.points.ensures
-    ∙ ap (λ (i : ℕ). written a.text.now 0 (outline_part a.shape a.plan a.controls.now i)) (sym p.before.before.if1.true)
+    ∙ ap (λ (i : ℕ). written a.text.now 0 (outline_part a.shape a.plan a.controls.now i)) (sym p.if-part-eq0.true)
 
-sub-span : tie.Need-overflow-sub-span
+sub-span : tie.Need-overflow_sub-span
 sub-span c = search rules
 
-put-span-requires : tie.Need-put-span-requires
+put-span-requires : tie.Need-put_span-requires
 put-span-requires c κs = search rules
 
-same-length-2 : tie.Need-same-length-2
+same-length-2 : tie.Need-shape_of-text
 same-length-2 c = search rules
 
-returns-2 : tie.Need-returns-2
+returns-2 : tie.Need-returns-then-span-plan
 returns-2 c =
     let t = c.before.before.before.before in
-    let a = t.before.before.before.before.args in
-    c.before.before.put-span.ensures
-    ∙ ap (written a.text.now 0) (sym (span-part a.shape a.plan a.controls.now a.part t.before.before.if1.false t.if2.true))
+    let a = t.args in
+    c.put_span.ensures
+    ∙ ap (written a.text.now 0) (sym (span-part a.shape a.plan a.controls.now a.part t.if-part-eq0.false t.if-span-plan.true))
 
-returns-3 : tie.Need-returns-3
+returns-3 : tie.Need-returns-else-span-plan
 returns-3 c =
-    let a = c.before.before.before.before.args in
-    no_text a.text.now _ (past-parts a.shape a.plan a.controls.now a.part c.before.before.if1.false c.if2.false)
+    let a = c.args in
+    no_text a.text.now _ (past-parts a.shape a.plan a.controls.now a.part c.if-part-eq0.false c.if-span-plan.false)
 
-pub put-outline-part-spec : {M : Type 1} → statement M
-put-outline-part-spec =
+pub put_outline_part_spec : {M : Type 1} → statement M
+put_outline_part_spec =
     tie.close
     (tie.spec
     points-requires

@@ -8,48 +8,45 @@ use borrow.Author.Rules.{rules}
 use Rattle.file_list.proofs.parts.put_shape_part.Statement.{statement}
 use Rattle.file_list.proofs.parts.put_shape_part.Tie as tie
 
-check-shape-requires : tie.Need-check-shape-requires
+check-shape-requires : tie.Need-check_shape-requires
 check-shape-requires c κs = search rules
 
-enum-known-refusal : tie.Need-enum-known-refusal
+enum-known-refusal : tie.Need-enum_known-refusal
 enum-known-refusal c = search rules
 
-put-only-requires : tie.Need-put-only-requires
+put-only-requires : tie.Need-put_only-requires
 put-only-requires c κs = search rules
 
-enum-known-plan : tie.Need-enum-known-plan
+enum-known-plan : tie.Need-enum_known-plan
 enum-known-plan c = search rules
 
-put-outline-part-requires : tie.Need-put-outline-part-requires
+put-outline-part-requires : tie.Need-put_outline_part-requires
 put-outline-part-requires c κs =
-    let checked = c.before.before.before.before.check-shape in
-    let plan = c.before.before.plan.given in
-    sound-facts c.before.before.before.before.before.before.args.shape plan.0.0 (sym checked.ensures ∙ plan.1)
+    let checked = c.check_shape in
+    sound-facts c.args.shape c.in-Sound.plan (sym checked.ensures ∙ c.in-Sound.is)
 
-same_length : tie.Need-same-length
+same_length : tie.Need-shape_of-text-in-Unsound
 same_length c = search rules
 
-returns : tie.Need-returns
+returns : tie.Need-returns-in-Unsound
 returns c =
-    let a = c.before.before.before.before.before.before.before.before.before.args in
-    let checked = c.before.before.before.before.before.before.before.check-shape in
-    let refused = c.before.before.before.before.before.refusal.given in
-    c.before.before.put-Only.ensures
-    ∙ ap (λ (j : Judged). written a.text.now 0 (shape_part a.shape a.controls.now j a.part)) (sym (sym checked.ensures ∙ refused.1))
+    let a = c.args in
+    let checked = c.check_shape in
+    c.put_only.ensures
+    ∙ ap (λ (j : Judged). written a.text.now 0 (shape_part a.shape a.controls.now j a.part)) (sym (sym checked.ensures ∙ c.in-Unsound.is))
 
-same-length-2 : tie.Need-same-length-2
+same-length-2 : tie.Need-shape_of-text-in-Sound
 same-length-2 c = search rules
 
-returns-2 : tie.Need-returns-2
+returns-2 : tie.Need-returns-in-Sound
 returns-2 c =
-    let a = c.before.before.before.before.before.before.before.before.before.args in
-    let checked = c.before.before.before.before.before.before.before.check-shape in
-    let plan = c.before.before.before.before.before.plan.given in
-    c.before.before.put-outline-part.ensures
-    ∙ ap (λ (j : Judged). written a.text.now 0 (shape_part a.shape a.controls.now j a.part)) (sym (sym checked.ensures ∙ plan.1))
+    let a = c.args in
+    let checked = c.check_shape in
+    c.put_outline_part.ensures
+    ∙ ap (λ (j : Judged). written a.text.now 0 (shape_part a.shape a.controls.now j a.part)) (sym (sym checked.ensures ∙ c.in-Sound.is))
 
-pub put-shape-part-spec : {M : Type 1} → statement M
-put-shape-part-spec =
+pub put_shape_part_spec : {M : Type 1} → statement M
+put_shape_part_spec =
     tie.close
     (tie.spec
     check-shape-requires
