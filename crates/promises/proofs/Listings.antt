@@ -6,7 +6,7 @@ use mathlib.Core.List.{List, [], ◌++◌}
 use mathlib.Core.Logic.{inl}
 use Prim.Native.Nat.{ℕ, zero, suc, ◌+◌, ◌≤◌, ◌<◌}
 use native.Mathlib.Omega.{arith}
-use denote.Ref.{Bor}
+use denote.Ref.{Bor, MutBor}
 use borrow.Author.Tests.{lt-ltb, ne_eqb}
 use lib.IntN.{ℤ}
 use lib.Dec.{eqb}
@@ -90,6 +90,9 @@ code-listed file out run =
 abbrev lent : {A : Type 0} → A → Bor A
 lent l = record { ref_ptr = (0, 0); now = l }
 
+abbrev lent_to_write : {A : Type 0} → A → MutBor A
+lent_to_write l = record { ref_ptr = (0, 0); ghost_name = 0; now = l }
+
 parts-handed : (r : Reading) (held : List ℤ) → ((i : ℕ) → length (part_text r held i) ≤ most_part) → (n i : ℕ) (text : List ℕ) → length text ≡ most_part → Hands r held text i n (joined (part_text r held) i n)
 unfolding Hands joined
 parts-handed r held fit zero i text long = refl
@@ -100,7 +103,7 @@ parts-handed r held fit (suc n) i text long =
       o,
       record {
         lifetimes = ([], ([], tt));
-        arguments = (r, (i, (lent held, (lent text, tt))));
+        arguments = (r, (i, (lent held, (lent_to_write text, tt))));
         result = o.answer;
         last = (tt, (tt, (tt, (o.held, tt))));
         asks = refl;
@@ -117,7 +120,7 @@ listed-by-code file =
     let o = reading file controls in
     let n = parts_of o.answer in (
       o,
-      record { lifetimes = ([], ([], tt)); arguments = (lent file, (lent controls, tt)); result = o.answer; last = (tt, (o.held, tt)); asks = refl; leaves = refl; meets = refl },
+      record { lifetimes = ([], ([], tt)); arguments = (lent file, (lent_to_write controls, tt)); result = o.answer; last = (tt, (o.held, tt)); asks = refl; leaves = refl; meets = refl },
       n,
       record { lifetimes = tt; arguments = (o.answer, tt); result = n; last = (tt, tt); asks = refl; leaves = refl; meets = refl },
       subst (Hands o.answer o.held (replicate most_part 0) 0 n) (parts-joined file) (parts-handed o.answer o.held (parts-fit file) n 0 (replicate most_part 0) refl),
