@@ -5,11 +5,17 @@ use Rattle.linked.specs.Linked.{drawing_of}
 use Rattle.linked.proofs.drawing_of.Statement.{statement}
 use Rattle.linked.proofs.drawing_of.Tie as tie
 
-returns : tie.Need-returns
-returns c = sym (ap drawing_of c.before.drawn.given.1)
+returns : tie.Need-returns-in-Done
+returns c = sym (ap drawing_of c.in-Done.is)
 
-returns-2 : tie.Need-returns-2
-returns-2 c = sym (ap drawing_of c.before.drawn2.given.1)
+returns-2 : tie.Need-returns-in-Refused
+returns-2 c = sym (ap drawing_of c.in-Refused.is)
 
-pub drawing-of-spec : {M : Type 1} → statement M
-drawing-of-spec = tie.close (tie.spec (λ c. search rules) (λ c. search rules) returns returns-2)
+pub drawing_of_spec : {M : Type 1} → statement M
+drawing_of_spec =
+    tie.close
+    (tie.spec
+    (λ c. search rules)
+    (λ c. search rules)
+    returns
+    returns-2)

@@ -5,11 +5,17 @@ use Rattle.linked.specs.Linked.{previewing_of}
 use Rattle.linked.proofs.previewing_of.Statement.{statement}
 use Rattle.linked.proofs.previewing_of.Tie as tie
 
-returns : tie.Need-returns
-returns c = sym (ap previewing_of c.before.previewed.given.1)
+returns : tie.Need-returns-in-Drawn
+returns c = sym (ap previewing_of c.in-Drawn.is)
 
-returns-2 : tie.Need-returns-2
-returns-2 c = sym (ap previewing_of c.before.previewed2.given.1)
+returns-2 : tie.Need-returns-in-Refused
+returns-2 c = sym (ap previewing_of c.in-Refused.is)
 
-pub previewing-of-spec : {M : Type 1} → statement M
-previewing-of-spec = tie.close (tie.spec (λ c. search rules) (λ c. search rules) returns returns-2)
+pub previewing_of_spec : {M : Type 1} → statement M
+previewing_of_spec =
+    tie.close
+    (tie.spec
+    (λ c. search rules)
+    (λ c. search rules)
+    returns
+    returns-2)

@@ -6,7 +6,14 @@ use Rattle.linked.proofs.quorilanth_by_tolerance.Statement.{statement}
 use Rattle.linked.proofs.quorilanth_by_tolerance.Tie as tie
 
 returns : tie.Need-returns
-returns c = let called = c.before.before in in-form choosing_of (rw called.before.before.shape_of.ensures at called.by-tolerance.ensures) c.choosing-of.ensures
+returns c = let called = c.before.before in in-form choosing_of (rw called.shape_of.ensures at called.by_tolerance.ensures) c.choosing_of.ensures
 
-pub quorilanth-by-tolerance-spec : {M : Type 1} → statement M
-quorilanth-by-tolerance-spec = tie.close (tie.spec (λ c κs. search rules) (λ c κs. search rules) (λ c κs. search rules) (λ c. search rules) returns)
+pub quorilanth_by_tolerance_spec : {M : Type 1} → statement M
+quorilanth_by_tolerance_spec =
+    tie.close
+    (tie.spec
+    (λ c κs. search rules)
+    (λ c κs. search rules)
+    (λ c κs. search rules)
+    (λ c. search rules)
+    returns)

@@ -6,7 +6,14 @@ use Rattle.linked.proofs.quorilanth_by_weights.Statement.{statement}
 use Rattle.linked.proofs.quorilanth_by_weights.Tie as tie
 
 returns : tie.Need-returns
-returns c = let called = c.before.before in in-form drawing_of (rw called.before.before.shape_of.ensures at called.by_weights.ensures) c.drawing-of.ensures
+returns c = let called = c.before.before in in-form drawing_of (rw called.shape_of.ensures at called.by_weights.ensures) c.drawing_of.ensures
 
-pub quorilanth-by-weights-spec : {M : Type 1} → statement M
-quorilanth-by-weights-spec = tie.close (tie.spec (λ c κs. search rules) (λ c κs. search rules) (λ c κs. search rules) (λ c. search rules) returns)
+pub quorilanth_by_weights_spec : {M : Type 1} → statement M
+quorilanth_by_weights_spec =
+    tie.close
+    (tie.spec
+    (λ c κs. search rules)
+    (λ c κs. search rules)
+    (λ c κs. search rules)
+    (λ c. search rules)
+    returns)

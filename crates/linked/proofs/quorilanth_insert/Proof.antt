@@ -14,8 +14,16 @@ returns c =
     let s = shaped.before in
     in-form
     editing_of
-    (rw (shaped.shape_of.ensures, kept-is w32 s.args.x s.ranges.x, kept-is w32 s.args.y s.ranges.y) at called.insert-record.ensures)
-    c.editing-of.ensures
+    (rw (shaped.shape_of.ensures, kept-is w32 s.args.x s.ranges.x, kept-is w32 s.args.y s.ranges.y) at called.insert_record.ensures)
+    c.editing_of.ensures
 
-pub quorilanth-insert-spec : {M : Type 1} → statement M
-quorilanth-insert-spec = tie.close (tie.spec (λ c κs. search rules) (λ c κs. search rules) (λ c κs. search rules) (λ c. search rules) (λ c. search rules) returns)
+pub quorilanth_insert_spec : {M : Type 1} → statement M
+quorilanth_insert_spec =
+    tie.close
+    (tie.spec
+    (λ c κs. search rules)
+    (λ c κs. search rules)
+    (λ c κs. search rules)
+    (λ c. search rules)
+    (λ c. search rules)
+    returns)

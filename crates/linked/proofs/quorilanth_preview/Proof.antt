@@ -6,7 +6,14 @@ use Rattle.linked.proofs.quorilanth_preview.Statement.{statement}
 use Rattle.linked.proofs.quorilanth_preview.Tie as tie
 
 returns : tie.Need-returns
-returns c = let called = c.before.before.before in in-form previewing_of (rw called.before.before.shape_of.ensures at called.preview.ensures) c.previewing-of.ensures
+returns c = let called = c.before.before.before in in-form previewing_of (rw called.shape_of.ensures at called.preview.ensures) c.previewing_of.ensures
 
-pub quorilanth-preview-spec : {M : Type 1} → statement M
-quorilanth-preview-spec = tie.close (tie.spec (λ c κs. search rules) (λ c κs. search rules) (λ c κs. search rules) (λ c. search rules) returns)
+pub quorilanth_preview_spec : {M : Type 1} → statement M
+quorilanth_preview_spec =
+    tie.close
+    (tie.spec
+    (λ c κs. search rules)
+    (λ c κs. search rules)
+    (λ c κs. search rules)
+    (λ c. search rules)
+    returns)

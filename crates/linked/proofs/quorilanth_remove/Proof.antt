@@ -6,7 +6,15 @@ use Rattle.linked.proofs.quorilanth_remove.Statement.{statement}
 use Rattle.linked.proofs.quorilanth_remove.Tie as tie
 
 returns : tie.Need-returns
-returns c = let called = c.before.before.before in in-form editing_of (rw called.before.before.before.shape_of.ensures at called.remove-record.ensures) c.editing-of.ensures
+returns c = let called = c.before.before.before in in-form editing_of (rw called.shape_of.ensures at called.remove_record.ensures) c.editing_of.ensures
 
-pub quorilanth-remove-spec : {M : Type 1} → statement M
-quorilanth-remove-spec = tie.close (tie.spec (λ c κs. search rules) (λ c κs. search rules) (λ c κs. search rules) (λ c. search rules) (λ c. search rules) returns)
+pub quorilanth_remove_spec : {M : Type 1} → statement M
+quorilanth_remove_spec =
+    tie.close
+    (tie.spec
+    (λ c κs. search rules)
+    (λ c κs. search rules)
+    (λ c κs. search rules)
+    (λ c. search rules)
+    (λ c. search rules)
+    returns)
