@@ -12,11 +12,15 @@ test : (b : ℕ) → nan_bits binary64 b ≡ (eqb (b % 9223372036854775808 / 450
 unfolding nan_bits
 test b = refl
 
-returns : tie.Need-returns
-returns c = let b = c.before.args.bits in sym (test b ∙ simp (ne_eqb (b % 9223372036854775808 / 4503599627370496) 2047 c.if1.true))
+returns : tie.Need-returns-then-bits-ne-ONES
+returns c = let b = c.args.bits in sym (test b ∙ simp (ne_eqb (b % 9223372036854775808 / 4503599627370496) 2047 c.if-bits-ne-ONES.true))
 
-returns-2 : tie.Need-returns-2
-returns-2 c = let b = c.before.args.bits in sym (test b ∙ simp (eq-eqb (b % 9223372036854775808 / 4503599627370496) 2047 c.if1.false))
+returns-2 : tie.Need-returns
+returns-2 c = let b = c.args.bits in sym (test b ∙ simp (eq-eqb (b % 9223372036854775808 / 4503599627370496) 2047 c.if-bits-ne-ONES.false))
 
-pub is-nan-spec : {M : Type 1} → statement M
-is-nan-spec = tie.close (tie.spec returns returns-2)
+pub is_nan_spec : {M : Type 1} → statement M
+is_nan_spec =
+    tie.close
+    (tie.spec
+    returns
+    returns-2)
