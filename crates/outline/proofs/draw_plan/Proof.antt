@@ -32,7 +32,7 @@ check-lists-requires : tie.Need-check_lists-requires
 check-lists-requires c κs =
     let s = c.before in
     let p = s.args.plan in
-    (s.requires.records-most, subst (λ (n : ℕ). n ≤ most_points) (sym c.points-count.ensures) (points-at-most p.depth p.spans s.requires.depth-most (omega (arith, s.requires.spans-most, s.requires.records-most))))
+    (omega (arith, s.requires.records-most), subst (λ (n : ℕ). n ≤ most_points) (sym c.points-count.ensures) (points-at-most p.depth p.spans s.requires.depth-most (omega (arith, s.requires.spans-most, s.requires.records-most))))
 
 enum-known-refusal : tie.Need-enum_known-refusal
 enum-known-refusal c = search rules

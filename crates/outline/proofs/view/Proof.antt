@@ -150,7 +150,7 @@ part-result-start-4 : tie.Need-slice_bounds-result-start-2
 part-result-start-4 c = search rules
 
 part-result-end-4 : tie.Need-slice_bounds-result-end-2
-part-result-end-4 c = within c
+part-result-end-4 c = omega (arith, within c)
 
 returns-4 : tie.Need-returns
 unfolding plan viewed

@@ -17,8 +17,7 @@ use Rattle.curve.specs.Inner.{widest, most_bits}
 use Rattle.curve.specs.Ways.{deepest}
 use Rattle.curve.proofs.Powers.{cube, thrice, shift_one}
 use Rattle.curve.proofs.Span.{weighted-end}
-use Rattle.spans.proofs.run.end_sum.Statement.{statement}
-use Rattle.spans.proofs.run.end_sum.Tie as tie
+use Rattle.spans.proofs.run.end_sum.Goals as goal
 
 module _ (k : ℕ) (q : Four) (h : k ≤ deepest) (inside : Inside widest q) where
   power : 2 ^ (3 * k) ≤ 2 ^ most_bits
@@ -33,37 +32,18 @@ module _ (k : ℕ) (q : Four) (h : k ≤ deepest) (inside : Inside widest q) whe
   fits : SFits w64 (pos (2 ^ (3 * k)) *ℤ q.d)
   fits = sfits w64 (pos (2 ^ (3 * k)) *ℤ q.d) (2 ^ most_bits * widest) (le_trans (le_of_eq (nat_abs_mul (pos (2 ^ (3 * k))) q.d)) (mul-le-mul power inside.d)) tt
 
-mul-cubed : tie.Need-overflow_mul-cubed
-mul-cubed c = search rules
-
-cast-cubed : tie.Need-overflow_cast-cubed
-cast-cubed c = search rules
-
-shl-cubed : tie.Need-overflow_shl-cubed
-shl-cubed c = search rules
-
-mul-result : tie.Need-overflow_mul-result
-mul-result c =
+pub overflow_mul-result : goal.overflow_mul-result
+overflow_mul-result c =
     let a = c.args in
     let p = c.requires in
-    subst (SFits w64) (sym (product a.depth a.q p.0 p.1)) (fits a.depth a.q p.0 p.1)
+    subst (SFits w64) (sym (product a.depth a.q p.depth_le_deepest p.inside)) (fits a.depth a.q p.depth_le_deepest p.inside)
 
-returns : tie.Need-returns
+pub returns : goal.returns
 unfolding cube
 returns c =
     let a = c.args in
     let p = c.requires in
-    ap (kept w64) (product a.depth a.q p.0 p.1)
-    ∙ kept-is w64 (pos (2 ^ (3 * a.depth)) *ℤ a.q.d) (fits a.depth a.q p.0 p.1)
+    ap (kept w64) (product a.depth a.q p.depth_le_deepest p.inside)
+    ∙ kept-is w64 (pos (2 ^ (3 * a.depth)) *ℤ a.q.d) (fits a.depth a.q p.depth_le_deepest p.inside)
     ∙ ap (λ (n : ℕ). pos n *ℤ a.q.d) (thrice a.depth)
     ∙ sym (weighted-end a.q (pos (2 ^ a.depth)))
-
-pub end_sum_spec : {M : Type 1} → statement M
-end_sum_spec =
-    tie.close
-    (tie.spec
-    mul-cubed
-    cast-cubed
-    shl-cubed
-    mul-result
-    returns)
