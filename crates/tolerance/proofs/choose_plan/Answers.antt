@@ -14,40 +14,28 @@ use Rattle.pieces.proofs.Walks.{Counted, walk-all-counted}
 use Rattle.tolerance.specs.Reading.{tree_of, trees_of}
 use Rattle.tolerance.specs.Inner.{Walkable}
 use Rattle.tolerance.proofs.Chooses.{plan-bad, plan-far, plan-deep, plan-many, plan-last}
-use Rattle.tolerance.proofs.choose_plan.Statement.{statement}
-use Rattle.tolerance.proofs.choose_plan.Tie as tie
+use Rattle.tolerance.proofs.choose_plan.Goals as goal
+use Rattle.tolerance.proofs.choose_plan.Goals.{Else-tolerance-gt-MOST_TOLERANCE, In-Cuts, In_default}
 
-check-controls-requires : tie.Need-check_controls-requires
-check-controls-requires c κs = search rules
-
-enum-known-refusal : tie.Need-enum_known-refusal
-enum-known-refusal c = search rules
-
-returns : tie.Need-returns-in-Bad
-returns c =
+pub returns-in-Bad : goal.returns-in-Bad
+returns-in-Bad c =
     let k = c.before in
     let a = k.args in
     sym (plan-bad a.shape.count a.plan a.tolerance a.most a.controls.now a.points.now c.in-Bad.refusal (sym k.check_controls.ensures ∙ c.in-Bad.is))
 
-enum_told : tie.Need-enum_told-1
-enum_told c = search rules
-
 -- the controls are fine
-fine : (c : tie.In_default) → judge_controls c.args.shape.count c.args.controls.now ≡ Fine
+fine : (c : In_default) → judge_controls c.args.shape.count c.args.controls.now ≡ Fine
 fine c = sym c.check_controls.ensures ∙ c.in_default.is
 
-refused-requires : tie.Need-refused-requires
-refused-requires c κs = search rules
-
-returns-2 : tie.Need-returns-then-tolerance-gt-MOST_TOLERANCE
-returns-2 c =
+pub returns-then-tolerance-gt-MOST_TOLERANCE : goal.returns-then-tolerance-gt-MOST_TOLERANCE
+returns-then-tolerance-gt-MOST_TOLERANCE c =
     let t = c.before.before in
     let a = t.args in
     ap (λ r. outcome r a.points.now) c.refused.ensures
     ∙ sym (plan-far a.shape.count a.plan a.tolerance a.most a.controls.now a.points.now (fine t) c.if-tolerance-gt-MOST_TOLERANCE.true)
 
 -- so the spans can be walked
-walkable : (c : tie.Else-tolerance-gt-MOST_TOLERANCE) → Walkable c.args.plan c.args.tolerance c.args.controls.now
+walkable : (c : Else-tolerance-gt-MOST_TOLERANCE) → Walkable c.args.plan c.args.tolerance c.args.controls.now
 walkable c =
     let s = c.before.before.before in
     let a = s.args in
@@ -58,26 +46,11 @@ walkable c =
       near = c.if-tolerance-gt-MOST_TOLERANCE.false;
     }
 
-count-all-requires : tie.Need-count_all-requires
-count-all-requires c κs = walkable c
-
-enum-told-2 : tie.Need-enum_told-in-TooDeep
-enum-told-2 c = search rules
-
-refused-requires-2 : tie.Need-refused-requires-in-TooDeep
-refused-requires-2 c κs = search rules
-
-enum-told-3 : tie.Need-enum_told-in-TooMany
-enum-told-3 c = search rules
-
-refused-requires-3 : tie.Need-refused-requires-in-TooMany
-refused-requires-3 c κs = search rules
-
-enum-known-cuts : tie.Need-enum_known-cuts
-enum-known-cuts c = search rules
+pub count_all-requires : goal.count_all-requires
+count_all-requires c = walkable c
 
 -- what the walk counted
-counted : (c : tie.In-Cuts)
+counted : (c : In-Cuts)
     → Counted c.args.most 0
     ((s : ℕ) → 0 ≤ s → s < 0 + c.args.plan.spans
     → Sound (tree_of c.args.plan c.args.tolerance c.args.controls.now s))
@@ -88,58 +61,36 @@ counted c =
     let a = k.args in
     walk-all-counted (tree_of a.plan a.tolerance a.controls.now) a.most 0 c.in-Cuts.cuts 0 a.plan.spans (sym k.count_all.ensures ∙ c.in-Cuts.is)
 
-fill-plan-requires : tie.Need-fill_plan-requires
-fill-plan-requires c κs =
+pub fill_plan-requires : goal.fill_plan-requires
+fill_plan-requires c =
     let k = c.before in
     let w = counted k in
-    (record { walkable = walkable k.before.before; sound = λ s h. w.all_sound s (omega arith) (omega arith) }, w.count ∙ zero-add _)
+    record {
+      choosable = record { walkable = walkable k.before.before; sound = λ s h. w.all_sound s (omega arith) (omega arith) };
+      cuts_value = w.count ∙ zero-add _;
+    }
 
-returns-3 : tie.Need-returns-in-TooDeep
-returns-3 c =
+pub returns-in-TooDeep : goal.returns-in-TooDeep
+returns-in-TooDeep c =
     let k = c.before.before in
     let t = k.before.before in
     let a = t.args in
     ap (λ r. outcome r a.points.now) c.refused-in-TooDeep.ensures
     ∙ sym (plan-deep a.shape.count a.plan a.tolerance a.most a.controls.now a.points.now (fine t) k.if-tolerance-gt-MOST_TOLERANCE.false (sym k.count_all.ensures ∙ c.in-TooDeep.is))
 
-returns-4 : tie.Need-returns-in-TooMany
-returns-4 c =
+pub returns-in-TooMany : goal.returns-in-TooMany
+returns-in-TooMany c =
     let k = c.before.before in
     let t = k.before.before in
     let a = t.args in
     ap (λ r. outcome r a.points.now) c.refused-in-TooMany.ensures
     ∙ sym (plan-many a.shape.count a.plan a.tolerance a.most a.controls.now a.points.now (fine t) k.if-tolerance-gt-MOST_TOLERANCE.false (sym k.count_all.ensures ∙ c.in-TooMany.is))
 
-same_length : tie.Need-shape_of-points
-same_length c = search rules
-
-returns-5 : tie.Need-returns-in-Cuts
-returns-5 c =
+pub returns-in-Cuts : goal.returns-in-Cuts
+returns-in-Cuts c =
     let cut = c.before.before.before in
     let k = cut.before in
     let t = k.before.before in
     let a = t.args in
     c.fill_plan.ensures
     ∙ sym (plan-last a.shape.count a.plan a.tolerance a.most a.controls.now a.points.now (fine t) cut.in-Cuts.cuts k.if-tolerance-gt-MOST_TOLERANCE.false (sym k.count_all.ensures ∙ cut.in-Cuts.is))
-
-pub choose_plan_spec : {M : Type 1} → statement M
-choose_plan_spec =
-    tie.close
-    (tie.spec
-    check-controls-requires
-    enum-known-refusal
-    returns
-    enum_told
-    refused-requires
-    returns-2
-    count-all-requires
-    enum-told-2
-    refused-requires-2
-    enum-told-3
-    refused-requires-3
-    enum-known-cuts
-    fill-plan-requires
-    returns-3
-    returns-4
-    same_length
-    returns-5)

@@ -5,8 +5,7 @@ use borrow.Author.Tests.{eq-eqb, ne_eqb}
 use Rattle.drawing.specs.declared.State.{State}
 use Rattle.drawing.specs.Reading.{out_of_turn}
 use Rattle.drawing.proofs.Tables.{or-false-right, or_true_right}
-use Rattle.drawing.proofs.State.is_out_of_turn.Statement.{statement}
-use Rattle.drawing.proofs.State.is_out_of_turn.Tie as tie
+use Rattle.drawing.proofs.State.is_out_of_turn.Goals as goal
 
 after-close : (s : State) (opening : Bool) → s.closed ≡ true → true ≡ out_of_turn s opening
 unfolding out_of_turn
@@ -20,19 +19,11 @@ later : (s : State) (opening : Bool) → s.closed ≡ false → (s.count ≡ 0 �
 unfolding out_of_turn
 later s opening e h = simp (e, ne_eqb s.count 0 h, or-false-right)
 
-returns : tie.Need-returns-then-self
-returns c = after-close c.args.self c.args.opening c.if-self.true
+pub returns-then-self : goal.returns-then-self
+returns-then-self c = after-close c.args.self c.args.opening c.if-self.true
 
-returns-2 : tie.Need-returns-then-count-eq0
-returns-2 c = at_first c.args.self c.args.opening c.if-self.false c.if-count-eq0.true
+pub returns-then-count-eq0 : goal.returns-then-count-eq0
+returns-then-count-eq0 c = at_first c.args.self c.args.opening c.if-self.false c.if-count-eq0.true
 
-returns-3 : tie.Need-returns
-returns-3 c = later c.args.self c.args.opening c.if-self.false c.if-count-eq0.false
-
-pub is_out_of_turn_spec : {M : Type 1} → statement M
-is_out_of_turn_spec =
-    tie.close
-    (tie.spec
-    returns
-    returns-2
-    returns-3)
+pub returns : goal.returns
+returns c = later c.args.self c.args.opening c.if-self.false c.if-count-eq0.false

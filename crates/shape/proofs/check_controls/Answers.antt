@@ -10,47 +10,31 @@ use lib.ListN.{length}
 use Rattle.shape.specs.declared.Checked.TheVariants.{Fine, Bad}
 use Rattle.shape.specs.Refusals.{control_rows, first_outside, judge_controls}
 use Rattle.shape.proofs.Refusals.{judge-first, judge-none}
-use Rattle.shape.proofs.check_controls.Statement.{statement}
-use Rattle.shape.proofs.check_controls.Tie as tie
+use Rattle.shape.proofs.check_controls.Goals as goal
+use Rattle.shape.proofs.check_controls.Goals.{Else-controls-count}
 
-mul-if1 : tie.Need-overflow_mul-count
-mul-if1 c = search rules
-
-returns : tie.Need-returns-then-controls-count
+pub returns-then-controls-count : goal.returns-then-controls-count
 unfolding judge_controls
-returns c =
+returns-then-controls-count c =
     let a = c.args in
     sym (judge-first (control_rows a.count a.count a.controls.now) Bad Fine (record { number = 7; place = 0 }) (inl (lt-ltb (length a.controls.now) (2 * a.count) c.if-controls-count.true, refl)))
 
-first-outside-requires : tie.Need-first_outside-at-requires
-first-outside-requires c κs = search rules
-
 -- the test of row 7 that did not hold
-room : (c : tie.Else-controls-count) → ltb (length c.args.controls.now) (2 * c.args.count) ≡ false
+room : (c : Else-controls-count) → ltb (length c.args.controls.now) (2 * c.args.count) ≡ false
 room c = le-ltb (length c.args.controls.now) (2 * c.args.count) c.if-controls-count.false
 
-returns-2 : tie.Need-returns-then-at-count
+pub returns-then-at-count : goal.returns-then-at-count
 unfolding judge_controls
-returns-2 c =
+returns-then-at-count c =
     let a = c.args in
     let at = c.first_outside-at.result in
     let found = c.first_outside-at.ensures in
     let holds = lt-ltb (first_outside a.controls.now a.count) a.count (subst (λ n. n < a.count) found c.if-at-count.true) in
     sym (judge-first (control_rows a.count a.count a.controls.now) Bad Fine (record { number = 8; place = at }) (inr (room c.before.before, inl (holds, (λ k. record { number = 8; place = sym found k })))))
 
-returns-3 : tie.Need-returns
+pub returns : goal.returns
 unfolding judge_controls
-returns-3 c =
+returns c =
     let a = c.args in
     let inside = le-ltb (first_outside a.controls.now a.count) a.count (subst (λ n. a.count ≤ n) c.first_outside-at.ensures c.if-at-count.false) in
     sym (judge-none (control_rows a.count a.count a.controls.now) Bad Fine (room c.before.before, (inside, tt)))
-
-pub check_controls_spec : {M : Type 1} → statement M
-check_controls_spec =
-    tie.close
-    (tie.spec
-    mul-if1
-    returns
-    first-outside-requires
-    returns-2
-    returns-3)

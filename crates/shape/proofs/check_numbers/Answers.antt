@@ -13,8 +13,7 @@ use Rattle.shape.specs.declared.Checked.TheVariants.{Fine, Bad}
 use Rattle.shape.specs.Shape.{last_basis, cardinal}
 use Rattle.shape.specs.Refusals.{First, NoRow, number_rows, judge_numbers}
 use Rattle.shape.proofs.Refusals.{judge-first, judge-none}
-use Rattle.shape.proofs.check_numbers.Statement.{statement}
-use Rattle.shape.proofs.check_numbers.Tie as tie
+use Rattle.shape.proofs.check_numbers.Goals as goal
 
 refused : (s : Shape) (r : Refusal) → First (number_rows s) r → Bad r ≡ judge_numbers s
 unfolding judge_numbers
@@ -28,22 +27,22 @@ passed s h = sym (judge-none (number_rows s) Bad Fine h)
 basis-passed : (s : Shape) → 1 ≤ s.basis → s.basis ≤ last_basis → not (leb 1 s.basis && leb s.basis last_basis) ≡ false
 basis-passed s h k = simp (le-leb 1 s.basis h, le-leb s.basis last_basis k)
 
-returns : tie.Need-returns-then-number-lt-FIRST_BASIS
-returns c = let s = c.args.shape in refused s _ (inl (simp (lt-leb 1 s.basis c.if-number-lt-FIRST_BASIS.true), refl))
+pub returns-then-number-lt-FIRST_BASIS : goal.returns-then-number-lt-FIRST_BASIS
+returns-then-number-lt-FIRST_BASIS c = let s = c.args.shape in refused s _ (inl (simp (lt-leb 1 s.basis c.if-number-lt-FIRST_BASIS.true), refl))
 
-returns-2 : tie.Need-returns-then-number-gt-LAST_BASIS
-returns-2 c =
+pub returns-then-number-gt-LAST_BASIS : goal.returns-then-number-gt-LAST_BASIS
+returns-then-number-gt-LAST_BASIS c =
     let s = c.args.shape in
     refused s _ (inl (simp (le-leb 1 s.basis c.if-number-lt-FIRST_BASIS.false, lt-leb s.basis last_basis c.if-number-gt-LAST_BASIS.true), refl))
 
-returns-3 : tie.Need-returns-then-shape-gt-DEEPEST
-returns-3 c =
+pub returns-then-shape-gt-DEEPEST : goal.returns-then-shape-gt-DEEPEST
+returns-then-shape-gt-DEEPEST c =
     let h = c.before.before in
     let s = h.args.shape in
     refused s _ (inr (basis-passed s h.if-number-lt-FIRST_BASIS.false h.if-number-gt-LAST_BASIS.false, inl (lt-ltb deepest s.depth c.if-shape-gt-DEEPEST.true, refl)))
 
-returns-4 : tie.Need-returns-then-shape-gt-MOST_PARAMETER
-returns-4 c =
+pub returns-then-shape-gt-MOST_PARAMETER : goal.returns-then-shape-gt-MOST_PARAMETER
+returns-then-shape-gt-MOST_PARAMETER c =
     let t = c.before.before in
     let h = t.before.before.before in
     let s = h.args.shape in
@@ -53,8 +52,8 @@ returns-4 c =
       inr (le-ltb deepest s.depth t.if-shape-gt-DEEPEST.false, inl (simp (eq-eqb s.basis cardinal t.if-number-eq-CARDINAL.true, lt-ltb most_parameter s.parameter c.if-shape-gt-MOST_PARAMETER.true), refl)),
     ))
 
-returns-5 : tie.Need-returns-else-shape-gt-MOST_PARAMETER
-returns-5 c =
+pub returns-else-shape-gt-MOST_PARAMETER : goal.returns-else-shape-gt-MOST_PARAMETER
+returns-else-shape-gt-MOST_PARAMETER c =
     let t = c.before.before in
     let h = t.before.before.before in
     let s = h.args.shape in
@@ -63,19 +62,8 @@ returns-5 c =
       (le-ltb deepest s.depth t.if-shape-gt-DEEPEST.false, (simp (eq-eqb s.basis cardinal t.if-number-eq-CARDINAL.true, le-ltb most_parameter s.parameter c.if-shape-gt-MOST_PARAMETER.false), tt)),
     )
 
-returns-6 : tie.Need-returns-else-number-eq-CARDINAL
-returns-6 c =
+pub returns-else-number-eq-CARDINAL : goal.returns-else-number-eq-CARDINAL
+returns-else-number-eq-CARDINAL c =
     let h = c.before.before.before in
     let s = h.args.shape in
     passed s (basis-passed s h.if-number-lt-FIRST_BASIS.false h.if-number-gt-LAST_BASIS.false, (le-ltb deepest s.depth c.if-shape-gt-DEEPEST.false, (simp (ne_eqb s.basis cardinal c.if-number-eq-CARDINAL.false), tt)))
-
-pub check_numbers_spec : {M : Type 1} → statement M
-check_numbers_spec =
-    tie.close
-    (tie.spec
-    returns
-    returns-2
-    returns-3
-    returns-4
-    returns-5
-    returns-6)
