@@ -30,7 +30,7 @@ by-differences-unique κs a x y u v p q =
     (λ i. (same i).answer, λ i. (tt, (tt, ((same i).held, tt))))
 
 -- A view is a part of the caller's list: where it lies in memory and what stands there. Two results that meet the contract are the same in both, so no program can
--- tell them apart. The reference's `name`, which the logic gives it for its own bookkeeping, is no part of what runs, and the contract leaves it open.
+-- tell them apart. A reference to read has nothing else in the logic.
 pub view-unique : (κs : Lfts 1) (a : Dens κs view.ps) (x y : (res_t view.r κs).Denot) (u v : Lasts (ended_of 1 view.ps view.r) κs a)
     → view-reads.Post κs a x (at_exit (ended_of 1 view.ps view.r) κs a u)
     → view-reads.Post κs a y (at_exit (ended_of 1 view.ps view.r) κs a v)

@@ -1,5 +1,5 @@
 -- Every public call's contract determines its answer and what the lent lists hold at the end, for all inputs: over the contract generated from the source, no second
--- outcome meets it. One statement a call. The view's leaves one thing open, which no program can see: docs/DECISIONS.md says what.
+-- outcome meets it. One statement a call. The view's says it of where the part lies and of what stands there.
 use mathlib.Core.Path.{◌≡◌}
 use borrow.Fn.Kinds.{Dens, res_t, ended_of}
 use contract.Lifetimes.{Lfts}
