@@ -43,7 +43,7 @@ walkable c =
     record {
       some = s.requires.spans-least;
       drawable = drawable a.shape a.plan s.requires a.controls.now 0 0 (controls-facts a.shape.count a.controls.now 0 0 none (omega arith));
-      near = c.if-tolerance-gt-MOST_TOLERANCE.false;
+      near = omega (arith, c.if-tolerance-gt-MOST_TOLERANCE.false);
     }
 
 pub count_all-requires : goal.count_all-requires
@@ -76,7 +76,7 @@ returns-in-TooDeep c =
     let t = k.before.before in
     let a = t.args in
     ap (λ r. outcome r a.points.now) c.refused-in-TooDeep.ensures
-    ∙ sym (plan-deep a.shape.count a.plan a.tolerance a.most a.controls.now a.points.now (fine t) k.if-tolerance-gt-MOST_TOLERANCE.false (sym k.count_all.ensures ∙ c.in-TooDeep.is))
+    ∙ sym (plan-deep a.shape.count a.plan a.tolerance a.most a.controls.now a.points.now (fine t) (omega (arith, k.if-tolerance-gt-MOST_TOLERANCE.false)) (sym k.count_all.ensures ∙ c.in-TooDeep.is))
 
 pub returns-in-TooMany : goal.returns-in-TooMany
 returns-in-TooMany c =
@@ -84,7 +84,7 @@ returns-in-TooMany c =
     let t = k.before.before in
     let a = t.args in
     ap (λ r. outcome r a.points.now) c.refused-in-TooMany.ensures
-    ∙ sym (plan-many a.shape.count a.plan a.tolerance a.most a.controls.now a.points.now (fine t) k.if-tolerance-gt-MOST_TOLERANCE.false (sym k.count_all.ensures ∙ c.in-TooMany.is))
+    ∙ sym (plan-many a.shape.count a.plan a.tolerance a.most a.controls.now a.points.now (fine t) (omega (arith, k.if-tolerance-gt-MOST_TOLERANCE.false)) (sym k.count_all.ensures ∙ c.in-TooMany.is))
 
 pub returns-in-Cuts : goal.returns-in-Cuts
 returns-in-Cuts c =
@@ -93,4 +93,4 @@ returns-in-Cuts c =
     let t = k.before.before in
     let a = t.args in
     c.fill_plan.ensures
-    ∙ sym (plan-last a.shape.count a.plan a.tolerance a.most a.controls.now a.points.now (fine t) cut.in-Cuts.cuts k.if-tolerance-gt-MOST_TOLERANCE.false (sym k.count_all.ensures ∙ cut.in-Cuts.is))
+    ∙ sym (plan-last a.shape.count a.plan a.tolerance a.most a.controls.now a.points.now (fine t) cut.in-Cuts.cuts (omega (arith, k.if-tolerance-gt-MOST_TOLERANCE.false)) (sym k.count_all.ensures ∙ cut.in-Cuts.is))
