@@ -1,4 +1,5 @@
 -- What a measure turns on. A rounded value is a coordinate exactly when it is within limits, and a finite double is measured by its value alone, however it is written.
+use Rattle.std.specs.Prelude.{Err, Ok}
 use mathlib.Core.Path.{◌≡◌, refl, sym, ap, ◌∙◌, subst}
 use mathlib.Core.Bool.{Bool, true, false, not, cond}
 use mathlib.Core.Logic.{◌⊎◌, inl, inr, ⊎_elim, ◌↔◌}
@@ -15,18 +16,18 @@ use Rattle.whole.specs.Nearest.{nearest}
 use Rattle.curve.specs.Limits.{limit}
 use Rattle.doubles.specs.Exact.{signed, Value}
 use Rattle.doubles.specs.Number.{thousand, within, measure}
-use Rattle.doubles.specs.declared.Measure.TheVariants.{NotFinite, Outside, Micrometres}
+use Rattle.doubles.specs.declared.Unmeasured.TheVariants.{NotFinite, Outside}
 use Rattle.whole.proofs.Ring.{var, lit, ◌⊗◌, solve}
 use Rattle.doubles.proofs.Rounding.{nearest-same}
 use Rattle.doubles.proofs.Values.{signed-times}
 
-pub inside : (n : ℤ) → nat_abs n ≤ limit → within n ≡ Micrometres n
+pub inside : (n : ℤ) → nat_abs n ≤ limit → within n ≡ Ok n
 unfolding within
-inside n h = ap (λ b. cond b (Micrometres n) Outside) (le-leb (nat_abs n) limit h)
+inside n h = ap (λ b. cond b (Ok n) (Err Outside)) (le-leb (nat_abs n) limit h)
 
-pub outside : (n : ℤ) → limit < nat_abs n → within n ≡ Outside
+pub outside : (n : ℤ) → limit < nat_abs n → within n ≡ Err Outside
 unfolding within
-outside n h = ap (λ b. cond b (Micrometres n) Outside) (lt-leb (nat_abs n) limit h)
+outside n h = ap (λ b. cond b (Ok n) (Err Outside)) (lt-leb (nat_abs n) limit h)
 
 -- what a drawing number means: the exact value of the double, times a thousand, rounded once
 pub measured : (x : Float) (z : ℤ) (d : ℕ) → 0 < d → Value x z d → measure x ≡ within (nearest (z *ℤ pos thousand) d)
@@ -43,33 +44,33 @@ measured (fin s m e) z d h v =
 
 -- ---- each answer is given exactly when document 01 says
 
-within-cases : (n : ℤ) → ((nat_abs n ≤ limit) × (within n ≡ Micrometres n)) ⊎ ((limit < nat_abs n) × (within n ≡ Outside))
+within-cases : (n : ℤ) → ((nat_abs n ≤ limit) × (within n ≡ Ok n)) ⊎ ((limit < nat_abs n) × (within n ≡ Err Outside))
 within-cases n = go (leb (nat_abs n) limit) refl
   where
-    go : (b : Bool) → leb (nat_abs n) limit ≡ b → ((nat_abs n ≤ limit) × (within n ≡ Micrometres n)) ⊎ ((limit < nat_abs n) × (within n ≡ Outside))
+    go : (b : Bool) → leb (nat_abs n) limit ≡ b → ((nat_abs n ≤ limit) × (within n ≡ Ok n)) ⊎ ((limit < nat_abs n) × (within n ≡ Err Outside))
     go true e = let h = leb-true (nat_abs n) limit e in inl (h, inside n h)
     go false e = let h = leb-false (nat_abs n) limit e in inr (h, outside n h)
 
 -- no two kinds of answer are the same
-coordinate≢outside : {n : ℤ} → Micrometres n ≡ Outside → ⊥
+coordinate≢outside : {n : ℤ} → Ok n ≡ Err Outside → ⊥
 coordinate≢outside e = let z : ◌≡◌ {A = ℕ} 0 1 = cc in omega arith
 
-coordinate≢not-finite : {n : ℤ} → Micrometres n ≡ NotFinite → ⊥
+coordinate≢not-finite : {n : ℤ} → Ok n ≡ Err NotFinite → ⊥
 coordinate≢not-finite e = let z : ◌≡◌ {A = ℕ} 0 1 = cc in omega arith
 
-outside≢not-finite : Outside ≡ NotFinite → ⊥
+outside≢not-finite : (Err Outside) ≡ Err NotFinite → ⊥
 outside≢not-finite e = let z : ◌≡◌ {A = ℕ} 0 1 = cc in omega arith
 
-one-coordinate : {m n : ℤ} → Micrometres m ≡ Micrometres n → m ≡ n
+one-coordinate : {m n : ℤ} → Ok m ≡ Ok n → m ≡ n
 one-coordinate e = cc
 
-within-finite : (n : ℤ) → within n ≡ NotFinite → ⊥
+within-finite : (n : ℤ) → within n ≡ Err NotFinite → ⊥
 within-finite n e = ⊎_elim (λ w. coordinate≢not-finite (sym w.1 ∙ e)) (λ w. outside≢not-finite (sym w.1 ∙ e)) (within-cases n)
 
-within-outside : (n : ℤ) → within n ≡ Outside → limit < nat_abs n
+within-outside : (n : ℤ) → within n ≡ Err Outside → limit < nat_abs n
 within-outside n e = ⊎_elim (λ w. absurd (coordinate≢outside (sym w.1 ∙ e))) (λ w. w.0) (within-cases n)
 
-within-inside : (n k : ℤ) → within n ≡ Micrometres k → (n ≡ k) × (nat_abs k ≤ limit)
+within-inside : (n k : ℤ) → within n ≡ Ok k → (n ≡ k) × (nat_abs k ≤ limit)
 within-inside n k e =
     ⊎_elim (λ w. same (one-coordinate (sym w.1 ∙ e)) w.0) (λ w. absurd (coordinate≢outside (sym e ∙ w.1))) (within-cases n)
   where
@@ -77,19 +78,19 @@ within-inside n k e =
     same p h = (p, subst (λ x. nat_abs x ≤ limit) p h)
 
 -- row 10: NaN and the infinities
-pub not-finite-exactly : (x : Float) → (measure x ≡ NotFinite) ↔ T (not (finite x))
+pub not-finite-exactly : (x : Float) → (measure x ≡ Err NotFinite) ↔ T (not (finite x))
 unfolding measure
 not-finite-exactly nan = ((λ e. tt), (λ t. refl))
 not-finite-exactly (inf s) = ((λ e. tt), (λ t. refl))
 not-finite-exactly (fin s m e) = ((λ p. within-finite (nearest (signed s (m * up e * thousand)) (down e)) p), (λ t. absurd t))
 
 -- row 11: a finite double of the value z / d whose rounded value is beyond the limit
-pub outside-exactly : (x : Float) (z : ℤ) (d : ℕ) → 0 < d → Value x z d → (measure x ≡ Outside) ↔ (limit < nat_abs (nearest (z *ℤ pos thousand) d))
+pub outside-exactly : (x : Float) (z : ℤ) (d : ℕ) → 0 < d → Value x z d → (measure x ≡ Err Outside) ↔ (limit < nat_abs (nearest (z *ℤ pos thousand) d))
 outside-exactly x z d h v =
     let n = nearest (z *ℤ pos thousand) d in
     ((λ e. within-outside n (sym (measured x z d h v) ∙ e)), (λ g. measured x z d h v ∙ outside n g))
 
 -- any other finite double is a coordinate
-pub micrometres-exactly : (x : Float) (z : ℤ) (d : ℕ) (n : ℤ) → 0 < d → Value x z d → (measure x ≡ Micrometres n) ↔ ((nearest (z *ℤ pos thousand) d ≡ n) × (nat_abs n ≤ limit))
+pub micrometres-exactly : (x : Float) (z : ℤ) (d : ℕ) (n : ℤ) → 0 < d → Value x z d → (measure x ≡ Ok n) ↔ ((nearest (z *ℤ pos thousand) d ≡ n) × (nat_abs n ≤ limit))
 micrometres-exactly x z d n h v =
     ((λ e. within-inside (nearest (z *ℤ pos thousand) d) n (sym (measured x z d h v) ∙ e)), (λ w. measured x z d h v ∙ ap within w.0 ∙ inside n w.1))

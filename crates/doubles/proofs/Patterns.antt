@@ -1,5 +1,6 @@
 -- The double that a sign s, an exponent's field x and the digits t stand for, measured by the field: below 1012 it is less than half a micrometre, 2047 is no number,
 -- any other above 1034 is 4,096 mm or more, and between it is (2^52 + t) / 2^(1075 - x) mm.
+use Rattle.std.specs.Prelude.{Err, Ok}
 use mathlib.Core.Path.{◌≡◌, refl, sym, ap, ◌∙◌}
 use mathlib.Core.Bool.{Bool, true, false, cond}
 use Prim.Native.Nat.{ℕ, zero, suc, ◌+◌, ◌*◌, ◌-◌, ◌^◌, ◌≤◌, ◌<◌}
@@ -15,7 +16,7 @@ use Rattle.whole.specs.Nearest.{nearest}
 use Rattle.curve.specs.Limits.{limit}
 use Rattle.doubles.specs.Exact.{signed}
 use Rattle.doubles.specs.Number.{thousand, within, measure}
-use Rattle.doubles.specs.declared.Measure.TheVariants.{NotFinite, Outside, Micrometres}
+use Rattle.doubles.specs.declared.Unmeasured.TheVariants.{NotFinite, Outside}
 use Rattle.doubles.proofs.Rounding.{nearest-same, nearest-tiny, nearest-far}
 use Rattle.doubles.proofs.Values.{signed-times, value_of}
 use Rattle.doubles.proofs.Measures.{inside, outside, measured}
@@ -27,7 +28,7 @@ measure-odd d s q k l =
     measured (odd d s q k l) (signed s (q * 2 ^ k)) (2 ^ l) (pow_pos l) (value_of (odd d s q k l) s (q * 2 ^ k) (2 ^ l) (odd_sign d s q k l))
     ∙ ap (λ z. within (nearest z (2 ^ l))) (sym (signed-times s (q * 2 ^ k) thousand))
 
-tiny : (d : ℕ) (s : Bool) (q k l : ℕ) → q < 2 ^ 53 → 64 + k ≤ l → measure (odd d s q k l) ≡ Micrometres (pos 0)
+tiny : (d : ℕ) (s : Bool) (q k l : ℕ) → q < 2 ^ 53 → 64 + k ≤ l → measure (odd d s q k l) ≡ Ok (pos 0)
 tiny d s q k l hq hl =
     measure-odd d s q k l
     ∙ ap within (nearest-tiny s (q * 2 ^ k * thousand) (2 ^ l) small)
@@ -43,7 +44,7 @@ tiny d s q k l hq hl =
     small = lt_of_le_of_lt (le_of_eq twice) (lt_of_lt_of_le (shl_lt 64 k fine) (pow_mono hl))
 
 -- 4096 mm or more
-far : (d : ℕ) (s : Bool) (q k l : ℕ) → 2 ^ 52 ≤ q → l ≤ 40 + k → measure (odd d s q k l) ≡ Outside
+far : (d : ℕ) (s : Bool) (q k l : ℕ) → 2 ^ 52 ≤ q → l ≤ 40 + k → measure (odd d s q k l) ≡ Err Outside
 far d s q k l hq hl =
     measure-odd d s q k l
     ∙ outside (nearest (signed s (q * 2 ^ k * thousand)) (2 ^ l)) (nearest-far s (q * 2 ^ k * thousand) (2 ^ l) limit (pow_pos l) large)
@@ -73,24 +74,24 @@ unfolding of_fields
 leading s x t h =
     ap (λ b. cond b (cond (eqb t 0) (inf s) nan) (odd (prec binary64) s (hid binary64 + t) x (low binary64))) (ne_eqb (suc x) (ones binary64) h)
 
-no_number : (b s : Bool) → measure (cond b (inf s) nan) ≡ NotFinite
+no_number : (b s : Bool) → measure (cond b (inf s) nan) ≡ Err NotFinite
 unfolding measure
 no_number true s = refl
 no_number false s = refl
 
-pub field-tiny : (s : Bool) (x t : ℕ) → t < 2 ^ 52 → x < 1012 → measure (of_fields binary64 s x t) ≡ Micrometres (pos 0)
+pub field-tiny : (s : Bool) (x t : ℕ) → t < 2 ^ 52 → x < 1012 → measure (of_fields binary64 s x t) ≡ Ok (pos 0)
 unfolding of_fields
 field-tiny s zero t ht h = tiny (prec binary64) s t 0 (low binary64) (omega arith) (lit≤ tt)
 field-tiny s (suc x) t ht h = ap measure (leading s x t (λ e. omega arith)) ∙ tiny (prec binary64) s (hid binary64 + t) x (low binary64) (omega arith) (omega arith)
 
-pub field-ones : (s : Bool) (x t : ℕ) → x ≡ 2047 → measure (of_fields binary64 s x t) ≡ NotFinite
+pub field-ones : (s : Bool) (x t : ℕ) → x ≡ 2047 → measure (of_fields binary64 s x t) ≡ Err NotFinite
 unfolding of_fields
 field-ones s zero t h = absurd (omega arith)
 field-ones s (suc x) t h =
     ap (λ b. measure (cond b (cond (eqb t 0) (inf s) nan) (odd (prec binary64) s (hid binary64 + t) x (low binary64)))) (eq-eqb (suc x) 2047 h)
     ∙ no_number (eqb t 0) s
 
-pub field-far : (s : Bool) (x t : ℕ) → 1034 < x → (x ≡ 2047 → ⊥) → measure (of_fields binary64 s x t) ≡ Outside
+pub field-far : (s : Bool) (x t : ℕ) → 1034 < x → (x ≡ 2047 → ⊥) → measure (of_fields binary64 s x t) ≡ Err Outside
 field-far s zero t h n = absurd (omega arith)
 field-far s (suc x) t h n = ap measure (leading s x t n) ∙ far (prec binary64) s (hid binary64 + t) x (low binary64) (omega arith) (omega arith)
 

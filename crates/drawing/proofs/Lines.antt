@@ -1,4 +1,5 @@
 -- The edge that an accepted Line adds is straight: the four records of its span are A, A, B, B, since A was the last record and A, B, B are written after it.
+use Rattle.std.specs.Prelude.{Ok}
 use mathlib.Core.Path.{◌≡◌, sym, ◌∙◌, subst}
 use mathlib.Core.List.{List}
 use Prim.Native.Nat.{ℕ, ◌+◌, ◌*◌, ◌-◌}
@@ -10,7 +11,6 @@ use Rattle.whole.specs.Outcome.{outcome}
 use Rattle.drawing.specs.declared.State.{State}
 use Rattle.drawing.specs.declared.Step.{Step}
 use Rattle.drawing.specs.declared.Step.TheVariants.{Line}
-use Rattle.drawing.specs.declared.Stepped.TheVariants.{Next}
 use Rattle.drawing.specs.Drawing.{at, line, added, flat}
 use Rattle.drawing.specs.Reading.{stepped}
 use Rattle.drawing.specs.Sequences.{Held, Sound, record_at}
@@ -20,10 +20,10 @@ use Rattle.drawing.proofs.Records.{sets_below, sets-at}
 use Rattle.drawing.proofs.Sequences.{fine, spacious}
 
 -- the list that a step leaves with a next state
-pub next-list : (s : State) (step : Step) (l : List ℤ) (t : State) (m : List ℤ) → stepped s step l ≡ outcome (Next t) m → sets l (2 * s.count) (flat (added s step)) ≡ m
+pub next-list : (s : State) (step : Step) (l : List ℤ) (t : State) (m : List ℤ) → stepped s step l ≡ outcome (Ok t) m → sets l (2 * s.count) (flat (added s step)) ≡ m
 next-list s step l t m e = λ i. ((sym (none-next s step l (next-none s step l t m e)) ∙ e) i).held
 
-module _ (h : Held) (k : Sound h) (x y : Float) (t : State) (m : List ℤ) (e : stepped h.state (Line x y) h.controls ≡ outcome (Next t) m) where
+module _ (h : Held) (k : Sound h) (x y : Float) (t : State) (m : List ℤ) (e : stepped h.state (Line x y) h.controls ≡ outcome (Ok t) m) where
   pub straight :
       (record_at m (h.state.count - 1) ≡ h.state.current)
       × (record_at m h.state.count ≡ h.state.current)

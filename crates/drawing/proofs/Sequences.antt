@@ -1,5 +1,6 @@
 -- Any sequence of steps leaves a sound drawing: a refused step leaves what there was, and an accepted one writes records inside the limits right after those that
 -- there are.
+use Rattle.std.specs.Prelude.{Err, Ok}
 use mathlib.Core.Path.{◌≡◌, refl, sym, ap, subst}
 use mathlib.Core.Bool.{Bool, true, cond}
 use mathlib.Core.List.{List, [], ◌∷◌, ◌++◌}
@@ -18,7 +19,6 @@ use Rattle.whole.specs.Outcome.{refuses}
 use Rattle.curve.specs.Limits.{limit}
 use Rattle.doubles.specs.Exact.{signed}
 use Rattle.doubles.specs.Number.{thousand, within, measure, paper}
-use Rattle.doubles.specs.declared.Measure.TheVariants.{Micrometres, Outside}
 use Rattle.shape.specs.Shape.{most_records}
 use Rattle.shape.specs.Refusals.{First, NoRow}
 use Rattle.shape.specs.declared.Refusal.{Refusal}
@@ -28,8 +28,6 @@ use Rattle.drawing.specs.declared.Control.{Control}
 use Rattle.drawing.specs.declared.State.{State}
 use Rattle.drawing.specs.declared.Step.{Step}
 use Rattle.drawing.specs.declared.Step.TheVariants.{Move, Line, Cubic, Close}
-use Rattle.shape.specs.declared.Checked.TheVariants.{Fine}
-use Rattle.drawing.specs.declared.Stepped.TheVariants.{Refused}
 use Rattle.drawing.specs.Drawing.{numbers, at, opens, same, line, added, grown, next, flat}
 use Rattle.drawing.specs.Reading.{reached, state_rows, number_rows, space_rows, rows, accepts, stepped, state_after}
 use Rattle.drawing.specs.Inner.{judge_state}
@@ -37,14 +35,15 @@ use Rattle.drawing.proofs.Tables.{or_true_right, none-fine, fine-open, fine-empt
 use Rattle.drawing.proofs.Same.{same-is}
 use Rattle.drawing.proofs.Records.{Kept, opened, all_more, AllInside}
 use Rattle.drawing.specs.Sequences.{Held, begin, after, drawn, Inside, Sound}
+use Rattle.doubles.specs.declared.Unmeasured.TheVariants.{Outside}
 
 -- ---- a step's controls are inside the limits
 
 within-small : (n : ℤ) → nat_abs (paper (within n)).1 ≤ limit
 unfolding within
 within-small n =
-    ⊎_elim (λ t. subst (λ b. nat_abs (paper (cond b (Micrometres n) Outside)).1 ≤ limit) (sym t) (leb-true (nat_abs n) limit t))
-    (λ f. subst (λ b. nat_abs (paper (cond b (Micrometres n) Outside)).1 ≤ limit) (sym f) (omega arith))
+    ⊎_elim (λ t. subst (λ b. nat_abs (paper (cond b (Ok n) (Err Outside))).1 ≤ limit) (sym t) (leb-true (nat_abs n) limit t))
+    (λ f. subst (λ b. nat_abs (paper (cond b (Ok n) (Err Outside))).1 ≤ limit) (sym f) (omega arith))
     (passes (leb (nat_abs n) limit))
 
 number_small : (x : Float) → nat_abs (paper (measure x)).1 ≤ limit
@@ -76,7 +75,7 @@ space-facts n m l none =
     (ltb-false most_records m (row-fails 6 (space_rows n m l) none), omega (arith, room, le-max_right n m))
 
 -- no row of a step holds, so none of its state's
-fit_then : (s : State) (step : Step) (l : List ℤ) → NoRow (rows s step l) → judge_state s (opens step) ≡ Fine
+fit_then : (s : State) (step : Step) (l : List ℤ) → NoRow (rows s step l) → judge_state s (opens step) ≡ Ok tt
 fit_then s step l none =
     none-fine s (opens step) (none-earlier (state_rows s (opens step)) (number_rows 0 (numbers step) ++ space_rows s.count (next s step).count l) none)
 
@@ -122,7 +121,7 @@ module _ (h : Held) (k : Sound h) where
   l = h.controls
 
   -- what no row's holding says
-  pub fine : (step : Step) → NoRow (rows s step l) → judge_state s (opens step) ≡ Fine
+  pub fine : (step : Step) → NoRow (rows s step l) → judge_state s (opens step) ≡ Ok tt
   fine step none = fit_then s step l none
 
   pub spacious : (step : Step) → NoRow (rows s step l) → ((next s step).count ≤ most_records) × (2 * (next s step).count ≤ length l)
@@ -163,11 +162,11 @@ module _ (h : Held) (k : Sound h) where
   -- a step that is refused leaves all as it was
   after-refused : (step : Step) (r : Refusal) → First (rows s step l) r → after h step ≡ h
   unfolding stepped
-  after-refused step r f = ap (λ out. record { state = state_after s out.answer; controls = out.held }) (judge-first (rows s step l) (refuses Refused l) (accepts s step l) r f)
+  after-refused step r f = ap (λ out. record { state = state_after s out.answer; controls = out.held }) (judge-first (rows s step l) (refuses Err l) (accepts s step l) r f)
 
   after-accepted : (step : Step) → NoRow (rows s step l) → after h step ≡ left h step
   unfolding stepped
-  after-accepted step n = ap (λ out. record { state = state_after s out.answer; controls = out.held }) (judge-none (rows s step l) (refuses Refused l) (accepts s step l) n)
+  after-accepted step n = ap (λ out. record { state = state_after s out.answer; controls = out.held }) (judge-none (rows s step l) (refuses Err l) (accepts s step l) n)
 
   pub step-sound : (step : Step) → Sound (after h step)
   step-sound step =
@@ -176,10 +175,10 @@ module _ (h : Held) (k : Sound h) where
       (verdict (rows s step l))
 
 -- nothing follows Close
-pub nothing-follows : (s : State) (step : Step) (l : List ℤ) → s.closed ≡ true → (r : Refusal) × (stepped s step l ≡ refuses Refused l r)
+pub nothing-follows : (s : State) (step : Step) (l : List ℤ) → s.closed ≡ true → (r : Refusal) × (stepped s step l ≡ refuses Err l r)
 unfolding stepped
 nothing-follows s step l c =
-    ⊎_elim (λ (v : (r : Refusal) × First (rows s step l) r). (v.0, judge-first (rows s step l) (refuses Refused l) (accepts s step l) v.0 v.1))
+    ⊎_elim (λ (v : (r : Refusal) × First (rows s step l) r). (v.0, judge-first (rows s step l) (refuses Err l) (accepts s step l) v.0 v.1))
     (λ n. absurd (true-is-not-false c (fine-open s (opens step) (fit_then s step l n))))
     (verdict (rows s step l))
 

@@ -1,6 +1,6 @@
 -- A drawing step's refusals in the paper's order (document 01: 3, 8, 12, then its numbers in order, 6, 7), and the one reading of the call: what it answers and
 -- what the lent controls hold afterwards, for every state, step and list. Definitions only.
-use Rattle.std.specs.Prelude.{Bool, not, cond, ◌&&◌, ◌||◌, List, [], ◌∷◌, ◌++◌, ℕ, ◌+◌, ◌*◌, ◌%◌, max, leb, ltb, eqb, Float, ℤ, pos}
+use Rattle.std.specs.Prelude.{Bool, not, cond, ◌&&◌, ◌||◌, List, [], ◌∷◌, ◌++◌, ℕ, ◌+◌, ◌*◌, ◌%◌, max, leb, ltb, eqb, Float, ℤ, pos, Err, Ok, Result}
 use Rattle.std.proofs.lemmas.List.Edits.{sets}
 use Rattle.whole.specs.Outcome.{Outcome, outcome, refuses}
 use Rattle.doubles.specs.Number.{measure, paper}
@@ -11,9 +11,8 @@ use Rattle.shape.specs.Exactly.{Told, Refuses, Accepts}
 use Rattle.drawing.specs.declared.Control.{Control}
 use Rattle.drawing.specs.declared.State.{State}
 use Rattle.drawing.specs.declared.Step.{Step}
-use Rattle.drawing.specs.declared.Stepped.{Stepped}
-use Rattle.drawing.specs.declared.Stepped.TheVariants.{Next, Refused}
 use Rattle.drawing.specs.Drawing.{numbers, opens, added, next, flat}
+use Rattle.shape.specs.declared.Refusal.{Refusal}
 
 -- ---- row 3: the count is not 0, 1, 4, .., 64, or 0 while closed
 
@@ -59,18 +58,18 @@ abbrev pub rows : State → Step → List ℤ → List Row
 rows s step controls = state_rows s (opens step) ++ number_rows 0 (numbers step) ++ space_rows s.count (next s step).count controls
 
 -- The records that the step adds are written from record number count on, and all other numbers stay.
-abbrev pub accepts : State → Step → List ℤ → Outcome Stepped (List ℤ)
-accepts s step l = outcome (Next (next s step)) (sets l (2 * s.count) (flat (added s step)))
+abbrev pub accepts : State → Step → List ℤ → Outcome (Result State Refusal) (List ℤ)
+accepts s step l = outcome (Ok (next s step)) (sets l (2 * s.count) (flat (added s step)))
 
-unfoldable pub stepped : State → Step → List ℤ → Outcome Stepped (List ℤ)
-stepped s step l = judge (rows s step l) (refuses Refused l) (accepts s step l)
+unfoldable pub stepped : State → Step → List ℤ → Outcome (Result State Refusal) (List ℤ)
+stepped s step l = judge (rows s step l) (refuses Err l) (accepts s step l)
 
 -- What the answer tells: the next state's count, start, current, and 1 where it is closed or 0; or the refusal.
-abbrev pub told : Stepped → Told
-told (Next t) = Accepts (pos t.count ∷ t.start.x ∷ t.start.y ∷ t.current.x ∷ t.current.y ∷ pos (cond t.closed 1 0) ∷ [])
-told (Refused r) = Refuses r
+abbrev pub told : Result State Refusal → Told
+told (Ok t) = Accepts (pos t.count ∷ t.start.x ∷ t.start.y ∷ t.current.x ∷ t.current.y ∷ pos (cond t.closed 1 0) ∷ [])
+told (Err r) = Refuses r
 
 -- The state that the caller has then: the next one, or on a refusal the one that it had.
-abbrev pub state_after : State → Stepped → State
-state_after s (Next t) = t
-state_after s (Refused r) = s
+abbrev pub state_after : State → Result State Refusal → State
+state_after s (Ok t) = t
+state_after s (Err r) = s

@@ -1,4 +1,5 @@
 -- "Given exactly when" (document 01, "Refusal numbers"), of the edits: the law of `shape/proofs/Exactly` over the call's table.
+use Rattle.std.specs.Prelude.{Err, Ok, Result}
 use mathlib.Core.Path.{◌≡◌, refl, ap}
 use mathlib.Core.List.{List, ◌++◌}
 use Prim.Native.Nat.{ℕ}
@@ -12,11 +13,9 @@ use Rattle.shape.proofs.Refusals.{judge-first, judge-none}
 use Rattle.shape.proofs.Exactly as any-call
 use Rattle.asked.specs.declared.Edit.{Edit}
 use Rattle.edit.specs.declared.Change.{Change}
-use Rattle.edit.specs.declared.Edited.{Edited}
-use Rattle.edit.specs.declared.Edited.TheVariants.{Done, Refused}
 use Rattle.edit.specs.Reading.{told, shape_after, edit_rows, accepts, edits}
 
-abbrev tells : Outcome Edited (List ℤ × List ℤ) → Told
+abbrev tells : Outcome (Result Change Refusal) (List ℤ × List ℤ) → Told
 tells o = told o.answer
 
 module _ (e : Edit) (s : Shape) (j : ℕ) (controls lent : List ℤ) where
@@ -24,21 +23,21 @@ module _ (e : Edit) (s : Shape) (j : ℕ) (controls lent : List ℤ) where
   abbrev pub call_rows : List Row
   call_rows = shape_rows s ++ edit_rows e s (plan_of s) (plan_of (shape_after e s)) j controls lent
 
-  abbrev done : Outcome Edited (List ℤ × List ℤ)
+  abbrev done : Outcome (Result Change Refusal) (List ℤ × List ℤ)
   done = accepts e s (plan_of (shape_after e s)) j controls lent
 
   pub exactly : Exactly call_rows (tells (edits e s j controls lent)) (controls, lent) (edits e s j controls lent).held (values (tells done)) done.held
   unfolding edits
-  exactly = any-call.exactly tells call_rows (refuses Refused (controls, lent)) done (values (tells done)) (λ r. refl) refl (λ o. o.held) (controls, lent) (λ r. refl) refl
+  exactly = any-call.exactly tells call_rows (refuses Err (controls, lent)) done (values (tells done)) (λ r. refl) refl (λ o. o.held) (controls, lent) (λ r. refl) refl
 
-  pub first-refused : (r : Refusal) → First call_rows r → edits e s j controls lent ≡ refuses Refused (controls, lent) r
+  pub first-refused : (r : Refusal) → First call_rows r → edits e s j controls lent ≡ refuses Err (controls, lent) r
   unfolding edits
-  first-refused r first = judge-first call_rows (refuses Refused (controls, lent)) done r first
+  first-refused r first = judge-first call_rows (refuses Err (controls, lent)) done r first
 
   -- whatever is answered and whatever the lists then hold
-  pub done_none : (c : Change) (new held : List ℤ) → edits e s j controls lent ≡ outcome (Done c) (new, held) → NoRow call_rows
+  pub done_none : (c : Change) (new held : List ℤ) → edits e s j controls lent ≡ outcome (Ok c) (new, held) → NoRow call_rows
   done_none c new held h = exactly.accepted.0 (ap (λ o. number (tells o)) h)
 
   pub none_done : NoRow call_rows → edits e s j controls lent ≡ done
   unfolding edits
-  none_done none = judge-none call_rows (refuses Refused (controls, lent)) done none
+  none_done none = judge-none call_rows (refuses Err (controls, lent)) done none

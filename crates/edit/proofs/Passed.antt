@@ -1,4 +1,5 @@
 -- What an edit that no row refuses may rely on: it may be done, its new shape has its plan, and both lists have room.
+use Rattle.std.specs.Prelude.{Err, Ok}
 use mathlib.Core.Path.{◌≡◌, subst}
 use mathlib.Core.List.{List}
 use Prim.Native.Nat.{ℕ, max}
@@ -6,7 +7,6 @@ use lib.IntN.{ℤ}
 use lib.ListN.{length}
 use Rattle.shape.specs.declared.Shape.{Shape}
 use Rattle.shape.specs.declared.Plan.{Plan}
-use Rattle.shape.specs.declared.Checked.TheVariants.{Fine, Bad}
 use Rattle.shape.specs.Refusals.{Row, NoRow, shape_rows, plan_of}
 use Rattle.shape.proofs.Refusals.{judge-none, none-earlier, none-later, good-plan}
 use Rattle.outline.specs.Outline.{points}
@@ -36,11 +36,11 @@ module _ (e : Edit) (s : Shape) (j : ℕ) (controls lent : List ℤ) (none : NoR
   unfolding judge_ask
   may-edit =
       editable e s p j (good-plan s (none-earlier (shape_rows s) (edit_rows e s p q j controls lent) none))
-      (judge-none asked_of Bad Fine (none-earlier asked_of (room_of q) none-later-on))
+      (judge-none asked_of Err (Ok tt) (none-earlier asked_of (room_of q) none-later-on))
 
   pub same-plan : q ≡ plan_after e p
   same-plan = plan_after_lem e s p j may-edit
 
-  pub room-fine : judge_room e s.count controls (max (points p) (points (plan_after e p))) (length lent) ≡ Fine
+  pub room-fine : judge_room e s.count controls (max (points p) (points (plan_after e p))) (length lent) ≡ Ok tt
   unfolding judge_room
-  room-fine = judge-none (room_of (plan_after e p)) Bad Fine (subst (λ r. NoRow (room_of r)) same-plan (none-later asked_of (room_of q) none-later-on))
+  room-fine = judge-none (room_of (plan_after e p)) Err (Ok tt) (subst (λ r. NoRow (room_of r)) same-plan (none-later asked_of (room_of q) none-later-on))

@@ -1,4 +1,5 @@
 -- What the rows of an edit that passed give: a sound new shape, its plan, and controls and points that it can be worked from.
+use Rattle.std.specs.Prelude.{Err, Ok, Result}
 use mathlib.Core.Path.{◌≡◌, refl, sym, ap, ◌∙◌, subst}
 use mathlib.Core.Bool.{Bool, true, false, cond, ◌||◌}
 use mathlib.Core.Logic.{⊎_elim}
@@ -20,9 +21,6 @@ use Rattle.curve.proofs.Stride.{stride-bounds}
 use Rattle.shape.specs.declared.Shape.{Shape}
 use Rattle.shape.specs.declared.Plan.{Plan}
 use Rattle.shape.specs.declared.Refusal.{Refusal}
-use Rattle.shape.specs.declared.Judged.TheVariants.{Sound, Unsound}
-use Rattle.shape.specs.declared.Checked.{Checked}
-use Rattle.shape.specs.declared.Checked.TheVariants.{Fine, Bad}
 use Rattle.shape.specs.Inner.{RunsRound, Good, Lent}
 use Rattle.shape.specs.Shape.{basis_of, basis_in, spans_of, records_of, least_records, most_records}
 use Rattle.shape.specs.Refusals.{Row, NoRow, judge, judge_shape, plan_of, control_rows, point_rows}
@@ -39,7 +37,6 @@ use Rattle.asked.specs.declared.Edit.{Edit}
 use Rattle.asked.specs.declared.Edit.TheVariants.{Move, Insert, Remove}
 use Rattle.asked.specs.Edits.{count_after, spans_after, offered, in_range, at_the_end, new_outside, choose, control_at, asked, past_fresh, run_of}
 use Rattle.asked.specs.Inner.{Askable}
-use Rattle.edit.specs.declared.Edited.TheVariants.{Refused}
 use Rattle.asked.proofs.Runs.{round-first, round-few, open-most}
 use Rattle.asked.proofs.Splines.{spline-records}
 use Rattle.edit.specs.Inner.{Carriable, Runnable, Editable, Workable, Vetted}
@@ -231,7 +228,7 @@ carriable-by Remove p j w len some left old new =
 -- ---- rows 7, 8, 9
 
 module _ (e : Edit) (s : Shape) (p : Plan) (j : ℕ) (ok : Editable e s p j) (controls : List ℤ) (len : ℕ)
-    (fine : judge_room e s.count controls (max (points p) (points (plan_after e p))) len ≡ Fine) where
+    (fine : judge_room e s.count controls (max (points p) (points (plan_after e p))) len ≡ Ok tt) where
   abbrev n : ℕ
   n = s.count
 
@@ -312,7 +309,7 @@ module _ (e : Edit) (s : Shape) (p : Plan) (j : ℕ) (ok : Editable e s p j) (co
 
 -- ---- the rows of a call, check by check
 
-pub editable : (e : Edit) (s : Shape) (p : Plan) (j : ℕ) → Good s p → judge_ask e p.basis j s.count ≡ Fine → Editable e s p j
+pub editable : (e : Edit) (s : Shape) (p : Plan) (j : ℕ) → Good s p → judge_ask e p.basis j s.count ≡ Ok tt → Editable e s p j
 unfolding judge_ask
 editable e s p j good t =
     let rows = ask_rows e p.basis j s.count in
@@ -332,47 +329,47 @@ module _ (e : Edit) (s : Shape) (j : ℕ) (controls lent : List ℤ) where
   room_of p q = room_rows e s.count controls (max (points p) (points q)) (length lent)
 
   -- rows 1, 2, 24, 3
-  pub shape-bad : (r : Refusal) → judge_shape s ≡ Unsound r → edits e s j controls lent ≡ refuses Refused (controls, lent) r
+  pub shape-bad : (r : Refusal) → judge_shape s ≡ Err r → edits e s j controls lent ≡ refuses Err (controls, lent) r
   unfolding edits
-  shape-bad r t = unsound s r t (edit_rows e s (plan_of s) next j controls lent) (refuses Refused (controls, lent)) (accepts e s next j controls lent)
+  shape-bad r t = unsound s r t (edit_rows e s (plan_of s) next j controls lent) (refuses Err (controls, lent)) (accepts e s next j controls lent)
 
-  module _ (p : Plan) (good : judge_shape s ≡ Sound p) where
+  module _ (p : Plan) (good : judge_shape s ≡ Ok p) where
     abbrev asks : List Row
     asks = ask_rows e p.basis j s.count
 
-    from-ask : edits e s j controls lent ≡ judge (asks ++ room_of p next) (refuses Refused (controls, lent)) (accepts e s next j controls lent)
+    from-ask : edits e s j controls lent ≡ judge (asks ++ room_of p next) (refuses Err (controls, lent)) (accepts e s next j controls lent)
     unfolding edits
     from-ask =
-        sound s p good (edit_rows e s (plan_of s) next j controls lent) (refuses Refused (controls, lent)) (accepts e s next j controls lent)
-        ∙ ap (λ r. judge (edit_rows e s r next j controls lent) (refuses Refused (controls, lent)) (accepts e s next j controls lent)) (sym (sound-plan s p good))
+        sound s p good (edit_rows e s (plan_of s) next j controls lent) (refuses Err (controls, lent)) (accepts e s next j controls lent)
+        ∙ ap (λ r. judge (edit_rows e s r next j controls lent) (refuses Err (controls, lent)) (accepts e s next j controls lent)) (sym (sound-plan s p good))
 
     -- rows 4, 5, 6
-    pub ask-bad : (r : Refusal) → judge_ask e p.basis j s.count ≡ Bad r → edits e s j controls lent ≡ refuses Refused (controls, lent) r
+    pub ask-bad : (r : Refusal) → judge_ask e p.basis j s.count ≡ Err r → edits e s j controls lent ≡ refuses Err (controls, lent) r
     unfolding judge_ask
-    ask-bad r t = from-ask ∙ rows-bad asks r t (room_of p next) (refuses Refused (controls, lent)) (accepts e s next j controls lent)
+    ask-bad r t = from-ask ∙ rows-bad asks r t (room_of p next) (refuses Err (controls, lent)) (accepts e s next j controls lent)
 
-    module _ (fine : judge_ask e p.basis j s.count ≡ Fine) where
+    module _ (fine : judge_ask e p.basis j s.count ≡ Ok tt) where
       pub may-edit : Editable e s p j
       may-edit = editable e s p j (sound-facts s p good) fine
 
-      from-room : edits e s j controls lent ≡ judge (room_of p (plan_after e p)) (refuses Refused (controls, lent)) (accepts e s (plan_after e p) j controls lent)
+      from-room : edits e s j controls lent ≡ judge (room_of p (plan_after e p)) (refuses Err (controls, lent)) (accepts e s (plan_after e p) j controls lent)
       unfolding judge_ask
       from-room =
           from-ask
-          ∙ rows-fine asks fine (room_of p next) (refuses Refused (controls, lent)) (accepts e s next j controls lent)
-          ∙ ap (λ q. judge (room_of p q) (refuses Refused (controls, lent)) (accepts e s q j controls lent)) (plan_after_lem e s p j may-edit)
+          ∙ rows-fine asks fine (room_of p next) (refuses Err (controls, lent)) (accepts e s next j controls lent)
+          ∙ ap (λ q. judge (room_of p q) (refuses Err (controls, lent)) (accepts e s q j controls lent)) (plan_after_lem e s p j may-edit)
 
-      abbrev Found : Checked → Type 0
+      abbrev Found : Result (Unit {0}) Refusal → Type 0
       Found l = judge_room e s.count controls (max (points p) (points (plan_after e p))) (length lent) ≡ l
 
       -- rows 7, 8, 9
-      pub room-bad : (r : Refusal) → Found (Bad r) → edits e s j controls lent ≡ refuses Refused (controls, lent) r
+      pub room-bad : (r : Refusal) → Found (Err r) → edits e s j controls lent ≡ refuses Err (controls, lent) r
       unfolding judge_room
-      room-bad r t = from-room ∙ judge-first (room_of p (plan_after e p)) (refuses Refused (controls, lent)) _ r (rows-first (room_of p (plan_after e p)) r t)
+      room-bad r t = from-room ∙ judge-first (room_of p (plan_after e p)) (refuses Err (controls, lent)) _ r (rows-first (room_of p (plan_after e p)) r t)
 
-      pub room-fine : Found Fine → Vetted e s j controls lent (Sound (plan_after e p))
+      pub room-fine : Found (Ok tt) → Vetted e s j controls lent (Ok (plan_after e p))
       unfolding judge_room
       room-fine t = (
         workable e s p j may-edit controls (length lent) t,
-        from-room ∙ judge-none (room_of p (plan_after e p)) (refuses Refused (controls, lent)) _ (rows_none (room_of p (plan_after e p)) t),
+        from-room ∙ judge-none (room_of p (plan_after e p)) (refuses Err (controls, lent)) _ (rows_none (room_of p (plan_after e p)) t),
       )

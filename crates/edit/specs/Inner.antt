@@ -1,14 +1,12 @@
 -- For contracts inside the project alone: no public contract uses what is here.
 -- Runs of spans and carrying them by one span, and what is known once the checks of an edit have passed.
-use Rattle.std.specs.Prelude.{cond, true, false, List, ◌≡◌, ℕ, ◌+◌, ◌*◌, ◌-◌, ◌≤◌, ◌<◌, ltb, ℤ, pos, get_or, length}
+use Rattle.std.specs.Prelude.{cond, true, false, List, ◌≡◌, ℕ, ◌+◌, ◌*◌, ◌-◌, ◌≤◌, ◌<◌, ltb, ℤ, pos, get_or, length, Err, Ok, Result}
 use Rattle.asked.specs.declared.Edit.{Edit}
 use Rattle.asked.specs.declared.Edit.TheVariants.{Move, Insert, Remove}
 use Rattle.whole.specs.Outcome.{Outcome, outcome, refuses}
 use Rattle.curve.specs.Span.{is_loop}
 use Rattle.shape.specs.declared.Shape.{Shape}
 use Rattle.shape.specs.declared.Plan.{Plan}
-use Rattle.shape.specs.declared.Judged.{Judged}
-use Rattle.shape.specs.declared.Judged.TheVariants.{Sound, Unsound}
 use Rattle.shape.specs.Inner.{Good}
 use Rattle.shape.specs.Shape.{most_records}
 use Rattle.spans.specs.Numbers.{number, per_span}
@@ -17,8 +15,8 @@ use Rattle.spans.specs.Inner.{Drawable, Joint}
 use Rattle.asked.specs.declared.Run.{Run}
 use Rattle.asked.specs.Edits.{count_after, offered, in_range, at_the_end, past_fresh, asked, run_of, is_fresh, exact_fresh}
 use Rattle.asked.specs.Inner.{Askable}
-use Rattle.edit.specs.declared.Edited.TheVariants.{Refused}
 use Rattle.edit.specs.Reading.{shape_after, accepts, edits}
+use Rattle.shape.specs.declared.Refusal.{Refusal}
 
 -- A run among a plan's spans: in an open outline it ends with them, in a loop it goes round at most once.
 abbrev pub Runnable : Run → Plan → Type 0
@@ -75,6 +73,6 @@ pub record Workable (e : Edit) (s : Shape) (q : Plan) (j : ℕ) (controls : List
   pub carriable : Carriable e (past_fresh e q j) q.spans (per_span q.depth) len
 
 -- What the checks find together: the refusal that the edit comes to, or the plan of the new shape, with which it can be worked and is accepted.
-abbrev pub Vetted : Edit → Shape → ℕ → List ℤ → List ℤ → Judged → Type 0
-Vetted e s j controls lent (Unsound r) = edits e s j controls lent ≡ refuses Refused (controls, lent) r
-Vetted e s j controls lent (Sound q) = Workable e s q j controls (length lent) × (edits e s j controls lent ≡ accepts e s q j controls lent)
+abbrev pub Vetted : Edit → Shape → ℕ → List ℤ → List ℤ → Result Plan Refusal → Type 0
+Vetted e s j controls lent (Err r) = edits e s j controls lent ≡ refuses Err (controls, lent) r
+Vetted e s j controls lent (Ok q) = Workable e s q j controls (length lent) × (edits e s j controls lent ≡ accepts e s q j controls lent)

@@ -1,11 +1,9 @@
 -- What an edit comes to (document 01): the refusals in the order 1 to 9, with 24 after 2; or the new controls, the new points and the answer, with every number past the last control and
 -- past the last point as it was. For any contents of the lent points.
-use Rattle.std.specs.Prelude.{not, List, [], ◌∷◌, ◌++◌, ℕ, ◌*◌, max, ℤ, pos, length}
+use Rattle.std.specs.Prelude.{not, List, [], ◌∷◌, ◌++◌, ℕ, ◌*◌, max, ℤ, pos, length, Err, Ok, Result}
 use Rattle.whole.specs.Outcome.{Outcome, outcome, refuses}
 use Rattle.shape.specs.declared.Shape.{Shape}
 use Rattle.shape.specs.declared.Plan.{Plan}
-use Rattle.shape.specs.declared.Checked.{Checked}
-use Rattle.shape.specs.declared.Checked.TheVariants.{Fine, Bad}
 use Rattle.curve.specs.declared.Basis.{Basis}
 use Rattle.curve.specs.Span.{recount}
 use Rattle.shape.specs.Refusals.{Row, row, judge, shape_rows, control_rows, point_rows, plan_of}
@@ -14,9 +12,8 @@ use Rattle.spans.specs.Filled.{filled}
 use Rattle.outline.specs.Outline.{points}
 use Rattle.asked.specs.declared.Edit.{Edit}
 use Rattle.edit.specs.declared.Change.{Change}
-use Rattle.edit.specs.declared.Edited.{Edited}
-use Rattle.edit.specs.declared.Edited.TheVariants.{Done, Refused}
 use Rattle.asked.specs.Edits.{count_after, spans_after, offered, in_range, at_the_end, new_outside, asked, run_of, exact_fresh, point_at}
+use Rattle.shape.specs.declared.Refusal.{Refusal}
 
 -- The shape after an edit.
 abbrev pub shape_after : Edit → Shape → Shape
@@ -30,8 +27,8 @@ plan_after e p = let m = spans_after e p.spans in record { basis = recount m p.b
 abbrev pub ask_rows : Edit → Basis → ℕ → ℕ → List Row
 ask_rows e b j n = row (not (offered e b)) 4 0 ∷ row (not (in_range e j n)) 5 j ∷ row (at_the_end e n) 6 0 ∷ []
 
-unfoldable pub judge_ask : Edit → Basis → ℕ → ℕ → Checked
-judge_ask e b j n = judge (ask_rows e b j n) Bad Fine
+unfoldable pub judge_ask : Edit → Basis → ℕ → ℕ → Result (Unit {0}) Refusal
+judge_ask e b j n = judge (ask_rows e b j n) Err (Ok tt)
 
 -- Row 8 for the new record, whose place is n.
 abbrev pub new_rows : Edit → ℕ → List Row
@@ -41,8 +38,8 @@ new_rows e n = row (new_outside e) 8 n ∷ []
 abbrev pub room_rows : Edit → ℕ → List ℤ → ℕ → ℕ → List Row
 room_rows e n controls most len = control_rows (max n (count_after e n)) n controls ++ (new_rows e n ++ point_rows most len)
 
-unfoldable pub judge_room : Edit → ℕ → List ℤ → ℕ → ℕ → Checked
-judge_room e n controls most len = judge (room_rows e n controls most len) Bad Fine
+unfoldable pub judge_room : Edit → ℕ → List ℤ → ℕ → ℕ → Result (Unit {0}) Refusal
+judge_room e n controls most len = judge (room_rows e n controls most len) Err (Ok tt)
 
 -- Rows 4 to 9, for a sound shape with its plan p, and q the plan of the new shape.
 abbrev pub edit_rows : Edit → Shape → Plan → Plan → ℕ → List ℤ → List ℤ → List Row
@@ -61,17 +58,17 @@ abbrev pub points_after : Edit → Shape → Plan → ℕ → List ℤ → List 
 points_after e s q j controls lent = filled (point_at e q j (controls_after e s j controls) lent) 0 (2 * points q) lent
 
 -- Both lent lists are left: the controls, and the points.
-abbrev pub accepts : Edit → Shape → Plan → ℕ → List ℤ → List ℤ → Outcome Edited (List ℤ × List ℤ)
+abbrev pub accepts : Edit → Shape → Plan → ℕ → List ℤ → List ℤ → Outcome (Result Change Refusal) (List ℤ × List ℤ)
 accepts e s q j controls lent =
-    outcome (Done (change e s q j (exact_fresh (run_of e q j) q (controls_after e s j controls)))) (controls_after e s j controls, points_after e s q j controls lent)
+    outcome (Ok (change e s q j (exact_fresh (run_of e q j) q (controls_after e s j controls)))) (controls_after e s j controls, points_after e s q j controls lent)
 
-unfoldable pub edits : Edit → Shape → ℕ → List ℤ → List ℤ → Outcome Edited (List ℤ × List ℤ)
+unfoldable pub edits : Edit → Shape → ℕ → List ℤ → List ℤ → Outcome (Result Change Refusal) (List ℤ × List ℤ)
 edits e s j controls lent =
     let p = plan_of s in
     let q = plan_of (shape_after e s) in
-    judge (shape_rows s ++ edit_rows e s p q j controls lent) (refuses Refused (controls, lent)) (accepts e s q j controls lent)
+    judge (shape_rows s ++ edit_rows e s p q j controls lent) (refuses Err (controls, lent)) (accepts e s q j controls lent)
 
 -- What the answer tells: the new shape, the first span worked afresh, how many, and how many coordinates of theirs are exact; or the refusal.
-abbrev pub told : Edited → Told
-told (Done c) = Accepts (pos c.shape.basis ∷ pos c.shape.depth ∷ pos c.shape.count ∷ pos c.first ∷ pos c.fresh ∷ pos c.exact ∷ pos c.shape.parameter ∷ [])
-told (Refused r) = Refuses r
+abbrev pub told : Result Change Refusal → Told
+told (Ok c) = Accepts (pos c.shape.basis ∷ pos c.shape.depth ∷ pos c.shape.count ∷ pos c.first ∷ pos c.fresh ∷ pos c.exact ∷ pos c.shape.parameter ∷ [])
+told (Err r) = Refuses r

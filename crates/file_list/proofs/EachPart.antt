@@ -1,4 +1,5 @@
 -- Which part a number names, and the text of a span by what drawing its four records came to.
+use Rattle.std.specs.Prelude.{Err, Ok, Result}
 use mathlib.Core.Bool.{Bool, cond}
 use mathlib.Core.List.{List, []}
 use mathlib.Core.Logic.{⊎_elim}
@@ -21,8 +22,6 @@ use Rattle.shape.specs.Refusals.{First, NoRow, plan_of}
 use Rattle.shape.proofs.Tests.{passes}
 use Rattle.shape.proofs.Refusals.{judge-first, row-fails, verdict}
 use Rattle.outline.specs.declared.Figures.{Figures}
-use Rattle.outline.specs.declared.Drawn.{Drawn}
-use Rattle.outline.specs.declared.Drawn.TheVariants.{Done, Refused}
 use Rattle.outline.specs.Outline.{draws, draw_rows, accepts}
 use Rattle.outline.proofs.Lists.{drawn-keeps}
 use Rattle.listing.specs.declared.Put.TheVariants.{End}
@@ -91,22 +90,22 @@ module _ (p : Plan) (i : ℕ) where
 -- ---- what drawing the four records came to
 
 module _ (s : Shape) (p : Plan) (i : ℕ) where
-  pub records-then : (records : List ℤ) (o : Outcome Drawn (List ℤ)) → draws (one_span s) records span_room ≡ o → records_text s p records i ≡ span_lines p i o.held o.answer
+  pub records-then : (records : List ℤ) (o : Outcome (Result Figures Refusal) (List ℤ)) → draws (one_span s) records span_room ≡ o → records_text s p records i ≡ span_lines p i o.held o.answer
   unfolding records_text
-  records-then records o e = ap (λ (o : Outcome Drawn (List ℤ)). span_lines p i o.held o.answer) e
+  records-then records o e = ap (λ (o : Outcome (Result Figures Refusal) (List ℤ)). span_lines p i o.held o.answer) e
 
   -- its own points are there, and their lines are listed
-  pub drawn-lines : p.depth ≤ deepest → (records : List ℤ) (fs : Figures) (held : List ℤ) → draws (one_span s) records span_room ≡ outcome (Done fs) held
+  pub drawn-lines : p.depth ≤ deepest → (records : List ℤ) (fs : Figures) (held : List ℤ) → draws (one_span s) records span_room ≡ outcome (Ok fs) held
       → (text : List ℕ) → listed_by (point_lines (i * 2 ^ p.depth)) text held (own_points p i) ≡ written text 0 (records_text s p records i)
   drawn-lines shallow records fs held e text =
       let room : 2 * own_points p i ≤ length held = omega (arith, own-few p i shallow, (drawn-keeps (one_span s) records span_room fs held e).long) in
-      sym (in-full text held (own_points p i) (point_lines (i * 2 ^ p.depth)) room) ∙ ap (written text 0) (sym (records-then records (outcome (Done fs) held) e))
+      sym (in-full text held (own_points p i) (point_lines (i * 2 ^ p.depth)) room) ∙ ap (written text 0) (sym (records-then records (outcome (Ok fs) held) e))
 
   -- a list with fewer than four records
   pub too_few : (records : List ℤ) → length records < own_numbers → records_text s p records i ≡ []
   unfolding draws
   too_few records few =
       let rows = draw_rows (one_span s) records span_room in
-      ⊎_elim (λ (v : (r : Refusal) × First rows r). records-then records (refuses Refused span_room v.0) (judge-first rows (refuses Refused span_room) (accepts (plan_of (one_span s)) records span_room) v.0 v.1))
+      ⊎_elim (λ (v : (r : Refusal) × First rows r). records-then records (refuses Err span_room v.0) (judge-first rows (refuses Err span_room) (accepts (plan_of (one_span s)) records span_room) v.0 v.1))
       (λ (none : NoRow rows). absurd (omega (arith, ltb-false (length records) (2 * least_records) (row-fails 7 rows none))))
       (verdict rows)

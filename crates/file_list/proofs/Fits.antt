@@ -1,5 +1,6 @@
 -- Each part of every file's listing fits the room for the longest, and so does its listing by any tolerance: a file is refused by a row whose number and place are small, or its outline is drawn,
 -- and its points are few and near.
+use Rattle.std.specs.Prelude.{Err, Result}
 use mathlib.Core.Path.{◌≡◌, refl, sym, ◌∙◌, subst}
 use mathlib.Core.List.{List, ◌++◌}
 use mathlib.Core.Logic.{⊎_elim}
@@ -20,7 +21,6 @@ use Rattle.shape.specs.declared.Plan.{Plan}
 use Rattle.shape.specs.declared.Refusal.{Refusal}
 use Rattle.shape.specs.Inner.{Good}
 use Rattle.shape.specs.Shape.{most_records}
-use Rattle.shape.specs.declared.Judged.{Judged}
 use Rattle.shape.specs.Refusals.{Row, First, NoRow, outside}
 use Rattle.shape.proofs.Refusals.{judge-first, row-fails, first_either, Each, each_both, each_first, none-sound, verdict}
 use Rattle.shape.proofs.Seek.{seek-to}
@@ -28,8 +28,6 @@ use Rattle.shape.proofs.Tests.{either, or-false}
 use Rattle.spans.specs.Numbers as spans
 use Rattle.spans.proofs.Numbers.{per-span}
 use Rattle.pieces.specs.Tree.{finest}
-use Rattle.tolerance.specs.declared.Chosen.{Chosen}
-use Rattle.tolerance.specs.declared.Chosen.TheVariants as chosen
 use Rattle.tolerance.specs.Reading as steps
 use Rattle.tolerance.specs.Reading.{choose_rows, steps_of, accepts, chooses}
 use Rattle.tolerance.proofs.Left.{cuts-below}
@@ -39,11 +37,11 @@ use Rattle.outline.specs.Outline as outline
 use Rattle.outline.proofs.Views.{span-within}
 use Rattle.outline.proofs.Within.{number-within}
 use Rattle.record_file.specs.Format as format
-use Rattle.record_file.specs.declared.Reading.{Reading}
 use Rattle.record_file.specs.Rows.{most_bytes, record_count, length_rows, record_rows, later_rows, file_rows, reading}
 use Rattle.record_file.proofs.Exactly.{first-refused, none_read}
 use Rattle.file_list.specs.Files.{most_spans, most_listed, controls, points, most_text, refused_text, cut_text, by_tolerance, cut_file_text}
 use Rattle.file_list.specs.Parts.{own_points, outline_part, only_part, shape_part, part_text, most_part}
+use Rattle.tolerance.specs.declared.Steps.{Steps}
 use Rattle.file_list.proofs.Texts.{cut-then, read-text, unread-text}
 use Rattle.file_list.proofs.Read.{n, s, p, held, shape, good, lent, few-points}
 use Rattle.file_list.proofs.EachPart.{steps-few, own-most, past-parts}
@@ -138,7 +136,7 @@ module _ (file : List ℕ) (none : NoRow (file_rows file controls)) where
   -- ---- by tolerance
 
   module _ (tolerance most : ℕ) where
-    read-cut : (o : Outcome Chosen (List ℤ)) → chooses sh tolerance most c (points finest) ≡ o → cut_file_text tolerance most file ≡ cut_text sh tolerance o.held o.answer
+    read-cut : (o : Outcome (Result Steps Refusal) (List ℤ)) → chooses sh tolerance most c (points finest) ≡ o → cut_file_text tolerance most file ≡ cut_text sh tolerance o.held o.answer
     read-cut o e = read-text (by_tolerance tolerance most) file sh c (none_read file controls none) ∙ cut-then tolerance most sh c o e
 
     abbrev rows : List Row
@@ -148,8 +146,8 @@ module _ (file : List ℕ) (none : NoRow (file_rows file controls)) where
     unfolding chooses
     refused-cut-fits r f =
         let few = chosen-short file tolerance most none r f in
-        let refused = judge-first rows (refuses chosen.Refused (points finest)) (accepts q tolerance c (points finest)) r f in
-        subst (λ t. length t ≤ most_text) (sym (read-cut (refuses chosen.Refused (points finest) r) refused)) (omega (arith, refusal-length r.number r.place few.number few.place))
+        let refused = judge-first rows (refuses Err (points finest)) (accepts q tolerance c (points finest)) r f in
+        subst (λ t. length t ≤ most_text) (sym (read-cut (refuses Err (points finest) r) refused)) (omega (arith, refusal-length r.number r.place few.number few.place))
 
     chosen-fits : NoRow rows → length (cut_file_text tolerance most file) ≤ most_text
     chosen-fits free =
@@ -171,7 +169,7 @@ module _ (file : List ℕ) (none : NoRow (file_rows file controls)) where
 pub part-fits : (file : List ℕ) (i : ℕ) → length (part_text (reading file controls).answer (reading file controls).held i) ≤ most_part
 part-fits file i = ⊎_elim refused drawn (verdict (file_rows file controls))
   where
-    Fits : Outcome Reading (List ℤ) → Type 0
+    Fits : Outcome (Result Shape Refusal) (List ℤ) → Type 0
     Fits o = length (part_text o.answer o.held i) ≤ most_part
 
     only : (text : List ℕ) (i : ℕ) → length text ≤ 14 → length (only_part text i) ≤ most_part
@@ -184,7 +182,7 @@ part-fits file i = ⊎_elim refused drawn (verdict (file_rows file controls))
     drawn : NoRow (file_rows file controls) → Fits (reading file controls)
     drawn none =
         subst Fits (sym (none_read file controls none))
-        (subst (λ (j : Judged). length (shape_part (sh file none) (c file none) j i) ≤ most_part) (sym (none-sound (sh file none) (shape file none))) (parts-fit file none i))
+        (subst (λ (j : Result Plan Refusal). length (shape_part (sh file none) (c file none) j i) ≤ most_part) (sym (none-sound (sh file none) (shape file none))) (parts-fit file none i))
 
 pub cut_fits : (tolerance most : ℕ) (file : List ℕ) → length (cut_file_text tolerance most file) ≤ most_text
 cut_fits tolerance most file =

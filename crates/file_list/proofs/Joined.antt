@@ -1,4 +1,5 @@
 -- The parts of a file's listing, one after another, are its listing: the first line, and then span after span the points from its start on, each point once.
+use Rattle.std.specs.Prelude.{Err, Ok, Result}
 use mathlib.Core.Bool.{Bool, cond}
 use mathlib.Core.List.{List, [], ◌++◌, append-nil}
 use mathlib.Core.Logic.{⊎_elim}
@@ -16,7 +17,6 @@ use Rattle.curve.proofs.Tab.{length-tab, tab-append}
 use Rattle.shape.specs.declared.Shape.{Shape}
 use Rattle.shape.specs.declared.Plan.{Plan}
 use Rattle.shape.specs.declared.Refusal.{Refusal}
-use Rattle.shape.specs.declared.Judged.{Judged}
 use Rattle.shape.specs.Inner.{Lent}
 use Rattle.shape.specs.Refusals.{First, NoRow, shape_rows, plan_of}
 use Rattle.shape.specs.Shape.{most_records}
@@ -25,8 +25,6 @@ use Rattle.spans.specs.Numbers.{number, per_span}
 use Rattle.outline.specs.Outline as outline
 use Rattle.outline.specs.Outline.{accepts}
 use Rattle.outline.proofs.Draws.{all-numbers}
-use Rattle.record_file.specs.declared.Reading.{Reading}
-use Rattle.record_file.specs.declared.Reading.TheVariants as read
 use Rattle.record_file.specs.Rows.{file_rows, reading}
 use Rattle.record_file.proofs.Exactly.{first-refused, none_read}
 use Rattle.listing.specs.Listing.{heading_text, point_lines, outline_text}
@@ -105,7 +103,7 @@ unfolding joined
 only-joined text = append-nil text
 
 -- what the parts come to, by what reading came to
-abbrev whole : Outcome Reading (List ℤ) → List ℕ
+abbrev whole : Outcome (Result Shape Refusal) (List ℤ) → List ℕ
 whole o = joined (part_text o.answer o.held) 0 (parts_of o.answer)
 
 -- the listing of a file that is read
@@ -135,7 +133,7 @@ file-joined bytes = ⊎_elim refused drawn (verdict (file_rows bytes controls))
         let c = file.held bytes none in
         let shape = file.shape bytes none in
         ap whole (none_read bytes controls none)
-        ∙ ap (λ (j : Judged). joined (shape_part s c j) 0 (shape_parts j)) (none-sound s shape)
+        ∙ ap (λ (j : Result Plan Refusal). joined (shape_part s c j) 0 (shape_parts j)) (none-sound s shape)
         ∙ outline-joined s shape c (outline.points (plan_of s)) (length (points deepest)) (file.lent bytes none)
         ∙ sym (drawn-text bytes none)
 
@@ -160,11 +158,11 @@ joined-next part (suc n) i =
     )
 
 -- there are no more parts than records, and the first line
-pub parts-few : (r : Reading) → parts_of r ≤ most_records + 1
-parts-few (read.Refused r) = omega arith
-parts-few (read.Read s) =
-    ⊎_elim (λ (v : (r : Refusal) × First (shape_rows s) r). subst (λ (j : Judged). shape_parts j ≤ most_records + 1) (sym (first-unsound s v.0 v.1)) (omega arith))
+pub parts-few : (r : Result Shape Refusal) → parts_of r ≤ most_records + 1
+parts-few (Err r) = omega arith
+parts-few (Ok s) =
+    ⊎_elim (λ (v : (r : Refusal) × First (shape_rows s) r). subst (λ (j : Result Plan Refusal). shape_parts j ≤ most_records + 1) (sym (first-unsound s v.0 v.1)) (omega arith))
     (λ (none : NoRow (shape_rows s)).
     let ok = good-plan s none in
-    subst (λ (j : Judged). shape_parts j ≤ most_records + 1) (sym (none-sound s none)) (omega (arith, ok.spans-most, ok.records-most)))
+    subst (λ (j : Result Plan Refusal). shape_parts j ≤ most_records + 1) (sym (none-sound s none)) (omega (arith, ok.spans-most, ok.records-most)))
     (verdict (shape_rows s))

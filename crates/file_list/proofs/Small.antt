@@ -1,5 +1,6 @@
 -- The numbers of an outline have at most seven digits, since every point of records inside the limits lies within 6,000,000 either way; chosen points are among those of the even outline
 -- at the finest depth.
+use Rattle.std.specs.Prelude.{Ok}
 use mathlib.Core.Path.{◌≡◌, sym, subst}
 use mathlib.Core.List.{List, [], ◌∷◌}
 use Prim.Native.Nat.{ℕ, zero, suc, ◌+◌, ◌*◌, ◌^◌, ◌≤◌, ◌<◌}
@@ -24,7 +25,6 @@ use Rattle.pieces.specs.Tree.{finest}
 use Rattle.pieces.specs.Steps.{Rises}
 use Rattle.pieces.proofs.Even.{sums_at}
 use Rattle.tolerance.specs.declared.Steps.{Steps}
-use Rattle.tolerance.specs.declared.Chosen.TheVariants.{Done}
 use Rattle.tolerance.specs.Reading.{chooses}
 use Rattle.tolerance.specs.Steps.{steps_along, finest_shape, finest_plan}
 use Rattle.tolerance.proofs.Along.{on_x, on_y, steps-rising, held-along}
@@ -64,7 +64,7 @@ module _ (s : Shape) (controls : List ℤ) (sound : NoRow (shape_rows s)) (k len
       (near (2 * g) (omega arith), (near (2 * g + 1) (omega arith), small-steps (suc g) to steps rise.1 h))
 
   -- after an accepted call
-  pub small-chosen : (tolerance most : ℕ) (points : List ℤ) (fs : Steps) (held : List ℤ) → chooses s tolerance most controls points ≡ outcome (Done fs) held → Small (take (2 * fs.points) held)
+  pub small-chosen : (tolerance most : ℕ) (points : List ℤ) (fs : Steps) (held : List ℤ) → chooses s tolerance most controls points ≡ outcome (Ok fs) held → Small (take (2 * fs.points) held)
   unfolding points_of
   small-chosen tolerance most points fs held done =
       subst Small (sym (held-along s tolerance most controls points fs held done))

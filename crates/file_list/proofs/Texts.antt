@@ -1,4 +1,5 @@
 -- The text of a file follows what each call on the way answered: reading, the shape's checks, drawing.
+use Rattle.std.specs.Prelude.{Err, Ok, Result}
 use mathlib.Core.Path.{◌≡◌, refl, sym, ap, ◌∙◌}
 use mathlib.Core.Bool.{Bool, true, cond}
 use mathlib.Core.List.{List, ◌++◌}
@@ -13,21 +14,15 @@ use lib.Seq.{length-take-le, take_at}
 use Rattle.whole.specs.Outcome.{Outcome, outcome}
 use Rattle.shape.specs.declared.Shape.{Shape}
 use Rattle.shape.specs.declared.Refusal.{Refusal}
-use Rattle.shape.specs.declared.Judged.TheVariants.{Unsound}
 use Rattle.shape.specs.Refusals.{judge_shape, plan_of}
 use Rattle.shape.proofs.Tests.{passes}
-use Rattle.outline.specs.declared.Drawn.{Drawn}
 use Rattle.outline.specs.Outline.{draws}
 use Rattle.curve.specs.Ways.{deepest}
 use Rattle.pieces.specs.Tree.{finest}
 use Rattle.tolerance.specs.declared.Steps.{Steps}
-use Rattle.tolerance.specs.declared.Chosen.{Chosen}
-use Rattle.tolerance.specs.declared.Chosen.TheVariants as chosen
 use Rattle.tolerance.specs.Reading.{chooses}
 use Rattle.tolerance.proofs.Chooses.{chooses-unsound}
 use Rattle.tolerance.proofs.Answered.{answered-keeps, answered-room}
-use Rattle.record_file.specs.declared.Reading.{Reading}
-use Rattle.record_file.specs.declared.Reading.TheVariants as read
 use Rattle.record_file.specs.Rows.{reading}
 use Rattle.listing.specs.declared.Put.{Put}
 use Rattle.listing.specs.declared.Put.TheVariants.{End, Full}
@@ -35,47 +30,48 @@ use Rattle.listing.specs.Listing.{chosen_text, listed_chosen}
 use Rattle.listing.specs.Written.{Within, written}
 use Rattle.listing.proofs.Listed.{in-full}
 use Rattle.file_list.specs.Files.{controls, points, refused_text, drawn_text, cut_text, even_text, by_tolerance, read_text, text_by, count_of, counted, writes}
+use Rattle.outline.specs.declared.Figures.{Figures}
 
 -- ---- even steps: what drawing answered, and left in the points
 
-pub text-then : (s : Shape) (c : List ℤ) (o : Outcome Drawn (List ℤ)) → draws s c (points deepest) ≡ o → even_text s c ≡ drawn_text s o.held o.answer
+pub text-then : (s : Shape) (c : List ℤ) (o : Outcome (Result Figures Refusal) (List ℤ)) → draws s c (points deepest) ≡ o → even_text s c ≡ drawn_text s o.held o.answer
 unfolding even_text
-text-then s c o e = ap (λ (o : Outcome Drawn (List ℤ)). drawn_text s o.held o.answer) e
+text-then s c o e = ap (λ (o : Outcome (Result Figures Refusal) (List ℤ)). drawn_text s o.held o.answer) e
 
 -- ---- steps chosen by tolerance
 
 module _ (tolerance most : ℕ) (s : Shape) (c : List ℤ) where
   -- what choosing answered, and left in the points
-  pub cut-then : (o : Outcome Chosen (List ℤ)) → chooses s tolerance most c (points finest) ≡ o → by_tolerance tolerance most s c ≡ cut_text s tolerance o.held o.answer
+  pub cut-then : (o : Outcome (Result Steps Refusal) (List ℤ)) → chooses s tolerance most c (points finest) ≡ o → by_tolerance tolerance most s c ≡ cut_text s tolerance o.held o.answer
   unfolding by_tolerance
-  cut-then o e = ap (λ (o : Outcome Chosen (List ℤ)). cut_text s tolerance o.held o.answer) e
+  cut-then o e = ap (λ (o : Outcome (Result Steps Refusal) (List ℤ)). cut_text s tolerance o.held o.answer) e
 
   -- the points that were answered are all there
-  all-chosen : (fs : Steps) (held : List ℤ) → chooses s tolerance most c (points finest) ≡ outcome (chosen.Done fs) held → 2 * fs.points ≤ length held
+  all-chosen : (fs : Steps) (held : List ℤ) → chooses s tolerance most c (points finest) ≡ outcome (Ok fs) held → 2 * fs.points ≤ length held
   all-chosen fs held e = omega (arith, (answered-keeps s tolerance most c (points finest) fs held e).long, answered-room s tolerance most c (points finest) fs held e)
 
-  pub listed-cut : (fs : Steps) (held : List ℤ) (text : List ℕ) → chooses s tolerance most c (points finest) ≡ outcome (chosen.Done fs) held
+  pub listed-cut : (fs : Steps) (held : List ℤ) (text : List ℕ) → chooses s tolerance most c (points finest) ≡ outcome (Ok fs) held
       → listed_chosen text s.basis tolerance (plan_of s).spans held fs.points fs.cuts ≡ written text 0 (by_tolerance tolerance most s c)
   listed-cut fs held text e =
       sym (in-full text held fs.points (chosen_text s.basis tolerance (plan_of s).spans fs.cuts) (all-chosen fs held e))
-      ∙ ap (written text 0) (sym (cut-then (outcome (chosen.Done fs) held) e))
+      ∙ ap (written text 0) (sym (cut-then (outcome (Ok fs) held) e))
 
   -- a shape that is not sound is refused
-  pub unsound-cut : (r : Refusal) → judge_shape s ≡ Unsound r → by_tolerance tolerance most s c ≡ refused_text r
-  unsound-cut r e = cut-then (outcome (chosen.Refused r) (points finest)) (chooses-unsound s tolerance most c (points finest) r e)
+  pub unsound-cut : (r : Refusal) → judge_shape s ≡ Err r → by_tolerance tolerance most s c ≡ refused_text r
+  unsound-cut r e = cut-then (outcome (Err r) (points finest)) (chooses-unsound s tolerance most c (points finest) r e)
 
 -- ---- a file
 
 module _ (text : Shape → List ℤ → List ℕ) (file : List ℕ) where
-  text-after : (o : Outcome Reading (List ℤ)) → reading file controls ≡ o → text_by text file ≡ read_text text o.held o.answer
+  text-after : (o : Outcome (Result Shape Refusal) (List ℤ)) → reading file controls ≡ o → text_by text file ≡ read_text text o.held o.answer
   unfolding text_by
-  text-after o e = ap (λ (o : Outcome Reading (List ℤ)). read_text text o.held o.answer) e
+  text-after o e = ap (λ (o : Outcome (Result Shape Refusal) (List ℤ)). read_text text o.held o.answer) e
 
-  pub read-text : (s : Shape) (held : List ℤ) → reading file controls ≡ outcome (read.Read s) held → text_by text file ≡ text s held
-  read-text s held e = text-after (outcome (read.Read s) held) e
+  pub read-text : (s : Shape) (held : List ℤ) → reading file controls ≡ outcome (Ok s) held → text_by text file ≡ text s held
+  read-text s held e = text-after (outcome (Ok s) held) e
 
-  pub unread-text : (r : Refusal) (held : List ℤ) → reading file controls ≡ outcome (read.Refused r) held → text_by text file ≡ refused_text r
-  unread-text r held e = text-after (outcome (read.Refused r) held) e
+  pub unread-text : (r : Refusal) (held : List ℤ) → reading file controls ≡ outcome (Err r) held → text_by text file ≡ refused_text r
+  unread-text r held e = text-after (outcome (Err r) held) e
 
 -- ---- counting what was written
 

@@ -1,27 +1,23 @@
 -- The listing of a record file: what outline-list writes for it (document 01, "Sums to hold it to"), and what outline-cut does (document 02, request 3). The file is read as a
 -- record file, the outline of its shape and records is drawn, with even steps or with steps chosen by tolerance, and its points are listed; a refusal on the way is one line.
 -- Definitions only.
-use Rattle.std.specs.Prelude.{List, ℕ, ◌+◌, ◌*◌, ◌^◌, ℤ, pos, replicate, take}
+use Rattle.std.specs.Prelude.{List, ℕ, ◌+◌, ◌*◌, ◌^◌, ℤ, pos, replicate, take, Err, Ok, Result}
 use Rattle.whole.specs.Outcome.{Outcome, outcome}
 use Rattle.curve.specs.Ways.{deepest}
 use Rattle.shape.specs.declared.Shape.{Shape}
 use Rattle.shape.specs.declared.Refusal.{Refusal}
 use Rattle.shape.specs.Shape.{most_records}
 use Rattle.shape.specs.Refusals.{plan_of}
-use Rattle.outline.specs.declared.Drawn.{Drawn}
-use Rattle.outline.specs.declared.Drawn.TheVariants as drawn
 use Rattle.outline.specs.Outline.{draws}
 use Rattle.pieces.specs.Tree.{finest}
-use Rattle.tolerance.specs.declared.Chosen.{Chosen}
-use Rattle.tolerance.specs.declared.Chosen.TheVariants as chosen
 use Rattle.tolerance.specs.Reading.{chooses}
-use Rattle.record_file.specs.declared.Reading.{Reading}
-use Rattle.record_file.specs.declared.Reading.TheVariants as read
 use Rattle.record_file.specs.Rows.{reading}
 use Rattle.listing.specs.declared.Put.{Put}
 use Rattle.listing.specs.declared.Put.TheVariants.{End, Full}
 use Rattle.listing.specs.Listing.{outline_text, chosen_text, refusal_text}
 use Rattle.listing.specs.Written.{written}
+use Rattle.outline.specs.declared.Figures.{Figures}
+use Rattle.tolerance.specs.declared.Steps.{Steps}
 
 -- The most spans of an outline: of a loop, each record starts one.
 abbrev pub most_spans : ℕ
@@ -43,14 +39,14 @@ abbrev pub refused_text : Refusal → List ℕ
 refused_text r = refusal_text r.number r.place
 
 -- The text of what drawing a shape came to: the listing of the points that were drawn, or the refusal's.
-abbrev pub drawn_text : Shape → List ℤ → Drawn → List ℕ
-drawn_text s held (drawn.Done f) = outline_text s.basis s.depth (plan_of s).spans (take (2 * f.points) held)
-drawn_text s held (drawn.Refused r) = refused_text r
+abbrev pub drawn_text : Shape → List ℤ → Result Figures Refusal → List ℕ
+drawn_text s held (Ok f) = outline_text s.basis s.depth (plan_of s).spans (take (2 * f.points) held)
+drawn_text s held (Err r) = refused_text r
 
 -- The same of steps chosen by tolerance.
-abbrev pub cut_text : Shape → ℕ → List ℤ → Chosen → List ℕ
-cut_text s tolerance held (chosen.Done f) = chosen_text s.basis tolerance (plan_of s).spans f.cuts (take (2 * f.points) held)
-cut_text s tolerance held (chosen.Refused r) = refused_text r
+abbrev pub cut_text : Shape → ℕ → List ℤ → Result Steps Refusal → List ℕ
+cut_text s tolerance held (Ok f) = chosen_text s.basis tolerance (plan_of s).spans f.cuts (take (2 * f.points) held)
+cut_text s tolerance held (Err r) = refused_text r
 
 -- The text of a shape and its controls, with even steps, and with steps chosen by tolerance.
 unfoldable pub even_text : Shape → List ℤ → List ℕ
@@ -60,9 +56,9 @@ unfoldable pub by_tolerance : ℕ → ℕ → Shape → List ℤ → List ℕ
 by_tolerance tolerance most s held = let o = chooses s tolerance most held (points finest) in cut_text s tolerance o.held o.answer
 
 -- The text of what reading a file came to, where `text` makes a shape's: its shape's and controls', or the refusal's.
-abbrev pub read_text : (Shape → List ℤ → List ℕ) → List ℤ → Reading → List ℕ
-read_text text held (read.Read s) = text s held
-read_text text held (read.Refused r) = refused_text r
+abbrev pub read_text : (Shape → List ℤ → List ℕ) → List ℤ → Result Shape Refusal → List ℕ
+read_text text held (Ok s) = text s held
+read_text text held (Err r) = refused_text r
 
 -- The text of a file.
 unfoldable pub text_by : (Shape → List ℤ → List ℕ) → List ℕ → List ℕ

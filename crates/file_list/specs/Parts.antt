@@ -1,23 +1,19 @@
 -- The listing of a record file in parts, as outline-list writes it (document 02, request 10): the first line, and then the lines of one span after another. So no more than one span's points
 -- and text is ever held. The point where two spans meet stands with the later one, and the last point with the last. A refusal is the only part. Definitions only.
-use Rattle.std.specs.Prelude.{cond, List, [], ◌++◌, ℕ, zero, suc, ◌+◌, ◌*◌, ◌^◌, ltb, eqb, ℤ, pos, replicate, take, drop}
+use Rattle.std.specs.Prelude.{cond, List, [], ◌++◌, ℕ, zero, suc, ◌+◌, ◌*◌, ◌^◌, ltb, eqb, ℤ, pos, replicate, take, drop, Err, Ok, Result}
 use Rattle.curve.specs.declared.Basis.{Basis}
 use Rattle.curve.specs.Span.{first_record, record_at}
 use Rattle.curve.specs.Ways.{deepest}
 use Rattle.shape.specs.declared.Shape.{Shape}
 use Rattle.shape.specs.declared.Plan.{Plan}
-use Rattle.shape.specs.declared.Judged.{Judged}
-use Rattle.shape.specs.declared.Judged.TheVariants.{Sound, Unsound}
 use Rattle.shape.specs.Shape.{b_spline, loop, least_records}
 use Rattle.shape.specs.Refusals.{judge_shape}
-use Rattle.outline.specs.declared.Drawn.{Drawn}
-use Rattle.outline.specs.declared.Drawn.TheVariants.{Done, Refused}
 use Rattle.outline.specs.Outline as outline
 use Rattle.outline.specs.Outline.{draws}
-use Rattle.record_file.specs.declared.Reading.{Reading}
-use Rattle.record_file.specs.declared.Reading.TheVariants as read
 use Rattle.listing.specs.Listing.{heading_text, point_lines}
 use Rattle.file_list.specs.Files.{most_line, refused_text}
+use Rattle.outline.specs.declared.Figures.{Figures}
+use Rattle.shape.specs.declared.Refusal.{Refusal}
 
 -- The number of the basis that a span has by itself: a loop's span is a B-spline's (document 02, request 8), and every other basis has its own.
 abbrev pub alone_basis : ℕ → ℕ
@@ -38,9 +34,9 @@ abbrev pub own_points : Plan → ℕ → ℕ
 own_points p i = cond (eqb (i + 1) p.spans) (2 ^ p.depth + 1) (2 ^ p.depth)
 
 -- The lines of those among its points that were drawn, numbered as in the outline.
-abbrev pub span_lines : Plan → ℕ → List ℤ → Drawn → List ℕ
-span_lines p i held (Done f) = point_lines (i * 2 ^ p.depth) (take (2 * own_points p i) held)
-span_lines p i held (Refused r) = []
+abbrev pub span_lines : Plan → ℕ → List ℤ → Result Figures Refusal → List ℕ
+span_lines p i held (Ok f) = point_lines (i * 2 ^ p.depth) (take (2 * own_points p i) held)
+span_lines p i held (Err r) = []
 
 -- The text of span i, whose four records come first in a list: they are drawn by themselves.
 unfoldable pub records_text : Shape → Plan → List ℤ → ℕ → List ℕ
@@ -69,22 +65,22 @@ only_part text zero = text
 only_part text (suc i) = []
 
 -- The parts of a shape that was judged, and how many there are.
-abbrev pub shape_part : Shape → List ℤ → Judged → ℕ → List ℕ
-shape_part s held (Sound p) i = outline_part s p held i
-shape_part s held (Unsound r) i = only_part (refused_text r) i
+abbrev pub shape_part : Shape → List ℤ → Result Plan Refusal → ℕ → List ℕ
+shape_part s held (Ok p) i = outline_part s p held i
+shape_part s held (Err r) i = only_part (refused_text r) i
 
-abbrev pub shape_parts : Judged → ℕ
-shape_parts (Sound p) = p.spans + 1
-shape_parts (Unsound r) = 1
+abbrev pub shape_parts : Result Plan Refusal → ℕ
+shape_parts (Ok p) = p.spans + 1
+shape_parts (Err r) = 1
 
 -- The parts of what reading a file came to, and how many there are.
-abbrev pub part_text : Reading → List ℤ → ℕ → List ℕ
-part_text (read.Read s) held i = shape_part s held (judge_shape s) i
-part_text (read.Refused r) held i = only_part (refused_text r) i
+abbrev pub part_text : Result Shape Refusal → List ℤ → ℕ → List ℕ
+part_text (Ok s) held i = shape_part s held (judge_shape s) i
+part_text (Err r) held i = only_part (refused_text r) i
 
-abbrev pub parts_of : Reading → ℕ
-parts_of (read.Read s) = shape_parts (judge_shape s)
-parts_of (read.Refused r) = 1
+abbrev pub parts_of : Result Shape Refusal → ℕ
+parts_of (Ok s) = shape_parts (judge_shape s)
+parts_of (Err r) = 1
 
 -- n parts from part i on, one after another.
 unfoldable pub joined : (ℕ → List ℕ) → ℕ → ℕ → List ℕ

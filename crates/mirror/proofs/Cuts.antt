@@ -1,4 +1,5 @@
 -- An outline by tolerance of mirrored controls is the mirrored one, refusals too: second differences keep their sizes, so the trees have the same cuts, and each start is turned as its controls are.
+use Rattle.std.specs.Prelude.{Err, Ok}
 use mathlib.Core.Path.{◌≡◌, refl, sym, ap, ◌∙◌, subst}
 use mathlib.Core.Bool.{Bool, true, false, cond, ◌&&◌}
 use mathlib.Core.List.{List, [], ◌∷◌, ◌++◌, append_assoc}
@@ -25,13 +26,12 @@ use Rattle.shape.specs.declared.Shape.{Shape}
 use Rattle.shape.specs.declared.Plan.{Plan}
 use Rattle.shape.specs.Refusals.{judge, shape_rows, point_rows, plan_of}
 use Rattle.spans.specs.Numbers.{nought, noughts}
-use Rattle.pieces.specs.declared.Walked.TheVariants.{TooMany}
 use Rattle.pieces.specs.Tree.{finest, Piece, piece, left_piece, right_piece, is_flat, Tree, Flat, Rough, Cut, tree, cuts, all_cuts}
 use Rattle.pieces.specs.Walk.{and_then, walk, walk_all}
 use Rattle.pieces.specs.Values.{Value, both, starts, all_starts, end, numbers, exact_of}
-use Rattle.tolerance.specs.declared.Chosen.TheVariants.{Done, Refused}
 use Rattle.tolerance.specs.Reading.{controls_of, tree_of, walk_of, cuts_of, values_of, points_for, steps_of, tolerance_row, walk_rows, choose_rows, chosen, accepts, chooses}
 use Rattle.mirror.specs.Mirror.{Axis, X, Y, mirror_x, mirror_y, mirrored, mirror, mirror_chosen}
+use Rattle.pieces.specs.declared.Uncut.TheVariants.{TooMany}
 use Rattle.mirror.proofs.Lists.{length-mirrored, mirrored-sets, coordinate-mirror, control_rows-mirror, judge-mirror}
 use Rattle.mirror.proofs.Points.{from_zero, from_zeroᵉ, negated, nought-minus}
 
@@ -145,7 +145,7 @@ module _ (axis : Axis) (u v : Four → Four) (tx : Turning u (mirror_x neg_ℤ a
   unfolding walk over_tree
   walk-over most made (Flat p) = refl
   walk-over most made (Rough p) = refl
-  walk-over most made (Cut l r) = λ j. cond (leb most made) TooMany (and_then (walk-over most (made + 1) l j) (λ n. walk-over most n r j))
+  walk-over most made (Cut l r) = λ j. cond (leb most made) (Err TooMany) (and_then (walk-over most (made + 1) l j) (λ n. walk-over most n r j))
 
   cuts-over : (t : Tree) → cuts (over_tree t) ≡ cuts t
   unfolding cuts over_tree
@@ -282,6 +282,6 @@ unfolding chooses
 mirror-chooses axis s tolerance most controls lent =
     let p = plan_of s in
     let there = accepts p tolerance (mirror axis controls) (mirror axis lent) in
-    ap (λ rows. judge rows (refuses Refused (mirror axis lent)) there) (rows-mirror axis s tolerance most controls lent)
-    ∙ judge-mirror (mirror_chosen axis) (choose_rows s tolerance most controls lent) (refuses Refused lent) (accepts p tolerance controls lent) there
-    (λ _ j. outcome (Done (steps-mirror axis p tolerance controls j)) (chosen-mirror axis p tolerance controls lent j))
+    ap (λ rows. judge rows (refuses Err (mirror axis lent)) there) (rows-mirror axis s tolerance most controls lent)
+    ∙ judge-mirror (mirror_chosen axis) (choose_rows s tolerance most controls lent) (refuses Err lent) (accepts p tolerance controls lent) there
+    (λ _ j. outcome (Ok (steps-mirror axis p tolerance controls j)) (chosen-mirror axis p tolerance controls lent j))

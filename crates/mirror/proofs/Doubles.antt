@@ -1,5 +1,6 @@
 -- Mirrored doubles: a drawing number with its sign turned means the opposite micrometres, and an exact fraction negated has the opposite double. The sign goes through
 -- the rounding of doubles untouched, and zero stays +0.
+use Rattle.std.specs.Prelude.{Err, Ok}
 use mathlib.Core.Path.{◌≡◌, refl, sym, ap, ◌∙◌}
 use mathlib.Core.Bool.{Bool, true, false, not, cond}
 use Prim.Native.Nat.{ℕ, zero, suc, ◌+◌, ◌*◌, ◌-◌, ◌/◌, ◌%◌, ◌^◌, ◌<◌, compare}
@@ -17,9 +18,9 @@ use Rattle.whole.proofs.Nearest.{nearest-minus}
 use Rattle.curve.specs.Limits.{limit}
 use Rattle.doubles.specs.Exact.{signed, dyadic, Value}
 use Rattle.doubles.specs.Number.{thousand, within, measure}
-use Rattle.doubles.specs.declared.Measure.TheVariants.{Outside, Micrometres}
 use Rattle.doubles.proofs.Rounding.{size-signed}
 use Rattle.mirror.specs.Steps.{minus_measure, opposite}
+use Rattle.doubles.specs.declared.Unmeasured.TheVariants.{Outside}
 
 -- ---- a drawing number
 
@@ -28,14 +29,14 @@ minus-signed : (s : Bool) (n : ℕ) → signed (not s) n ≡ neg_ℤ (signed s n
 minus-signed false n = refl
 minus-signed true n = sym (neg_ℤ-neg_ℤ (pos n))
 
-minus-choice : (b : Bool) (n : ℤ) → cond b (Micrometres (neg_ℤ n)) Outside ≡ minus_measure (cond b (Micrometres n) Outside)
+minus-choice : (b : Bool) (n : ℤ) → cond b (Ok (neg_ℤ n)) (Err Outside) ≡ minus_measure (cond b (Ok n) (Err Outside))
 minus-choice true n = refl
 minus-choice false n = refl
 
 -- limits are the same either way
 minus-within : (n : ℤ) → within (neg_ℤ n) ≡ minus_measure (within n)
 unfolding within
-minus-within n = ap (λ m. cond (leb m limit) (Micrometres (neg_ℤ n)) Outside) (nat_abs-neg n) ∙ minus-choice (leb (nat_abs n) limit) n
+minus-within n = ap (λ m. cond (leb m limit) (Ok (neg_ℤ n)) (Err Outside)) (nat_abs-neg n) ∙ minus-choice (leb (nat_abs n) limit) n
 
 pub minus-measure : (x : Float) → measure (neg x) ≡ minus_measure (measure x)
 unfolding measure neg

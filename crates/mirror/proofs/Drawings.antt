@@ -1,5 +1,6 @@
 -- A drawing of mirrored controls is the mirrored drawing, refusals too; and since what was lent is not looked at, the same points come out in any other list as long. A view of mirrored
 -- points is the mirrored view.
+use Rattle.std.specs.Prelude.{Err, Ok, Result}
 use mathlib.Core.Path.{◌≡◌, refl, sym, ap, ◌∙◌, subst}
 use mathlib.Core.Bool.{Bool, true, false, cond}
 use mathlib.Core.Logic.{⊎_elim}
@@ -16,8 +17,6 @@ use Rattle.shape.specs.Refusals.{First, NoRow, judge, shape_rows, point_rows, pl
 use Rattle.shape.proofs.Refusals.{judge-first, judge-none, verdict}
 use Rattle.spans.specs.declared.run.Way.{Way}
 use Rattle.spans.specs.Numbers.{number}
-use Rattle.outline.specs.declared.Drawn.{Drawn}
-use Rattle.outline.specs.declared.Drawn.TheVariants.{Done, Refused}
 use Rattle.outline.specs.declared.Figures.{Figures}
 use Rattle.outline.specs.Outline.{points, draw_rows, drawn, figures_of, accepts, draws}
 use Rattle.outline.specs.View.{empty_part, out_of_sight, part_of, viewed}
@@ -50,21 +49,21 @@ module _ (axis : Axis) where
   mirror-draws s controls lent =
       let p = plan_of s in
       let there = accepts p (mirror axis controls) (mirror axis lent) in
-      ap (λ rows. judge rows (refuses Refused (mirror axis lent)) there) (draw_rows-mirror axis s controls lent)
-      ∙ judge-mirror (mirror_drawn axis) (draw_rows s controls lent) (refuses Refused lent) (accepts p controls lent) there
+      ap (λ rows. judge rows (refuses Err (mirror axis lent)) there) (draw_rows-mirror axis s controls lent)
+      ∙ judge-mirror (mirror_drawn axis) (draw_rows s controls lent) (refuses Err lent) (accepts p controls lent) there
       (λ _.
       let rule = mirrored-rule neg_ℤ axis lent (number p controls) (number p (mirror axis controls)) 0 (2 * points p) (number-mirror axis p controls) in
-      λ i. outcome (Done (figures-mirror p controls i)) (rule i))
+      λ i. outcome (Ok (figures-mirror p controls i)) (rule i))
 
   -- ---- in any other list as long
 
   pub mirror-points :
       (s : Shape) (controls lent : List ℤ) (fs : Figures) (held : List ℤ)
-      → draws s controls lent ≡ outcome (Done fs) held
+      → draws s controls lent ≡ outcome (Ok fs) held
       → (other : List ℤ)
       → length other ≡ length lent
       → (held' : List ℤ)
-      × (draws s (mirror axis controls) other ≡ outcome (Done fs) held')
+      × (draws s (mirror axis controls) other ≡ outcome (Ok fs) held')
       × ((q : ℕ) → q < 2 * fs.points → get_or held' q (pos 0) ≡ across neg_ℤ axis q (get_or held q (pos 0)))
   mirror-points s controls lent fs held answered other long =
       let p = plan_of s in
@@ -72,7 +71,7 @@ module _ (axis : Axis) where
       let there = none-drawn s (mirror axis controls) other (subst NoRow (sym (draw_rows-other axis s controls lent other long)) none) in
       let figures = done-figures s controls lent fs held answered in (
         drawn p (mirror axis controls) other,
-        there ∙ ap (λ f. outcome (Done f) (drawn p (mirror axis controls) other)) (figures-mirror p controls ∙ figures),
+        there ∙ ap (λ f. outcome (Ok f) (drawn p (mirror axis controls) other)) (figures-mirror p controls ∙ figures),
         λ q h.
             let h' : q < 2 * points p = subst (λ (f : Figures). q < 2 * f.points) (sym figures) h in
             held_number s (mirror axis controls) other (figures_of p (mirror axis controls)) (drawn p (mirror axis controls) other) there q h'
@@ -83,7 +82,7 @@ module _ (axis : Axis) where
   -- ---- by the contracts of the code, whichever way each drawing goes
 
   pub code-mirror-draws :
-      (w v : Way) (s : Shape) (controls lent : List ℤ) (o u : Outcome Drawn (List ℤ))
+      (w v : Way) (s : Shape) (controls lent : List ℤ) (o u : Outcome (Result Figures Refusal) (List ℤ))
       → MeetsDrawing w (s, controls, lent) o
       → MeetsDrawing v (s, mirror axis controls, mirror axis lent) u
       → u ≡ mirror_drawn axis o

@@ -1,4 +1,5 @@
 -- An edit of a mirrored outline, with the new record mirrored, leaves the mirrored controls and points and answers the same, refusals too.
+use Rattle.std.specs.Prelude.{Err, Ok}
 use mathlib.Core.Path.{◌≡◌, refl, sym, ap, ◌∙◌}
 use mathlib.Core.Bool.{Bool, true, false, cond, ◌||◌}
 use mathlib.Core.Logic.{⊎_elim}
@@ -30,7 +31,6 @@ use Rattle.asked.specs.declared.Edit.TheVariants.{Move, Insert, Remove}
 use Rattle.asked.specs.Edits.{count_after, new_outside, choose, control_at, asked, run_of, in_run, carried_from, is_fresh, point_at, exact_fresh}
 use Rattle.asked.proofs.Runs.{inserted-own}
 use Rattle.asked.proofs.Fresh.{stale-own}
-use Rattle.edit.specs.declared.Edited.TheVariants.{Done, Refused}
 use Rattle.edit.specs.Reading.{shape_after, ask_rows, change, controls_after, accepts, edits}
 use Rattle.edit.proofs.Exactly.{call_rows}
 use Rattle.sequences.proofs.Redrawn.{good-then}
@@ -157,10 +157,10 @@ module _ (axis : Axis) where
       let new = controls_after e s j controls in
       ap (λ r. accepts (mirror_edit axis e) s (plan_of r) j (mirror axis controls) (mirror axis lent)) (same_shape e s)
       ∙ (λ i.
-      outcome (Done (record { shape = same_shape e s i; first = (same-run e p j i).first; fresh = (same-run e p j i).count; exact = exact_fresh (same-run e p j i) p (controls-mirror e s j controls i) }))
+      outcome (Ok (record { shape = same_shape e s i; first = (same-run e p j i).first; fresh = (same-run e p j i).count; exact = exact_fresh (same-run e p j i) p (controls-mirror e s j controls i) }))
       (controls-mirror e s j controls i, filled (point_at (mirror_edit axis e) p j (controls-mirror e s j controls i) (mirror axis lent)) 0 (2 * points p) (mirror axis lent)))
       ∙ (let rule = mirrored-rule neg_ℤ axis lent (point_at e p j new lent) (point_at (mirror_edit axis e) p j (mirror axis new) (mirror axis lent)) 0 (2 * points p) (point-mirror e p j new lent some round) in
-      λ i. outcome (Done (change e s p j (fresh-mirror (run_of e p j) p new i))) (mirror axis new, rule i))
+      λ i. outcome (Ok (change e s p j (fresh-mirror (run_of e p j) p new i))) (mirror axis new, rule i))
 
   pub mirror-edits :
       (e : Edit) (s : Shape) (j : ℕ) (controls lent : List ℤ)
@@ -168,6 +168,6 @@ module _ (axis : Axis) where
   unfolding edits
   mirror-edits e s j controls lent =
       let there = accepts (mirror_edit axis e) s (plan_of (shape_after (mirror_edit axis e) s)) j (mirror axis controls) (mirror axis lent) in
-      ap (λ rows. judge rows (refuses Refused (mirror axis controls, mirror axis lent)) there) (edit_rows-mirror e s j controls lent)
-      ∙ judge-mirror (mirror_edited axis) (call_rows e s j controls lent) (refuses Refused (controls, lent)) (accepts e s (plan_of (shape_after e s)) j controls lent) there
+      ap (λ rows. judge rows (refuses Err (mirror axis controls, mirror axis lent)) there) (edit_rows-mirror e s j controls lent)
+      ∙ judge-mirror (mirror_edited axis) (call_rows e s j controls lent) (refuses Err (controls, lent)) (accepts e s (plan_of (shape_after e s)) j controls lent) there
       (λ none. let good = good-then e s j controls lent none in accepts-mirror e s j controls lent good.spans-least good.round)

@@ -1,5 +1,6 @@
 -- A preview of mirrored controls is the mirrored preview, refusals too, with zero as +0 in both; and since what was lent is not looked at, its points are the mirrored ones in any
 -- other list as long.
+use Rattle.std.specs.Prelude.{Err, Ok}
 use mathlib.Core.Path.{◌≡◌, refl, sym, ap, ◌∙◌, subst}
 use mathlib.Core.List.{List, ◌∷◌, ◌++◌}
 use Prim.Native.Nat.{ℕ, ◌+◌, ◌*◌, ◌-◌, ◌/◌, ◌%◌, ◌^◌, min, ◌<◌}
@@ -21,7 +22,6 @@ use Rattle.shape.specs.declared.Shape.{Shape}
 use Rattle.shape.specs.Shape.{points_of}
 use Rattle.shape.specs.Refusals.{NoRow, judge, shape_rows, point_rows, plan_of}
 use Rattle.shape.proofs.Refusals.{row-fails}
-use Rattle.preview.specs.declared.Previewed.TheVariants.{Drawn, Refused}
 use Rattle.preview.specs.Preview.{sum, value, bezier_row, preview_rows, accepts, previewing}
 use Rattle.preview.proofs.Curve.{drawn-exact}
 use Rattle.preview.proofs.Exactly.{drawn-none, none-drawn}
@@ -95,7 +95,7 @@ module _ (axis : Axis) (s : Shape) (controls : List ℤ) (lent : List Float) whe
       let m = (plan_of s).spans in
       let n = points_of k m in
       let same = tab-same (value k m (mirror axis controls)) (λ q. across opposite axis q (value k m controls q)) 0 0 (2 * n) (λ q b. mirror-number s controls lent none axis (0 + q) (within q b)) in
-      ap (outcome (Drawn n)) (ap (sets (mirrored opposite axis lent) 0) same ∙ sym (mirrored-tab opposite axis lent (value k m controls) 0 (2 * n)))
+      ap (outcome (Ok n)) (ap (sets (mirrored opposite axis lent) 0) same ∙ sym (mirrored-tab opposite axis lent (value k m controls) 0 (2 * n)))
     where
       within : {n : ℕ} (q : ℕ) → q < n → 0 + q < n
       within q b = omega arith
@@ -104,20 +104,20 @@ module _ (axis : Axis) (s : Shape) (controls : List ℤ) (lent : List Float) whe
   pub mirror-previewing : previewing s (mirror axis controls) (mirrored opposite axis lent) ≡ mirror_previewed axis (previewing s controls lent)
   unfolding previewing
   mirror-previewing =
-      let refused = refuses Refused (mirrored opposite axis lent) in
+      let refused = refuses Err (mirrored opposite axis lent) in
       let accepted = accepts (plan_of s) (mirror axis controls) (mirrored opposite axis lent) in
       ap (λ (len : ℕ). judge (preview_rows s (mirror axis controls) len) refused accepted) (length-mirrored opposite axis lent)
       ∙ ap (λ r. judge r refused accepted) (mirror-rows axis s controls (length lent))
-      ∙ judge-mirror (mirror_previewed axis) (preview_rows s controls (length lent)) (refuses Refused lent) (accepts (plan_of s) controls lent) accepted mirror-accepts
+      ∙ judge-mirror (mirror_previewed axis) (preview_rows s controls (length lent)) (refuses Err lent) (accepts (plan_of s) controls lent) accepted mirror-accepts
 
   -- in any other list as long
   pub mirror-preview-points :
       (n : ℕ) (l : List Float)
-      → previewing s controls lent ≡ outcome (Drawn n) l
+      → previewing s controls lent ≡ outcome (Ok n) l
       → (other : List Float)
       → length other ≡ length lent
       → (l' : List Float)
-      × (previewing s (mirror axis controls) other ≡ outcome (Drawn n) l')
+      × (previewing s (mirror axis controls) other ≡ outcome (Ok n) l')
       × ((q : ℕ) → q < 2 * n → get_or l' q nan ≡ across opposite axis q (get_or l q nan))
   mirror-preview-points n l answered other long =
       let p = plan_of s in
@@ -129,7 +129,7 @@ module _ (axis : Axis) (s : Shape) (controls : List ℤ) (lent : List Float) whe
       let l' = (accepts p (mirror axis controls) other).held in
       let count : points ≡ n = same (λ j. (here j).answer) in (
         l',
-        none-drawn s (mirror axis controls) other none' ∙ ap (λ (m : ℕ). outcome (Drawn m) l') count,
+        none-drawn s (mirror axis controls) other none' ∙ ap (λ (m : ℕ). outcome (Ok m) l') count,
         λ q h.
             let b : q < 2 * points = omega arith in
             number-drawn s (mirror axis controls) other none' q b
@@ -137,5 +137,5 @@ module _ (axis : Axis) (s : Shape) (controls : List ℤ) (lent : List Float) whe
             ∙ ap (across opposite axis q) (sym (number-drawn s controls lent none q b) ∙ (λ j. get_or (here j).held q nan)),
       )
     where
-      same : {m n : ℕ} → Drawn m ≡ Drawn n → m ≡ n
+      same : {m n : ℕ} → Ok m ≡ Ok n → m ≡ n
       same e = cc

@@ -1,4 +1,5 @@
 -- Mirrored drawing steps: a step on a mirrored state and list comes to the mirror of what it came to, refused or not, and so does any sequence of steps.
+use Rattle.std.specs.Prelude.{Err, Ok, Result}
 use mathlib.Core.Path.{◌≡◌, refl, sym, ap, ◌∙◌}
 use mathlib.Core.Bool.{Bool, true, false, not, cond, ◌&&◌, ◌||◌}
 use mathlib.Core.List.{List, [], ◌∷◌, ◌++◌, map}
@@ -13,8 +14,6 @@ use Rattle.whole.specs.Outcome.{outcome, refuses}
 use Rattle.curve.specs.Limits.{limit}
 use Rattle.curve.specs.Numbers.{equal}
 use Rattle.doubles.specs.Number.{measure, paper}
-use Rattle.doubles.specs.declared.Measure.{Measure}
-use Rattle.doubles.specs.declared.Measure.TheVariants.{NotFinite, Outside, Micrometres}
 use Rattle.shape.specs.Shape.{most_records}
 use Rattle.shape.specs.Refusals.{row, judge}
 use Rattle.shape.proofs.Tests.{passes, true-is-not-false}
@@ -22,14 +21,15 @@ use Rattle.drawing.specs.declared.Control.{Control}
 use Rattle.drawing.specs.declared.State.{State}
 use Rattle.drawing.specs.declared.Step.{Step}
 use Rattle.drawing.specs.declared.Step.TheVariants.{Move, Line, Cubic, Close}
-use Rattle.drawing.specs.declared.Stepped.{Stepped}
-use Rattle.drawing.specs.declared.Stepped.TheVariants.{Next, Refused}
 use Rattle.drawing.specs.Drawing.{numbers, at, opens, same, line, added, last_of, start_after, closed_after, grown, next, flat}
 use Rattle.drawing.specs.Reading.{miscounted, strays, astray, out_of_turn, state_rows, number_row, number_rows, space_rows, rows, accepts, stepped, state_after}
 use Rattle.drawing.specs.Sequences.{Held, begin, after, drawn}
 use Rattle.drawing.proofs.Same.{is-equal, equal_is, is-unequal}
 use Rattle.mirror.specs.Mirror.{Axis, X, Y, mirror_x, mirror_y, across, mirrored, mirror}
 use Rattle.mirror.specs.Steps.{minus_measure, mirror_step, mirror_control, mirror_drawing, mirror_answer, mirror_stepped, mirror_held}
+use Rattle.doubles.specs.declared.Unmeasured.{Unmeasured}
+use Rattle.doubles.specs.declared.Unmeasured.TheVariants.{NotFinite, Outside}
+use Rattle.shape.specs.declared.Refusal.{Refusal}
 use Rattle.mirror.proofs.Lists.{across-cases, across-through, length-mirrored, mirrored-sets, across-beyond, judge-mirror}
 use Rattle.mirror.proofs.Doubles.{minus-measure}
 
@@ -90,9 +90,9 @@ mirror-space-rows : (axis : Axis) (n m : ℕ) (l : List ℤ) → space_rows n m 
 mirror-space-rows axis n m l = λ k. row (ltb most_records m) 6 0 ∷ row (ltb (length-mirrored neg_ℤ axis l k) (2 * max n m)) 7 0 ∷ []
 
 -- the state that the caller has then
-mirror-state-after : (axis : Axis) (s : State) (a : Stepped) → state_after (mirror_drawing axis s) (mirror_answer axis a) ≡ mirror_drawing axis (state_after s a)
-mirror-state-after axis s (Next t) = refl
-mirror-state-after axis s (Refused r) = refl
+mirror-state-after : (axis : Axis) (s : State) (a : Result State Refusal) → state_after (mirror_drawing axis s) (mirror_answer axis a) ≡ mirror_drawing axis (state_after s a)
+mirror-state-after axis s (Ok t) = refl
+mirror-state-after axis s (Err r) = refl
 
 -- before the first step there is nothing to negate
 mirror-begin : (axis : Axis) (l : List ℤ) → begin (mirror axis l) ≡ mirror_held axis (begin l)
@@ -101,10 +101,10 @@ mirror-begin Y l = refl
 
 -- ---- a number: its refusal stays, and its coordinate is negated
 
-minus-paper : (m : Measure) → paper (minus_measure m) ≡ ((paper m).0, neg_ℤ (paper m).1)
-minus-paper NotFinite = refl
-minus-paper Outside = refl
-minus-paper (Micrometres n) = refl
+minus-paper : (m : Result ℤ Unmeasured) → paper (minus_measure m) ≡ ((paper m).0, neg_ℤ (paper m).1)
+minus-paper (Err NotFinite) = refl
+minus-paper (Err Outside) = refl
+minus-paper (Ok n) = refl
 
 minus_number : (x : Float) → paper (measure (neg x)) ≡ ((paper (measure x)).0, neg_ℤ (paper (measure x)).1)
 minus_number x = ap paper (minus-measure x) ∙ minus-paper (measure x)
@@ -160,15 +160,15 @@ mirror-accepts : (axis : Axis) (s : State) (step : Step) (l : List ℤ) → acce
 mirror-accepts axis s step l =
     let records = ap flat (mirror-added axis s step) ∙ mirror-flat axis (added s step) in
     let written = ap (sets (mirror axis l) (2 * s.count)) records ∙ sym (mirrored-sets neg_ℤ axis l s.count (flat (added s step))) in
-    λ k. outcome (Next (mirror-next axis s step k)) (written k)
+    λ k. outcome (Ok (mirror-next axis s step k)) (written k)
 
 -- for every state, step and list, refusals too
 pub mirror-stepped : (axis : Axis) (s : State) (step : Step) (l : List ℤ) → stepped (mirror_drawing axis s) (mirror_step axis step) (mirror axis l) ≡ mirror_stepped axis (stepped s step l)
 unfolding stepped
 mirror-stepped axis s step l =
     let accepted = accepts (mirror_drawing axis s) (mirror_step axis step) (mirror axis l) in
-    ap (λ r. judge r (refuses Refused (mirror axis l)) accepted) (mirror-rows axis s step l)
-    ∙ judge-mirror (mirror_stepped axis) (rows s step l) (refuses Refused l) (accepts s step l) accepted (λ none. mirror-accepts axis s step l)
+    ap (λ r. judge r (refuses Err (mirror axis l)) accepted) (mirror-rows axis s step l)
+    ∙ judge-mirror (mirror_stepped axis) (rows s step l) (refuses Err l) (accepts s step l) accepted (λ none. mirror-accepts axis s step l)
 
 -- ---- steps one after another
 

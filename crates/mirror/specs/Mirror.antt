@@ -1,13 +1,14 @@
 -- What is mirrored (document 02, request 1: "negating all controls on an axis"): in lists of numbers, x then y, those on one axis are negated and those on the other stay. Shapes,
 -- places, counts and refusals stay too. Definitions only.
-use Rattle.std.specs.Prelude.{cond, List, [], ◌∷◌, ℕ, ◌%◌, eqb, ℤ, neg_ℤ}
+use Rattle.std.specs.Prelude.{cond, List, [], ◌∷◌, ℕ, ◌%◌, eqb, ℤ, neg_ℤ, Result}
 use Rattle.whole.specs.Outcome.{Outcome, outcome}
-use Rattle.outline.specs.declared.Drawn.{Drawn}
-use Rattle.tolerance.specs.declared.Chosen.{Chosen}
 use Rattle.asked.specs.declared.Edit.{Edit}
 use Rattle.asked.specs.declared.Edit.TheVariants.{Move, Insert, Remove}
-use Rattle.edit.specs.declared.Edited.{Edited}
 use Rattle.sequences.specs.Played.{State, Call, state}
+use Rattle.edit.specs.declared.Change.{Change}
+use Rattle.outline.specs.declared.Figures.{Figures}
+use Rattle.shape.specs.declared.Refusal.{Refusal}
+use Rattle.tolerance.specs.declared.Steps.{Steps}
 
 -- The axis whose numbers are negated.
 pub data Axis : Type 0 where
@@ -40,12 +41,12 @@ mirror axis l = mirrored neg_ℤ axis l
 
 -- ---- a drawing call: what it leaves in the lent points
 
-abbrev pub mirror_drawn : Axis → Outcome Drawn (List ℤ) → Outcome Drawn (List ℤ)
+abbrev pub mirror_drawn : Axis → Outcome (Result Figures Refusal) (List ℤ) → Outcome (Result Figures Refusal) (List ℤ)
 mirror_drawn axis o = outcome o.answer (mirror axis o.held)
 
 -- ---- the same by tolerance
 
-abbrev pub mirror_chosen : Axis → Outcome Chosen (List ℤ) → Outcome Chosen (List ℤ)
+abbrev pub mirror_chosen : Axis → Outcome (Result Steps Refusal) (List ℤ) → Outcome (Result Steps Refusal) (List ℤ)
 mirror_chosen axis o = outcome o.answer (mirror axis o.held)
 
 -- ---- edits: the new record, and what they leave in both lent lists
@@ -55,7 +56,7 @@ mirror_edit axis (Move x y) = Move (mirror_x neg_ℤ axis x) (mirror_y neg_ℤ a
 mirror_edit axis (Insert x y) = Insert (mirror_x neg_ℤ axis x) (mirror_y neg_ℤ axis y)
 mirror_edit axis Remove = Remove
 
-abbrev pub mirror_edited : Axis → Outcome Edited (List ℤ × List ℤ) → Outcome Edited (List ℤ × List ℤ)
+abbrev pub mirror_edited : Axis → Outcome (Result Change Refusal) (List ℤ × List ℤ) → Outcome (Result Change Refusal) (List ℤ × List ℤ)
 mirror_edited axis o = outcome o.answer (mirror axis o.held.0, mirror axis o.held.1)
 
 -- ---- edits one after another: what a caller holds, and the calls

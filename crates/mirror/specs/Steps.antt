@@ -1,26 +1,24 @@
 -- What is mirrored of a drawing's steps and of the preview, whose numbers are doubles (document 02, request 1; document 01, "Preview and drawing": zero is positive zero). Definitions only.
-use Rattle.std.specs.Prelude.{not, cond, List, eqb, Float, ℤ, neg_ℤ}
+use Rattle.std.specs.Prelude.{not, cond, List, eqb, Float, ℤ, neg_ℤ, Err, Ok, Result, ℕ}
 use Rattle.std.specs.Float.{nan, inf, fin}
 use Rattle.std.specs.Float.Ieee.{neg}
 use Rattle.whole.specs.Outcome.{Outcome, outcome}
-use Rattle.doubles.specs.declared.Measure.{Measure}
-use Rattle.doubles.specs.declared.Measure.TheVariants.{NotFinite, Outside, Micrometres}
-use Rattle.preview.specs.declared.Previewed.{Previewed}
 use Rattle.drawing.specs.declared.Control.{Control}
 use Rattle.drawing.specs.declared.State.{State}
 use Rattle.drawing.specs.declared.Step.{Step}
 use Rattle.drawing.specs.declared.Step.TheVariants.{Move, Line, Cubic, Close}
-use Rattle.drawing.specs.declared.Stepped.{Stepped}
-use Rattle.drawing.specs.declared.Stepped.TheVariants.{Next, Refused}
 use Rattle.drawing.specs.Sequences.{Held}
 use Rattle.mirror.specs.Mirror.{Axis, mirror_x, mirror_y, mirrored, mirror}
+use Rattle.doubles.specs.declared.Unmeasured.{Unmeasured}
+use Rattle.doubles.specs.declared.Unmeasured.TheVariants.{NotFinite, Outside}
+use Rattle.shape.specs.declared.Refusal.{Refusal}
 
 -- ---- a drawing number: the double with its sign turned, and what it means
 
-abbrev pub minus_measure : Measure → Measure
-minus_measure NotFinite = NotFinite
-minus_measure Outside = Outside
-minus_measure (Micrometres n) = Micrometres (neg_ℤ n)
+abbrev pub minus_measure : Result ℤ Unmeasured → Result ℤ Unmeasured
+minus_measure (Err NotFinite) = Err NotFinite
+minus_measure (Err Outside) = Err Outside
+minus_measure (Ok n) = Ok (neg_ℤ n)
 
 -- ---- drawing steps
 
@@ -39,11 +37,11 @@ abbrev pub mirror_drawing : Axis → State → State
 mirror_drawing axis s = record { count = s.count; start = mirror_control axis s.start; current = mirror_control axis s.current; closed = s.closed }
 
 -- What a step answers, and what it leaves in the lent controls.
-abbrev pub mirror_answer : Axis → Stepped → Stepped
-mirror_answer axis (Next s) = Next (mirror_drawing axis s)
-mirror_answer axis (Refused r) = Refused r
+abbrev pub mirror_answer : Axis → Result State Refusal → Result State Refusal
+mirror_answer axis (Ok s) = Ok (mirror_drawing axis s)
+mirror_answer axis (Err r) = Err r
 
-abbrev pub mirror_stepped : Axis → Outcome Stepped (List ℤ) → Outcome Stepped (List ℤ)
+abbrev pub mirror_stepped : Axis → Outcome (Result State Refusal) (List ℤ) → Outcome (Result State Refusal) (List ℤ)
 mirror_stepped axis o = outcome (mirror_answer axis o.answer) (mirror axis o.held)
 
 -- What a caller holds between steps.
@@ -58,5 +56,5 @@ opposite nan = nan
 opposite (inf s) = inf (not s)
 opposite (fin s m e) = cond (eqb m 0) (fin s m e) (fin (not s) m e)
 
-abbrev pub mirror_previewed : Axis → Outcome Previewed (List Float) → Outcome Previewed (List Float)
+abbrev pub mirror_previewed : Axis → Outcome (Result ℕ Refusal) (List Float) → Outcome (Result ℕ Refusal) (List Float)
 mirror_previewed axis o = outcome o.answer (mirrored opposite axis o.held)

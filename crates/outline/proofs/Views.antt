@@ -1,4 +1,5 @@
 -- Which part a view is, by the checks that were made; that it is empty in the paper's cases and no others; and that after a drawing it is its span's points.
+use Rattle.std.specs.Prelude.{Err, Ok}
 use mathlib.Core.Path.{◌≡◌, sym, ap, ◌∙◌}
 use mathlib.Core.Bool.{cond, ◌||◌}
 use mathlib.Core.List.{List, []}
@@ -18,14 +19,12 @@ use Rattle.curve.proofs.Tab.{length-tab, get_or-tab}
 use Rattle.shape.specs.declared.Shape.{Shape}
 use Rattle.shape.specs.declared.Plan.{Plan}
 use Rattle.shape.specs.declared.Refusal.{Refusal}
-use Rattle.shape.specs.declared.Judged.TheVariants.{Sound, Unsound}
 use Rattle.shape.specs.Refusals.{First, judge, shape_rows, judge_shape, plan_of}
 use Rattle.shape.specs.Shape.{points_of}
 use Rattle.shape.proofs.Refusals.{verdict, sound, unsound, sound-plan, first-unsound, none-sound}
 use Rattle.shape.proofs.Tests.{either}
 use Rattle.spans.specs.Numbers.{per_span}
 use Rattle.spans.proofs.Numbers.{span-point}
-use Rattle.outline.specs.declared.Drawn.TheVariants.{Done}
 use Rattle.outline.specs.declared.Figures.{Figures}
 use Rattle.outline.specs.Outline.{draws}
 use Rattle.outline.specs.View.{Part, empty_part, out_of_sight, part_of, viewed, Unseen}
@@ -35,17 +34,17 @@ use Rattle.outline.proofs.Held.{held-sound, held-room, held_number}
 abbrev pub span_part : Plan → ℕ → Part
 span_part p t = record { start = t * per_span p.depth; size = per_span p.depth + 2 }
 
-pub part-unsound : (s : Shape) (r : Refusal) (t : ℕ) (l : List ℤ) → judge_shape s ≡ Unsound r → part_of s t l ≡ empty_part
+pub part-unsound : (s : Shape) (r : Refusal) (t : ℕ) (l : List ℤ) → judge_shape s ≡ Err r → part_of s t l ≡ empty_part
 unfolding part_of judge
 part-unsound s r t l e = unsound s r e [] (λ q. empty_part) (cond (out_of_sight (plan_of s) t l) empty_part (span_part (plan_of s) t))
 
-part_sound : (s : Shape) (p : Plan) (t : ℕ) (l : List ℤ) → judge_shape s ≡ Sound p → part_of s t l ≡ cond (out_of_sight p t l) empty_part (span_part p t)
+part_sound : (s : Shape) (p : Plan) (t : ℕ) (l : List ℤ) → judge_shape s ≡ Ok p → part_of s t l ≡ cond (out_of_sight p t l) empty_part (span_part p t)
 unfolding part_of judge
 part_sound s p t l e =
     sound s p e [] (λ q. empty_part) (cond (out_of_sight (plan_of s) t l) empty_part (span_part (plan_of s) t))
     ∙ ap (λ q. cond (out_of_sight q t l) empty_part (span_part q t)) (sym (sound-plan s p e))
 
-module _ (s : Shape) (p : Plan) (t : ℕ) (l : List ℤ) (e : judge_shape s ≡ Sound p) where
+module _ (s : Shape) (p : Plan) (t : ℕ) (l : List ℤ) (e : judge_shape s ≡ Ok p) where
   pub part-past : p.spans ≤ t → part_of s t l ≡ empty_part
   part-past h = part_sound s p t l e ∙ ap (λ b. cond (b || ltb (length l) (2 * points_of p.depth p.spans)) empty_part (span_part p t)) (le-leb p.spans t h)
 
@@ -65,7 +64,7 @@ unfolding points_of
 span-within k m t h = omega (arith, suc-mul t (per_span k), mul-le-mul_right {m = suc t} {n = m} (per_span k) h, mul_left_comm m 2 (2 ^ k))
 
 -- No good view is empty: it has 2^k + 1 points, two numbers each.
-pub good-view : (s : Shape) (p : Plan) (t : ℕ) (l : List ℤ) → judge_shape s ≡ Sound p → t < p.spans → 2 * points_of p.depth p.spans ≤ length l
+pub good-view : (s : Shape) (p : Plan) (t : ℕ) (l : List ℤ) → judge_shape s ≡ Ok p → t < p.spans → 2 * points_of p.depth p.spans ≤ length l
     → length (viewed (part_of s t l) l) ≡ 2 * (2 ^ p.depth + 1)
 unfolding viewed
 good-view s p t l e h long =
@@ -117,7 +116,7 @@ empty-unseen s t l empty =
 -- ---- after a drawing
 
 -- the view of a span is the span's own 2^k + 1 points, x then y
-pub drawn-view : (s : Shape) (controls lent : List ℤ) (fs : Figures) (held : List ℤ) → draws s controls lent ≡ outcome (Done fs) held → (t : ℕ) → t < (plan_of s).spans
+pub drawn-view : (s : Shape) (controls lent : List ℤ) (fs : Figures) (held : List ℤ) → draws s controls lent ≡ outcome (Ok fs) held → (t : ℕ) → t < (plan_of s).spans
     → viewed (part_of s t held) held ≡ tab (λ (j : ℕ). point (plan_of s).basis (plan_of s).depth (records (plan_of s).basis t (coordinate controls (j % 2))) (j / 2)) 0 (2 * (2 ^ (plan_of s).depth + 1))
 unfolding viewed
 drawn-view s controls lent fs held answered t there =

@@ -1,4 +1,5 @@
 -- Every point of records inside the limits lies within the reach of its basis, 5,000,000 or 6,000,000 either way, so every number of an outline that was drawn does.
+use Rattle.std.specs.Prelude.{Ok}
 use mathlib.Core.Path.{◌≡◌, sym, ap, ◌∙◌, subst}
 use mathlib.Core.List.{List}
 use mathlib.Core.Logic.{⊎_elim}
@@ -20,7 +21,6 @@ use Rattle.shape.specs.Shape.{points_of}
 use Rattle.shape.proofs.Refusals.{none-earlier, none-later, good-plan, good-records, none-facts, lent-inside}
 use Rattle.shape.proofs.Tests.{either}
 use Rattle.spans.specs.Numbers.{sum_of, number}
-use Rattle.outline.specs.declared.Drawn.TheVariants.{Done}
 use Rattle.outline.specs.declared.Figures.{Figures}
 use Rattle.outline.specs.Outline.{points, plan_rows, draws}
 use Rattle.outline.proofs.Exactly.{done_none, done-figures}
@@ -55,7 +55,7 @@ module _ (s : Shape) (p : Plan) (good : Good s p) (controls : List ℤ) (k len :
       (lent-inside s.count controls k len lent p.basis t (q % 2) (omega arith) (λ i few. good-records s p good t i exists few))
 
 -- After a drawing call that is done, each number of its points, as it stands in the lent list.
-pub drawn-within : (s : Shape) (controls lent : List ℤ) (fs : Figures) (held : List ℤ) → draws s controls lent ≡ outcome (Done fs) held → (q : ℕ) → q < 2 * fs.points → nat_abs (get_or held q (pos 0)) ≤ reach (plan_of s).basis
+pub drawn-within : (s : Shape) (controls lent : List ℤ) (fs : Figures) (held : List ℤ) → draws s controls lent ≡ outcome (Ok fs) held → (q : ℕ) → q < 2 * fs.points → nat_abs (get_or held q (pos 0)) ≤ reach (plan_of s).basis
 drawn-within s controls lent fs held answered q h =
     let p = plan_of s in
     let none = done_none s controls lent fs held answered in

@@ -1,11 +1,11 @@
 -- Document 01's "Sums to hold it to" for a drawing, P1 to P8, as one list. Each is one span of four records, on the x axis as the paper gives it; y is 0 throughout. The lent
 -- points have room for one point more than the outline, and hold -1.
-use Rattle.std.specs.Prelude.{List, [], ◌∷◌, ◌++◌, ℕ, ◌+◌, ◌*◌, ℤ, pos, length, replicate}
+use Rattle.std.specs.Prelude.{List, [], ◌∷◌, ◌++◌, ℕ, ◌+◌, ◌*◌, ℤ, pos, length, replicate, Ok, Result}
 use Rattle.whole.specs.Outcome.{Outcome, outcome}
 use Rattle.curve.specs.Numbers.{neg}
-use Rattle.outline.specs.declared.Drawn.{Drawn}
-use Rattle.outline.specs.declared.Drawn.TheVariants.{Done}
 use Rattle.outline.specs.Outline.{draws}
+use Rattle.outline.specs.declared.Figures.{Figures}
+use Rattle.shape.specs.declared.Refusal.{Refusal}
 
 -- The basis by its number, the depth, the parameter, the records' x, and the points' x that the paper gives, from t = 0 to t = 1. Where the paper gives the middle alone (P4, P6, P8), the
 -- span's two ends stand beside it. Last, how many coordinates are exact (document 02, request 9): every y, and each x that is whole before it is rounded.
@@ -23,11 +23,11 @@ on_x [] = []
 on_x (x ∷ l) = x ∷ pos 0 ∷ on_x l
 
 -- What the drawing call comes to, and what the paper gives: so many points, so many coordinates exact, these points, and past them what was there.
-abbrev pub given : Case → Outcome Drawn (List ℤ)
+abbrev pub given : Case → Outcome (Result Figures Refusal) (List ℤ)
 given c = draws (record { basis = c.basis; depth = c.depth; count = length c.records; parameter = c.parameter }) (on_x c.records) (replicate (2 * length c.points + 2) (neg 1))
 
-abbrev pub paper : Case → Outcome Drawn (List ℤ)
-paper c = outcome (Done (record { points = length c.points; exact = c.exact })) (on_x c.points ++ neg 1 ∷ neg 1 ∷ [])
+abbrev pub paper : Case → Outcome (Result Figures Refusal) (List ℤ)
+paper c = outcome (Ok (record { points = length c.points; exact = c.exact })) (on_x c.points ++ neg 1 ∷ neg 1 ∷ [])
 
 -- A half goes away from zero, above it and below (document 02, request 1, for document 01's P2): that coordinate is not exact.
 abbrev pub p1 : Case

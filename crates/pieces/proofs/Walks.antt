@@ -1,4 +1,5 @@
 -- The walk of a tree and of trees: what each kind of piece makes of it, and that it ends with the tree's cuts exactly where every piece is flat or cut and the cuts are within the caller's most.
+use Rattle.std.specs.Prelude.{Err, Ok, Result}
 use mathlib.Core.Path.{◌≡◌, refl, sym, ap, ◌∙◌, subst}
 use mathlib.Core.Bool.{cond}
 use mathlib.Core.List.{[], ◌∷◌}
@@ -10,36 +11,36 @@ use denote.Enum.Declared.{tag_of}
 use types.Run.{OneOf}
 use Rattle.curve.specs.Tab.{tab}
 use Rattle.shape.proofs.Tests.{either}
-use Rattle.pieces.specs.declared.Walked.{Walked}
-use Rattle.pieces.specs.declared.Walked.TheVariants.{Cuts, TooDeep, TooMany}
 use Rattle.pieces.specs.Tree.{Piece, Tree, Flat, Rough, Cut, cuts, all_cuts, Sound}
 use Rattle.pieces.specs.Walk.{and_then, walk, walk_all}
 use Rattle.pieces.specs.contracts.Walked as walked
+use Rattle.pieces.specs.declared.Uncut.{Uncut}
+use Rattle.pieces.specs.declared.Uncut.TheVariants.{TooDeep, TooMany}
 
 -- ---- what the code does at a piece
 
 -- a walk that has ended stays so
-pub ended : (w : Walked) (next : ℕ → Walked) → OneOf (1 ∷ 2 ∷ []) (tag_of walked.the_type w) → and_then w next ≡ w
-ended (Cuts n) next k = absurd (⊎_elim (λ e. omega (arith, e)) (λ e. omega (arith, e)) k)
-ended TooDeep next k = refl
-ended TooMany next k = refl
+pub ended : (w : Result ℕ Uncut) (next : ℕ → Result ℕ Uncut) → OneOf (1 ∷ 2 ∷ []) (tag_of walked.the_type w) → and_then w next ≡ w
+ended (Ok n) next k = absurd (⊎_elim (λ e. omega (arith, e)) (λ e. omega (arith, e)) k)
+ended (Err TooDeep) next k = refl
+ended (Err TooMany) next k = refl
 
 module _ (most made : ℕ) where
-  pub walk-flat : (p : Piece) (t : Tree) → t ≡ Flat p → Cuts made ≡ walk most made t
+  pub walk-flat : (p : Piece) (t : Tree) → t ≡ Flat p → Ok made ≡ walk most made t
   unfolding walk
   walk-flat p t e = sym (ap (walk most made) e)
 
-  pub walk-rough : (p : Piece) (t : Tree) → t ≡ Rough p → TooDeep ≡ walk most made t
+  pub walk-rough : (p : Piece) (t : Tree) → t ≡ Rough p → (Err TooDeep) ≡ walk most made t
   unfolding walk
   walk-rough p t e = sym (ap (walk most made) e)
 
-  pub walk-too-many : (l r t : Tree) → t ≡ Cut l r → most ≤ made → TooMany ≡ walk most made t
+  pub walk-too-many : (l r t : Tree) → t ≡ Cut l r → most ≤ made → (Err TooMany) ≡ walk most made t
   unfolding walk
-  walk-too-many l r t e h = sym (ap (walk most made) e ∙ ap (λ b. cond b TooMany (and_then (walk most (made + 1) l) (λ n. walk most n r))) (le-leb most made h))
+  walk-too-many l r t e h = sym (ap (walk most made) e ∙ ap (λ b. cond b (Err TooMany) (and_then (walk most (made + 1) l) (λ n. walk most n r))) (le-leb most made h))
 
   pub walk-cut : (l r t : Tree) → t ≡ Cut l r → made < most → walk most made t ≡ and_then (walk most (made + 1) l) (λ n. walk most n r)
   unfolding walk
-  walk-cut l r t e h = ap (walk most made) e ∙ ap (λ b. cond b TooMany (and_then (walk most (made + 1) l) (λ n. walk most n r))) (lt-leb most made h)
+  walk-cut l r t e h = ap (walk most made) e ∙ ap (λ b. cond b (Err TooMany) (and_then (walk most (made + 1) l) (λ n. walk most n r))) (lt-leb most made h)
 
 -- ---- what the walk comes to
 
@@ -49,22 +50,22 @@ pub record Counted (most made : ℕ) (sound : Type 0) (made-here n : ℕ) : Type
   pub count : n ≡ made + made-here
   pub within : made ≤ most → n ≤ most
 
-same-cuts : (m n : ℕ) → Cuts m ≡ Cuts n → m ≡ n
+same-cuts : (m n : ℕ) → Ok m ≡ Ok n → m ≡ n
 same-cuts m n e = cc
 
-not-deep : (n : ℕ) → TooDeep ≡ Cuts n → ⊥
+not-deep : (n : ℕ) → (Err TooDeep) ≡ Ok n → ⊥
 not-deep n e = let z : ◌≡◌ {A = ℕ} 0 1 = cc in omega arith
 
-not-many : (n : ℕ) → TooMany ≡ Cuts n → ⊥
+not-many : (n : ℕ) → (Err TooMany) ≡ Ok n → ⊥
 not-many n e = let z : ◌≡◌ {A = ℕ} 0 1 = cc in omega arith
 
 -- a walk in two parts counted n cuts: the first part counted some, and the second went on from there
-in_parts : (w : Walked) (next : ℕ → Walked) (n : ℕ) → and_then w next ≡ Cuts n → (m : ℕ) × (w ≡ Cuts m) × (next m ≡ Cuts n)
-in_parts (Cuts m) next n e = (m, refl, e)
-in_parts TooDeep next n e = absurd (not-deep n e)
-in_parts TooMany next n e = absurd (not-many n e)
+in_parts : (w : Result ℕ Uncut) (next : ℕ → Result ℕ Uncut) (n : ℕ) → and_then w next ≡ Ok n → (m : ℕ) × (w ≡ Ok m) × (next m ≡ Ok n)
+in_parts (Ok m) next n e = (m, refl, e)
+in_parts (Err TooDeep) next n e = absurd (not-deep n e)
+in_parts (Err TooMany) next n e = absurd (not-many n e)
 
-pub walk-counted : (most made n : ℕ) (t : Tree) → walk most made t ≡ Cuts n → Counted most made (Sound t) (cuts t) n
+pub walk-counted : (most made n : ℕ) (t : Tree) → walk most made t ≡ Ok n → Counted most made (Sound t) (cuts t) n
 unfolding walk cuts Sound
 walk-counted most made n (Flat p) e = record { all_sound = tt; count = omega (arith, same-cuts made n e); within = λ h. omega (arith, same-cuts made n e) }
 walk-counted most made n (Rough p) e = absurd (not-deep n e)
@@ -78,19 +79,19 @@ walk-counted most made n (Cut l r) e =
     (either made most)
 
 -- and it does so wherever that is so
-pub counted-walk : (most made : ℕ) (t : Tree) → Sound t → made + cuts t ≤ most → walk most made t ≡ Cuts (made + cuts t)
+pub counted-walk : (most made : ℕ) (t : Tree) → Sound t → made + cuts t ≤ most → walk most made t ≡ Ok (made + cuts t)
 unfolding walk cuts Sound
-counted-walk most made (Flat p) sound h = ap Cuts (omega arith)
+counted-walk most made (Flat p) sound h = ap Ok (omega arith)
 counted-walk most made (Rough p) sound h = absurd sound
 counted-walk most made (Cut l r) sound h =
     let first = counted-walk most (made + 1) l sound.0 (omega arith) in
     let second = counted-walk most (made + 1 + cuts l) r sound.1 (omega arith) in
-    walk-cut most made l r (Cut l r) refl (omega arith) ∙ ap (λ w. and_then w (λ n. walk most n r)) first ∙ second ∙ ap Cuts (omega arith)
+    walk-cut most made l r (Cut l r) refl (omega arith) ∙ ap (λ w. and_then w (λ n. walk most n r)) first ∙ second ∙ ap Ok (omega arith)
 
 -- ---- tree after tree
 
 module _ (f : ℕ → Tree) (most : ℕ) where
-  pub walk-all-counted : (made n i m : ℕ) → walk_all most made (tab f i m) ≡ Cuts n → Counted most made ((s : ℕ) → i ≤ s → s < i + m → Sound (f s)) (all_cuts (tab f i m)) n
+  pub walk-all-counted : (made n i m : ℕ) → walk_all most made (tab f i m) ≡ Ok n → Counted most made ((s : ℕ) → i ≤ s → s < i + m → Sound (f s)) (all_cuts (tab f i m)) n
   unfolding walk_all all_cuts tab
   walk-all-counted made n i zero e = record { all_sound = λ s low high. absurd (omega arith); count = omega (arith, same-cuts made n e); within = λ h. omega (arith, same-cuts made n e) }
   walk-all-counted made n i (suc m) e =
@@ -105,10 +106,10 @@ module _ (f : ℕ → Tree) (most : ℕ) where
         within = λ h. b.within (a.within h);
       }
 
-  pub counted-walk-all : (made i m : ℕ) → ((s : ℕ) → i ≤ s → s < i + m → Sound (f s)) → made + all_cuts (tab f i m) ≤ most → walk_all most made (tab f i m) ≡ Cuts (made + all_cuts (tab f i m))
+  pub counted-walk-all : (made i m : ℕ) → ((s : ℕ) → i ≤ s → s < i + m → Sound (f s)) → made + all_cuts (tab f i m) ≤ most → walk_all most made (tab f i m) ≡ Ok (made + all_cuts (tab f i m))
   unfolding walk_all all_cuts tab
-  counted-walk-all made i zero sound h = ap Cuts (omega arith)
+  counted-walk-all made i zero sound h = ap Ok (omega arith)
   counted-walk-all made i (suc m) sound h =
       let first = counted-walk most made (f i) (sound i (omega arith) (omega arith)) (omega arith) in
       let second = counted-walk-all (made + cuts (f i)) (suc i) m (λ s low high. sound s (omega arith) (omega arith)) (omega arith) in
-      ap (λ w. and_then w (λ n. walk_all most n (tab f (suc i) m))) first ∙ second ∙ ap Cuts (omega arith)
+      ap (λ w. and_then w (λ n. walk_all most n (tab f (suc i) m))) first ∙ second ∙ ap Ok (omega arith)

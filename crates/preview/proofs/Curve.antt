@@ -1,5 +1,6 @@
 -- The preview and the curve: a sum of controls inside the limits is below 2^53, so its double loses nothing of it and is never -0; and the outline's point is that same
 -- value, rounded once.
+use Rattle.std.specs.Prelude.{Ok, Result}
 use mathlib.Core.Path.{◌≡◌, sym, ap, ◌∙◌, subst}
 use mathlib.Core.Bool.{not}
 use mathlib.Core.List.{List, [], ◌∷◌, ◌++◌}
@@ -37,13 +38,12 @@ use Rattle.shape.proofs.Refusals.{none-earlier, none-later, row-fails, good-plan
 use Rattle.shape.proofs.Tests.{passes}
 use Rattle.doubles.specs.Exact.{Value, minus_zero}
 use Rattle.doubles.proofs.Exact.{dyadic-exact, dyadic-not-minus-zero}
-use Rattle.preview.specs.declared.Previewed.{Previewed}
-use Rattle.preview.specs.declared.Previewed.TheVariants.{Drawn}
 use Rattle.preview.proofs.Spans.{points-are}
 use Rattle.preview.proofs.Numbers.{plain}
 use Rattle.preview.proofs.Rows.{bezier-inside}
 use Rattle.preview.proofs.Exactly.{drawn-none, none-drawn}
 use Rattle.preview.specs.Preview.{sum, value, bezier_row, preview_rows, accepts, previewing}
+use Rattle.shape.specs.declared.Refusal.{Refusal}
 
 -- ---- a sum is below 2^53
 
@@ -98,7 +98,7 @@ front points vs q room l =
     ap (λ v. get_or v q nan) (sets-eq vs points 0 (omega arith)) ∙ get_or-append vs (drop (0 + length vs) points) nan q l
 
 -- Where the preview draws n points, each of the 2n numbers has exactly the value of its weighted sum over 2^(3k), and none is -0.
-pub drawn-exact : (s : Shape) (controls : List ℤ) (points : List Float) (n : ℕ) (l : List Float) → previewing s controls points ≡ outcome (Drawn n) l → (q : ℕ) → q < 2 * n
+pub drawn-exact : (s : Shape) (controls : List ℤ) (points : List Float) (n : ℕ) (l : List Float) → previewing s controls points ≡ outcome (Ok n) l → (q : ℕ) → q < 2 * n
     → Value (get_or l q nan) (sum s.depth (plan_of s).spans controls q) (2 ^ (3 * s.depth)) × T (not (minus_zero (get_or l q nan)))
 unfolding plan_of
 drawn-exact s controls points n l e q below =
@@ -114,12 +114,12 @@ drawn-exact s controls points n l e q below =
     let inside = bezier-inside s plan controls points good first count (length points) lent in
     let numbers = tab (value k m controls) 0 (2 * count) in
     let long = length-tab (value k m controls) 0 (2 * count) in
-    let drawn : outcome (Drawn n) l ≡ accepts plan controls points = sym e ∙ none-drawn s controls points none in
-    let answer : Drawn n ≡ Drawn count = λ i. (drawn i).answer in
+    let drawn : outcome (Ok n) l ≡ accepts plan controls points = sym e ∙ none-drawn s controls points none in
+    let answer : Ok n ≡ Ok count = λ i. (drawn i).answer in
     let all : n ≡ count = cc in
     let q-in : q < 2 * count = omega arith in
     let here : get_or l q nan ≡ value k m controls q =
-    ap (λ (o : Outcome Previewed (List Float)). get_or o.held q nan) drawn
+    ap (λ (o : Outcome (Result ℕ Refusal) (List Float)). get_or o.held q nan) drawn
     ∙ front points numbers q (omega (arith, long, lent.points-room)) (omega (arith, long))
     ∙ get_or-tab (value k m controls) 0 (2 * count) q q-in nan
     ∙ ap (value k m controls) (omega arith) in (

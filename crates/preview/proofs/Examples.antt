@@ -1,4 +1,5 @@
 -- Previews small enough to be read by computation alone: half a micrometre, a quarter of minus one, and zero as positive zero.
+use Rattle.std.specs.Prelude.{Err, Ok}
 use mathlib.Core.Path.{◌≡◌, refl}
 use mathlib.Core.Bool.{true, false}
 use mathlib.Core.List.{List, [], ◌∷◌}
@@ -13,7 +14,6 @@ use Rattle.curve.specs.Span.{coordinate, first_record, records_from, weighted}
 use Rattle.shape.specs.Shape.{sixty_fourths, basis_of, spans_of, records_of, allowed, points_of}
 use Rattle.shape.specs.Refusals.{judge, outside, seek, plan_of}
 use Rattle.doubles.specs.Exact.{dyadic}
-use Rattle.preview.specs.declared.Previewed.TheVariants.{Drawn, Refused}
 use Rattle.preview.specs.Preview.{sum, value, previewing}
 
 -- x is 0, 0, 0, 4 and y is 0, 0, 0, -2
@@ -25,21 +25,21 @@ zero = fin false 0 (pos 0)
 
 pub halves-drawn :
     previewing (record { basis = 1; depth = 1; count = 4; parameter = 0 }) controls (replicate 7 nan)
-    ≡ outcome (Drawn 3) (zero ∷ zero ∷ fin false 1 (negsuc 0) ∷ fin true 1 (negsuc 1) ∷ fin false 1 (pos 2) ∷ fin true 1 (pos 1) ∷ nan ∷ [])
+    ≡ outcome (Ok 3) (zero ∷ zero ∷ fin false 1 (negsuc 0) ∷ fin true 1 (negsuc 1) ∷ fin false 1 (pos 2) ∷ fin true 1 (pos 1) ∷ nan ∷ [])
 unfolding previewing judge value sum weighted weights dot tab coordinate first_record records_from sixty_fourths basis_of spans_of records_of allowed points_of plan_of outside seek dyadic round
 halves-drawn = refl
 
-pub other-basis : previewing (record { basis = 2; depth = 1; count = 4; parameter = 0 }) controls (replicate 6 nan) ≡ refuses Refused (replicate 6 nan) (record { number = 4; place = 0 })
+pub other-basis : previewing (record { basis = 2; depth = 1; count = 4; parameter = 0 }) controls (replicate 6 nan) ≡ refuses Err (replicate 6 nan) (record { number = 4; place = 0 })
 unfolding previewing judge sixty_fourths basis_of spans_of records_of allowed plan_of
 other-basis = refl
 
 -- document 02, request 7: 24 comes before 4, and only for basis 3
 pub parameter-first :
-    previewing (record { basis = 3; depth = 1; count = 4; parameter = 65 }) controls (replicate 6 nan) ≡ refuses Refused (replicate 6 nan) (record { number = 24; place = 0 })
+    previewing (record { basis = 3; depth = 1; count = 4; parameter = 65 }) controls (replicate 6 nan) ≡ refuses Err (replicate 6 nan) (record { number = 24; place = 0 })
 unfolding previewing judge sixty_fourths basis_of spans_of records_of allowed plan_of
 parameter-first = refl
 
 pub parameter-fine :
-    previewing (record { basis = 3; depth = 1; count = 4; parameter = 64 }) controls (replicate 6 nan) ≡ refuses Refused (replicate 6 nan) (record { number = 4; place = 0 })
+    previewing (record { basis = 3; depth = 1; count = 4; parameter = 64 }) controls (replicate 6 nan) ≡ refuses Err (replicate 6 nan) (record { number = 4; place = 0 })
 unfolding previewing judge sixty_fourths basis_of spans_of records_of allowed plan_of
 parameter-fine = refl

@@ -1,6 +1,6 @@
 -- What the preview answers and leaves (document 01, "Preview and drawing"): rows 1, 2, 24, 3, 4, 7, 8, 9 in that order, and for basis 1 the exact double of each whole
 -- weighted sum of the plain controls over 2^(3k). Definitions only.
-use Rattle.std.specs.Prelude.{not, List, [], ◌∷◌, ◌++◌, ℕ, ◌*◌, ◌-◌, ◌/◌, ◌%◌, ◌^◌, min, eqb, ℤ, pos, Float, length}
+use Rattle.std.specs.Prelude.{not, List, [], ◌∷◌, ◌++◌, ℕ, ◌*◌, ◌-◌, ◌/◌, ◌%◌, ◌^◌, min, eqb, ℤ, pos, Float, length, Err, Ok, Result}
 use Rattle.std.proofs.lemmas.List.Edits.{sets}
 use Rattle.whole.specs.Outcome.{Outcome, outcome, refuses}
 use Rattle.curve.specs.declared.Basis.TheVariants.{Bezier}
@@ -12,8 +12,7 @@ use Rattle.shape.specs.Shape.{points_of}
 use Rattle.shape.specs.Refusals.{Row, row, judge, shape_rows, list_rows, plan_of}
 use Rattle.shape.specs.Exactly.{Told, Refuses, Accepts}
 use Rattle.doubles.specs.Exact.{dyadic}
-use Rattle.preview.specs.declared.Previewed.{Previewed}
-use Rattle.preview.specs.declared.Previewed.TheVariants.{Drawn, Refused}
+use Rattle.shape.specs.declared.Refusal.{Refusal}
 
 -- ---- the numbers
 
@@ -43,15 +42,15 @@ preview_rows s controls len = shape_rows s ++ later_rows s (plan_of s) controls 
 -- ---- the reading
 
 -- All points are written from the start of the lent list on, x then y, and all past them is kept.
-abbrev pub accepts : Plan → List ℤ → List Float → Outcome Previewed (List Float)
+abbrev pub accepts : Plan → List ℤ → List Float → Outcome (Result ℕ Refusal) (List Float)
 accepts p controls points =
     let n = points_of p.depth p.spans in
-    outcome (Drawn n) (sets points 0 (tab (value p.depth p.spans controls) 0 (2 * n)))
+    outcome (Ok n) (sets points 0 (tab (value p.depth p.spans controls) 0 (2 * n)))
 
-unfoldable pub previewing : Shape → List ℤ → List Float → Outcome Previewed (List Float)
-previewing s controls points = judge (preview_rows s controls (length points)) (refuses Refused points) (accepts (plan_of s) controls points)
+unfoldable pub previewing : Shape → List ℤ → List Float → Outcome (Result ℕ Refusal) (List Float)
+previewing s controls points = judge (preview_rows s controls (length points)) (refuses Err points) (accepts (plan_of s) controls points)
 
 -- What the answer tells: how many points were drawn, or the refusal.
-abbrev pub told : Previewed → Told
-told (Drawn n) = Accepts (pos n ∷ [])
-told (Refused r) = Refuses r
+abbrev pub told : Result ℕ Refusal → Told
+told (Ok n) = Accepts (pos n ∷ [])
+told (Err r) = Refuses r

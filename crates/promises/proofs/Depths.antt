@@ -1,5 +1,6 @@
 -- What the deepest depth is a part of, and what it is not (document 02, request 10). A point of depth k, and what is left over of it, are the same by the table of any depth from k on; a call whose shape is no
 -- deeper than two builds allow answers the same in both, refusals among them; and what is deeper than a build allows it refuses with 2. So outlines and files up to depth 6 are what they were.
+use Rattle.std.specs.Prelude.{Err, Ok, Result}
 use mathlib.Core.Bool.{Bool, false, cond}
 use mathlib.Core.List.{List, [], ◌∷◌, ◌++◌}
 use mathlib.Core.Logic.{⊎_elim}
@@ -29,27 +30,20 @@ use Rattle.shape.specs.Refusals.{Row, row, First, NoRow, judge, basis_row, param
 use Rattle.shape.proofs.Refusals.{judge-append, judge-none, none_both, row-fails, none-earlier, none-later, verdict}
 use Rattle.outline.specs.declared.Figures.{Figures}
 use Rattle.spans.specs.Numbers.{number}
-use Rattle.outline.specs.declared.Drawn.{Drawn}
-use Rattle.outline.specs.declared.Drawn.TheVariants as drawn
 use Rattle.outline.specs.Outline as outline
 use Rattle.outline.specs.Outline.{draws}
 use Rattle.outline.specs.View.{empty_part, out_of_sight, part_of}
 use Rattle.outline.proofs.Views.{span_part}
 use Rattle.outline.proofs.Exactly.{done_none}
-use Rattle.tolerance.specs.declared.Chosen.TheVariants as chosen
 use Rattle.tolerance.specs.Reading as choice
 use Rattle.tolerance.specs.Reading.{chooses}
 use Rattle.asked.specs.declared.Edit.{Edit}
-use Rattle.edit.specs.declared.Edited.TheVariants as edited
 use Rattle.edit.specs.Reading as edit
 use Rattle.edit.specs.Reading.{shape_after, edit_rows, edits}
-use Rattle.preview.specs.declared.Previewed.TheVariants as previewed
 use Rattle.preview.specs.Preview as preview
 use Rattle.preview.specs.Preview.{previewing}
-use Rattle.record_file.specs.declared.Reading.TheVariants as read
 use Rattle.record_file.specs.Rows as rows
 use Rattle.record_file.specs.Rows.{record_count, length_rows, record_rows, shape_of, file_rows, reading}
-use Rattle.record_file.specs.declared.Reading.{Reading}
 use Rattle.record_file.proofs.Exactly.{first-refused, none_read}
 use Rattle.listing.specs.Listing.{outline_text}
 use Rattle.file_list.specs.Files.{controls, points, drawn_text, read_text, even_text, file_text}
@@ -105,27 +99,27 @@ module _ (d : ℕ) (less : d ≤ deepest) (s : Shape) (below : s.depth ≤ d) wh
   now : s.depth ≤ deepest
   now = omega arith
 
-  pub drawn-as-before : (controls lent : List ℤ) → call_of d s (outline.plan_rows s.count (plan_of s) controls lent) (refuses drawn.Refused lent) (outline.accepts (plan_of s) controls lent) ≡ draws s controls lent
+  pub drawn-as-before : (controls lent : List ℤ) → call_of d s (outline.plan_rows s.count (plan_of s) controls lent) (refuses Err lent) (outline.accepts (plan_of s) controls lent) ≡ draws s controls lent
   unfolding draws
-  drawn-as-before controls lent = same-call d deepest s below now (outline.plan_rows s.count (plan_of s) controls lent) (refuses drawn.Refused lent) (outline.accepts (plan_of s) controls lent)
+  drawn-as-before controls lent = same-call d deepest s below now (outline.plan_rows s.count (plan_of s) controls lent) (refuses Err lent) (outline.accepts (plan_of s) controls lent)
 
   pub chosen-as-before : (tolerance most : ℕ) (controls lent : List ℤ)
-      → call_of d s (choice.plan_rows s.count (plan_of s) tolerance most controls lent) (refuses chosen.Refused lent) (choice.accepts (plan_of s) tolerance controls lent) ≡ chooses s tolerance most controls lent
+      → call_of d s (choice.plan_rows s.count (plan_of s) tolerance most controls lent) (refuses Err lent) (choice.accepts (plan_of s) tolerance controls lent) ≡ chooses s tolerance most controls lent
   unfolding chooses
   chosen-as-before tolerance most controls lent =
-      same-call d deepest s below now (choice.plan_rows s.count (plan_of s) tolerance most controls lent) (refuses chosen.Refused lent) (choice.accepts (plan_of s) tolerance controls lent)
+      same-call d deepest s below now (choice.plan_rows s.count (plan_of s) tolerance most controls lent) (refuses Err lent) (choice.accepts (plan_of s) tolerance controls lent)
 
   pub edited-as-before : (e : Edit) (j : ℕ) (controls lent : List ℤ) → let q = plan_of (shape_after e s) in
-      call_of d s (edit_rows e s (plan_of s) q j controls lent) (refuses edited.Refused (controls, lent)) (edit.accepts e s q j controls lent) ≡ edits e s j controls lent
+      call_of d s (edit_rows e s (plan_of s) q j controls lent) (refuses Err (controls, lent)) (edit.accepts e s q j controls lent) ≡ edits e s j controls lent
   unfolding edits
   edited-as-before e j controls lent =
       let q = plan_of (shape_after e s) in
-      same-call d deepest s below now (edit_rows e s (plan_of s) q j controls lent) (refuses edited.Refused (controls, lent)) (edit.accepts e s q j controls lent)
+      same-call d deepest s below now (edit_rows e s (plan_of s) q j controls lent) (refuses Err (controls, lent)) (edit.accepts e s q j controls lent)
 
   pub previewed-as-before : (controls : List ℤ) (points : List Float)
-      → call_of d s (preview.later_rows s (plan_of s) controls (length points)) (refuses previewed.Refused points) (preview.accepts (plan_of s) controls points) ≡ previewing s controls points
+      → call_of d s (preview.later_rows s (plan_of s) controls (length points)) (refuses Err points) (preview.accepts (plan_of s) controls points) ≡ previewing s controls points
   unfolding previewing
-  previewed-as-before controls points = same-call d deepest s below now (preview.later_rows s (plan_of s) controls (length points)) (refuses previewed.Refused points) (preview.accepts (plan_of s) controls points)
+  previewed-as-before controls points = same-call d deepest s below now (preview.later_rows s (plan_of s) controls (length points)) (refuses Err points) (preview.accepts (plan_of s) controls points)
 
   pub viewed-as-before : (t : ℕ) (lent : List ℤ)
       → call_of d s [] (λ (r : Refusal). empty_part) (cond (out_of_sight (plan_of s) t lent) empty_part (span_part (plan_of s) t)) ≡ part_of s t lent
@@ -133,10 +127,10 @@ module _ (d : ℕ) (less : d ≤ deepest) (s : Shape) (below : s.depth ≤ d) wh
   viewed-as-before t lent = same-call d deepest s below now [] (λ (r : Refusal). empty_part) (cond (out_of_sight (plan_of s) t lent) empty_part (span_part (plan_of s) t))
 
 -- What this build draws at a greater depth, one with less refuses with 2, and keeps the lent points.
-pub older-refuses : (d : ℕ) (s : Shape) (controls lent : List ℤ) (fs : Figures) (held : List ℤ) → draws s controls lent ≡ outcome (drawn.Done fs) held → d < s.depth
-    → call_of d s (outline.plan_rows s.count (plan_of s) controls lent) (refuses drawn.Refused lent) (outline.accepts (plan_of s) controls lent) ≡ outcome (drawn.Refused (record { number = 2; place = 0 })) lent
+pub older-refuses : (d : ℕ) (s : Shape) (controls lent : List ℤ) (fs : Figures) (held : List ℤ) → draws s controls lent ≡ outcome (Ok fs) held → d < s.depth
+    → call_of d s (outline.plan_rows s.count (plan_of s) controls lent) (refuses Err lent) (outline.accepts (plan_of s) controls lent) ≡ outcome (Err (record { number = 2; place = 0 })) lent
 older-refuses d s controls lent fs held done deeper =
-    refused-call d s deeper (done_none s controls lent fs held done).0 (outline.plan_rows s.count (plan_of s) controls lent) (refuses drawn.Refused lent) (outline.accepts (plan_of s) controls lent)
+    refused-call d s deeper (done_none s controls lent fs held done).0 (outline.plan_rows s.count (plan_of s) controls lent) (refuses Err lent) (outline.accepts (plan_of s) controls lent)
 
 -- ---- a file
 
@@ -151,17 +145,17 @@ module _ (d : ℕ) (file : List ℕ) where
   pub read-as-before : d ≤ deepest → s.depth ≤ d → (lent : List ℤ) → reading_of d file lent ≡ reading file lent
   unfolding reading
   read-as-before less below lent =
-      ap (λ (t : Bool). judge (length_rows (length file) ++ (record_rows file 0 n ++ (basis_row s ∷ row t 2 0 ∷ parameter_row s ∷ count_row s ∷ rows.list_rows file n lent))) (refuses read.Refused lent) (rows.accepts file n lent))
+      ap (λ (t : Bool). judge (length_rows (length file) ++ (record_rows file 0 n ++ (basis_row s ∷ row t 2 0 ∷ parameter_row s ∷ count_row s ∷ rows.list_rows file n lent))) (refuses Err lent) (rows.accepts file n lent))
       (le-ltb d s.depth below ∙ sym (le-ltb deepest s.depth (omega arith)))
 
   -- a file that this build reads, of a greater depth, one with less refuses with 2
-  pub file-refused : (lent : List ℤ) → NoRow (file_rows file lent) → d < s.depth → reading_of d file lent ≡ outcome (read.Refused (record { number = 2; place = 0 })) lent
+  pub file-refused : (lent : List ℤ) → NoRow (file_rows file lent) → d < s.depth → reading_of d file lent ≡ outcome (Err (record { number = 2; place = 0 })) lent
   file-refused lent none deeper =
       let before = length_rows (length file) in
       let records = record_rows file 0 n in
       let later = rows.later_rows file n lent in
       let own = rows.list_rows file n lent in
-      let refused = refuses read.Refused lent in
+      let refused = refuses Err lent in
       let accepted = rows.accepts file n lent in
       let rest = none-later before (records ++ later) none in
       judge-append before (records ++ (shape_rows_of d s ++ own)) refused accepted
@@ -174,7 +168,7 @@ module _ (d : ℕ) (file : List ℕ) where
   pub listed-as-before : d ≤ deepest → s.depth ≤ d → file_text_of d file ≡ file_text file
   listed-as-before less below = ⊎_elim refused read-and-drawn (verdict (file_rows file controls))
     where
-      text : Outcome Reading (List ℤ) → List ℕ
+      text : Outcome (Result Shape Refusal) (List ℤ) → List ℕ
       text o = read_text (even_text_of d) o.held o.answer
 
       refused : ((r : Refusal) × First (file_rows file controls) r) → file_text_of d file ≡ file_text file
@@ -192,7 +186,7 @@ module _ (d : ℕ) (file : List ℕ) where
           let shallow : p.depth ≤ d = omega (arith, (file-read.good file none).depth) in
           let vs = tab (number p held) 0 (2 * outline.points p) in
           ap text (read-as-before less below controls ∙ none_read file controls none)
-          ∙ ap (λ (o : Outcome Drawn (List ℤ)). drawn_text s o.held o.answer)
-          (judge-none (shape_rows_of d s ++ outline.plan_rows n p held lent) (refuses drawn.Refused lent) (outline.accepts p held lent) (none_both (shape_rows_of d s) (outline.plan_rows n p held lent) (row-fails 1 mine sound, (le-ltb d s.depth below, (row-fails 24 mine sound, (row-fails 3 mine sound, tt)))) (file-read.lists file none d shallow)))
+          ∙ ap (λ (o : Outcome (Result Figures Refusal) (List ℤ)). drawn_text s o.held o.answer)
+          (judge-none (shape_rows_of d s ++ outline.plan_rows n p held lent) (refuses Err lent) (outline.accepts p held lent) (none_both (shape_rows_of d s) (outline.plan_rows n p held lent) (row-fails 1 mine sound, (le-ltb d s.depth below, (row-fails 24 mine sound, (row-fails 3 mine sound, tt)))) (file-read.lists file none d shallow)))
           ∙ ap (outline_text s.basis s.depth p.spans) (file-read.front file none d shallow vs (length-tab (number p held) 0 (2 * outline.points p)))
           ∙ sym (drawn-text file none)

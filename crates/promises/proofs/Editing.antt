@@ -1,5 +1,6 @@
 -- Demand 3, one edit, in terms of its answer and for any contents of the lent points: it works afresh exactly the spans that it touches, and every other span holds what an
 -- old one held, in place or one span on or back. What any sequence of edits leaves is in `Sequences`.
+use Rattle.std.specs.Prelude.{Ok}
 use mathlib.Core.Path.{◌≡◌, sym, ap, ◌∙◌}
 use mathlib.Core.Bool.{true, false, cond}
 use mathlib.Core.Logic.{◌↔◌}
@@ -22,7 +23,6 @@ use Rattle.asked.specs.declared.Run.{Run}
 use Rattle.asked.specs.Edits.{asked, is_fresh, exact_fresh}
 use Rattle.asked.proofs.Fresh.{open-stretch}
 use Rattle.edit.specs.declared.Change.{Change}
-use Rattle.edit.specs.declared.Edited.TheVariants.{Done}
 use Rattle.edit.specs.Reading.{shape_after, edits}
 use Rattle.edit.proofs.Worked.{stretch-exact, none-exact}
 use Rattle.sequences.specs.Touched.{Touched, InRun, Fresh, old_span}
@@ -37,7 +37,7 @@ zeros : (n : ℕ) → n ≤ length (replicate n (pos 0))
 zeros n = le_of_eq (sym (length-replicate n (pos 0)))
 
 -- The call answered c, and left the controls `new` and the points `held`.
-module _ (e : Edit) (s : Shape) (j : ℕ) (controls lent : List ℤ) (c : Change) (new held : List ℤ) (done : edits e s j controls lent ≡ outcome (Done c) (new, held)) where
+module _ (e : Edit) (s : Shape) (j : ℕ) (controls lent : List ℤ) (c : Change) (new held : List ℤ) (done : edits e s j controls lent ≡ outcome (Ok c) (new, held)) where
   abbrev p : Plan
   p = plan_of c.shape
 

@@ -1,5 +1,6 @@
 -- Which points were exact (document 02, request 9): how far each point is from the published curve, by its remainder, and what the answered figures count. Those of an edit are with the
 -- other promises of an edit.
+use Rattle.std.specs.Prelude.{Ok}
 use mathlib.Core.Path.{◌≡◌, refl, sym, ap, ◌∙◌, subst}
 use mathlib.Core.Bool.{true, false, cond}
 use mathlib.Core.List.{List, map}
@@ -27,7 +28,6 @@ use Rattle.spans.specs.declared.run.Way.{Way}
 use Rattle.spans.specs.Numbers.{sum_of, remainder_of, nought, noughts, exact_in}
 use Rattle.spans.proofs.Rounds.{not-nought}
 use Rattle.outline.specs.declared.Figures.{Figures}
-use Rattle.outline.specs.declared.Drawn.TheVariants.{Done}
 use Rattle.outline.specs.Outline.{figures_of, draws}
 use Rattle.outline.proofs.Exactly.{done-figures}
 use Rattle.sequences.specs.Calls.{MeetsDrawing}
@@ -93,7 +93,7 @@ exact-whole p controls q (suc n) = λ i. counts_whole p controls q i + exact-who
 
 -- ---- after an accepted drawing, by whichever way
 
-module _ (s : Shape) (controls lent : List ℤ) (fs : Figures) (held : List ℤ) (done : draws s controls lent ≡ outcome (Done fs) held) where
+module _ (s : Shape) (controls lent : List ℤ) (fs : Figures) (held : List ℤ) (done : draws s controls lent ≡ outcome (Ok fs) held) where
   -- the figure is the count of whole published values
   pub drawn-exact : fs.exact ≡ whole_values (plan_of s) controls 0 (2 * fs.points)
   drawn-exact =
@@ -113,6 +113,6 @@ module _ (s : Shape) (controls lent : List ℤ) (fs : Figures) (held : List ℤ)
 
 -- and this is said of the code: of a drawing call by any way
 pub code-exact : (w : Way) (s : Shape) (controls lent : List ℤ) (fs : Figures) (held : List ℤ)
-    → MeetsDrawing w (s, controls, lent) (outcome (Done fs) held)
+    → MeetsDrawing w (s, controls, lent) (outcome (Ok fs) held)
     → fs.exact ≡ whole_values (plan_of s) controls 0 (2 * fs.points)
 code-exact w s controls lent fs held met = drawn-exact s controls lent fs held (meets-draws w s controls lent _ met)

@@ -1,4 +1,5 @@
 -- Boxes and limits (document 01, "The curve, exactly"): how far the points of an outline go.
+use Rattle.std.specs.Prelude.{Ok}
 use mathlib.Core.Path.{◌≡◌}
 use mathlib.Core.List.{List}
 use Prim.Native.Nat.{ℕ, ◌*◌, ◌^◌, ◌≤◌, ◌<◌}
@@ -15,7 +16,6 @@ use Rattle.curve.specs.Span.{point, whole_controls}
 use Rattle.curve.proofs.Limits as curve
 use Rattle.shape.specs.declared.Shape.{Shape}
 use Rattle.shape.specs.Refusals.{plan_of}
-use Rattle.outline.specs.declared.Drawn.TheVariants.{Done}
 use Rattle.outline.specs.declared.Figures.{Figures}
 use Rattle.outline.specs.Outline.{points, draws}
 use Rattle.outline.proofs.Within as outline
@@ -39,11 +39,11 @@ pub within-reach : (b : Basis) (k i : ℕ) (q : Four) → i ≤ 2 ^ k → parame
 within-reach = curve.point-size
 
 -- so every number of the outline does, as it stands in the lent list after an accepted drawing
-pub drawn-within : (s : Shape) (controls lent : List ℤ) (fs : Figures) (held : List ℤ) → draws s controls lent ≡ outcome (Done fs) held → (q : ℕ) → q < 2 * fs.points → nat_abs (get_or held q (pos 0)) ≤ reach (plan_of s).basis
+pub drawn-within : (s : Shape) (controls lent : List ℤ) (fs : Figures) (held : List ℤ) → draws s controls lent ≡ outcome (Ok fs) held → (q : ℕ) → q < 2 * fs.points → nat_abs (get_or held q (pos 0)) ≤ reach (plan_of s).basis
 drawn-within = outline.drawn-within
 
 -- and after any sequence of edits that follow it, refused ones among them
-pub played-within : (s : Shape) (controls lent : List ℤ) (fs : Figures) (held : List ℤ) (calls : List Call) → draws s controls lent ≡ outcome (Done fs) held
+pub played-within : (s : Shape) (controls lent : List ℤ) (fs : Figures) (held : List ℤ) (calls : List Call) → draws s controls lent ≡ outcome (Ok fs) held
     → (q : ℕ) → q < 2 * points (plan_of (played (state s controls held) calls).shape)
     → nat_abs (get_or (played (state s controls held) calls).held q (pos 0)) ≤ reach (plan_of (played (state s controls held) calls).shape).basis
 played-within = sequences.drawn-played-within

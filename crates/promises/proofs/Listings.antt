@@ -1,5 +1,6 @@
 -- The listings of a record file, as outline-list and outline-cut write them. What `list_part` writes is the part's text, and what `cut_file` writes the listing by tolerance, for every lent text
 -- (their contracts); here is what those are never short of, and that outline-list's parts are the listing of the whole outline.
+use Rattle.std.specs.Prelude.{Err, Result}
 use mathlib.Core.Path.{◌≡◌, refl, sym, ap, ◌∙◌, subst}
 use mathlib.Core.Bool.{false}
 use mathlib.Core.List.{List, [], ◌++◌}
@@ -16,9 +17,7 @@ use Rattle.whole.specs.Outcome.{Outcome, outcome}
 use Rattle.curve.specs.Ways.{deepest}
 use Rattle.shape.specs.Refusals.{NoRow, plan_of}
 use Rattle.outline.specs.Outline.{accepts, draws}
-use Rattle.record_file.specs.declared.Reading.{Reading}
 use Rattle.record_file.specs.Format.{numbers}
-use Rattle.record_file.specs.declared.Reading.TheVariants.{Refused}
 use Rattle.record_file.specs.Rows.{most_bytes, record_count, shape_of, file_rows, reading}
 use Rattle.record_file.proofs.Exactly.{first-refused}
 use Rattle.file_list.specs.Files.{controls, points, most_text, file_text, cut_file_text, writes}
@@ -29,6 +28,8 @@ use Rattle.file_list.proofs.Fits as fits
 use Rattle.file_list.proofs.Read as read
 use Rattle.file_list.proofs.Examples as examples
 use Rattle.promises.specs.Listings.{Hands, Lists}
+use Rattle.shape.specs.declared.Refusal.{Refusal}
+use Rattle.shape.specs.declared.Shape.{Shape}
 
 -- a file that no row of its own refuses is drawn: nothing is refused after it was read
 pub read-then-drawn :
@@ -40,7 +41,7 @@ read-then-drawn = read.read-drawn
 -- ---- what the programs read of their input
 
 -- a file that is too long is refused with 3
-too_long : (file : List ℕ) (lent : List ℤ) → most_bytes < length file → reading file lent ≡ outcome (Refused (record { number = 3; place = 0 })) lent
+too_long : (file : List ℕ) (lent : List ℤ) → most_bytes < length file → reading file lent ≡ outcome (Err (record { number = 3; place = 0 })) lent
 too_long file lent long =
     let some : eqb (length file) 0 ≡ false = ne_eqb (length file) 0 (λ e. omega (arith, e)) in
     first-refused file lent (record { number = 3; place = 0 }) (inl (rw (some, lt-ltb most_bytes (length file) long), refl))
@@ -61,14 +62,14 @@ pub parts-fit : (file : List ℕ) (i : ℕ) → length (part_text (reading file 
 parts-fit = fits.part-fits
 
 -- what turns of the code hand on are the parts
-hands-joined : (r : Reading) (held : List ℤ) → ((i : ℕ) → length (part_text r held i) ≤ most_part) → (n i : ℕ) (text out : List ℕ) → length text ≡ most_part → Hands r held text i n out → out ≡ joined (part_text r held) i n
+hands-joined : (r : Result Shape Refusal) (held : List ℤ) → ((i : ℕ) → length (part_text r held i) ≤ most_part) → (n i : ℕ) (text out : List ℕ) → length text ≡ most_part → Hands r held text i n out → out ≡ joined (part_text r held) i n
 unfolding Hands joined
 hands-joined r held fit zero i text out long hands = hands
 hands-joined r held fit (suc n) i text out long hands =
     let o = hands.0 in
     let call = hands.1 in
     let rest = hands.2 in
-    let is : o ≡ writes (part_text r held i) text = sym call.leaves ∙ call.meets.1 ∙ ap (λ (a : Reading × ℕ × List ℤ × List ℕ). writes (part_text a.0 a.2 a.1) a.3) call.asks in
+    let is : o ≡ writes (part_text r held i) text = sym call.leaves ∙ call.meets.1 ∙ ap (λ (a : Result Shape Refusal × ℕ × List ℤ × List ℕ). writes (part_text a.0 a.2 a.1) a.3) call.asks in
     let written = stands text (part_text r held i) (omega (arith, fit i, long)) in
     let first : take o.answer o.held ≡ part_text r held i = ap (λ (o : Outcome ℕ (List ℕ)). take o.answer o.held) is ∙ written.first in
     let same : length o.held ≡ most_part = ap (λ (o : Outcome ℕ (List ℕ)). length o.held) is ∙ written.long ∙ long in
@@ -80,10 +81,10 @@ code-listed file out run =
     let o = run.0 in
     let is : o ≡ reading file controls = sym run.1.leaves ∙ run.1.meets ∙ ap (λ (a : List ℕ × List ℤ). reading a.0 a.1) run.1.asks in
     let count : run.2 ≡ parts_of o.answer = sym run.3.leaves ∙ run.3.meets ∙ ap parts_of run.3.asks in
-    let fit = subst (λ (o : Outcome Reading (List ℤ)). (i : ℕ) → length (part_text o.answer o.held i) ≤ most_part) (sym is) (parts-fit file) in
+    let fit = subst (λ (o : Outcome (Result Shape Refusal) (List ℤ)). (i : ℕ) → length (part_text o.answer o.held i) ≤ most_part) (sym is) (parts-fit file) in
     hands-joined o.answer o.held fit run.2 0 (replicate most_part 0) out refl run.4
     ∙ ap (joined (part_text o.answer o.held) 0) count
-    ∙ ap (λ (o : Outcome Reading (List ℤ)). joined (part_text o.answer o.held) 0 (parts_of o.answer)) is
+    ∙ ap (λ (o : Outcome (Result Shape Refusal) (List ℤ)). joined (part_text o.answer o.held) 0 (parts_of o.answer)) is
     ∙ parts-joined file
 
 -- and there is such a run for every file
@@ -93,7 +94,7 @@ lent l = record { ref_ptr = (0, 0); now = l }
 abbrev lent_to_write : {A : Type 0} → A → MutBor A
 lent_to_write l = record { ref_ptr = (0, 0); ghost_name = 0; now = l }
 
-parts-handed : (r : Reading) (held : List ℤ) → ((i : ℕ) → length (part_text r held i) ≤ most_part) → (n i : ℕ) (text : List ℕ) → length text ≡ most_part → Hands r held text i n (joined (part_text r held) i n)
+parts-handed : (r : Result Shape Refusal) (held : List ℤ) → ((i : ℕ) → length (part_text r held i) ≤ most_part) → (n i : ℕ) (text : List ℕ) → length text ≡ most_part → Hands r held text i n (joined (part_text r held) i n)
 unfolding Hands joined
 parts-handed r held fit zero i text long = refl
 parts-handed r held fit (suc n) i text long =

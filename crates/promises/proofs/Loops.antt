@@ -1,5 +1,6 @@
 -- Closed loops (document 02, request 8), of what the calls answer: a loop is the open B-spline of its records with the first three repeated; its last point is its first, after every drawing and
 -- after any edits; an edit's run is counted round the new loop, and the first and the last point are both fresh where the first or the last span is.
+use Rattle.std.specs.Prelude.{Ok}
 use mathlib.Core.Path.{◌≡◌, refl, sym, ap, ◌∙◌, subst}
 use mathlib.Core.Bool.{true}
 use mathlib.Core.List.{List, [], ◌∷◌, ◌++◌}
@@ -32,7 +33,6 @@ use Rattle.shape.proofs.Tests.{either}
 use Rattle.spans.specs.Numbers.{per_span}
 use Rattle.spans.proofs.Joint.{joint-number}
 use Rattle.spans.proofs.Numbers.{per-span}
-use Rattle.outline.specs.declared.Drawn.TheVariants as drawn
 use Rattle.outline.specs.declared.Figures.{Figures}
 use Rattle.outline.specs.Outline.{points, figures_of, draws}
 use Rattle.outline.proofs.Draws.{all-numbers}
@@ -42,7 +42,6 @@ use Rattle.asked.specs.declared.Edit.{Edit}
 use Rattle.asked.specs.Edits.{count_round}
 use Rattle.asked.proofs.Fresh.{next-span}
 use Rattle.edit.specs.declared.Change.{Change}
-use Rattle.edit.specs.declared.Edited.TheVariants as edited
 use Rattle.edit.specs.Reading.{edits}
 use Rattle.sequences.specs.Played.{Call, state, played}
 use Rattle.sequences.specs.Touched.{InRun, Fresh}
@@ -113,7 +112,7 @@ module _ (n : ℕ) (controls : List ℤ) (least : least_records ≤ n) (room : 2
 
 -- ---- after an accepted drawing of a loop, by whichever way
 
-module _ (s : Shape) (five : s.basis ≡ loop) (controls lent : List ℤ) (fs : Figures) (held : List ℤ) (done : draws s controls lent ≡ outcome (drawn.Done fs) held) where
+module _ (s : Shape) (five : s.basis ≡ loop) (controls lent : List ℤ) (fs : Figures) (held : List ℤ) (done : draws s controls lent ≡ outcome (Ok fs) held) where
   good : Good s (plan_of s)
   good = good-plan s (none-earlier (shape_rows s) (list_rows s.count controls (points (plan_of s)) (length lent)) (done_none s controls lent fs held done))
 
@@ -151,7 +150,7 @@ module _ (s : Shape) (five : s.basis ≡ loop) (controls lent : List ℤ) (fs : 
       ∙ sym (held_number s controls lent fs held done axis (omega (arith, all)))
 
 -- and so it is after any edits of it, refused ones among them
-pub played-closed : (s : Shape) (controls lent : List ℤ) (fs : Figures) (held : List ℤ) (calls : List Call) → draws s controls lent ≡ outcome (drawn.Done fs) held
+pub played-closed : (s : Shape) (controls lent : List ℤ) (fs : Figures) (held : List ℤ) (calls : List Call) → draws s controls lent ≡ outcome (Ok fs) held
     → s.basis ≡ loop
     → (axis : ℕ) → axis < 2
     → get_or (played (state s controls held) calls).held (2 * (points (plan_of (played (state s controls held) calls).shape) - 1) + axis) (pos 0) ≡ get_or (played (state s controls held) calls).held axis (pos 0)
@@ -161,7 +160,7 @@ played-closed s controls lent fs held calls done five axis two =
 
 -- ---- an accepted edit of a loop
 
-module _ (e : Edit) (s : Shape) (five : s.basis ≡ loop) (j : ℕ) (controls lent : List ℤ) (c : Change) (new held : List ℤ) (done : edits e s j controls lent ≡ outcome (edited.Done c) (new, held)) where
+module _ (e : Edit) (s : Shape) (five : s.basis ≡ loop) (j : ℕ) (controls lent : List ℤ) (c : Change) (new held : List ℤ) (done : edits e s j controls lent ≡ outcome (Ok c) (new, held)) where
   abbrev p : Plan
   p = plan_of c.shape
 

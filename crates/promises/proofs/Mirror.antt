@@ -1,5 +1,6 @@
 -- Left and right doors mirror (document 02, request 1): drawing, evenly and by tolerance, viewing, editing, drawing steps and previews of mirrored numbers come to the mirror of what they came to, refusals too.
 -- Mirrored are the numbers on one axis, x or y, which are negated; `mirror` has lists of them, x then y.
+use Rattle.std.specs.Prelude.{Ok, Result}
 use mathlib.Core.Path.{◌≡◌, ap}
 use mathlib.Core.List.{List, map}
 use Prim.Native.Nat.{ℕ, ◌*◌, ◌<◌}
@@ -11,8 +12,6 @@ use Rattle.shape.specs.declared.Shape.{Shape}
 use Rattle.shape.specs.declared.Plan.{Plan}
 use Rattle.spans.specs.declared.run.Way.{Way}
 use Rattle.spans.specs.Numbers.{remainder_of}
-use Rattle.outline.specs.declared.Drawn.{Drawn}
-use Rattle.outline.specs.declared.Drawn.TheVariants.{Done}
 use Rattle.outline.specs.declared.Figures.{Figures}
 use Rattle.outline.specs.Outline.{draws}
 use Rattle.outline.specs.View.{part_of, viewed}
@@ -26,10 +25,10 @@ use Rattle.drawing.specs.declared.State as drawing
 use Rattle.drawing.specs.declared.Step.{Step}
 use Rattle.drawing.specs.Reading.{stepped}
 use Rattle.drawing.specs.Sequences.{begin, drawn}
-use Rattle.preview.specs.declared.Previewed.TheVariants as preview
 use Rattle.preview.specs.Preview.{previewing}
 use Rattle.mirror.specs.Mirror.{Axis, across, mirrored, mirror, mirror_drawn, mirror_chosen, mirror_edit, mirror_edited, mirror_state, mirror_call}
 use Rattle.mirror.specs.Steps.{minus_measure, mirror_step, mirror_drawing, mirror_stepped, mirror_held, opposite, mirror_previewed}
+use Rattle.shape.specs.declared.Refusal.{Refusal}
 use Rattle.mirror.proofs.Points as numbers
 use Rattle.mirror.proofs.Drawings as drawings
 use Rattle.mirror.proofs.Cuts as cut
@@ -56,11 +55,11 @@ mirror-chooses = cut.mirror-chooses
 -- into any other list as long: all points on the axis are negated, and those on the other stay
 pub mirror-points :
     (axis : Axis) (s : Shape) (controls lent : List ℤ) (fs : Figures) (held : List ℤ)
-    → draws s controls lent ≡ outcome (Done fs) held
+    → draws s controls lent ≡ outcome (Ok fs) held
     → (other : List ℤ)
     → length other ≡ length lent
     → (held' : List ℤ)
-    × (draws s (mirror axis controls) other ≡ outcome (Done fs) held')
+    × (draws s (mirror axis controls) other ≡ outcome (Ok fs) held')
     × ((q : ℕ) → q < 2 * fs.points → get_or held' q (pos 0) ≡ across neg_ℤ axis q (get_or held q (pos 0)))
 mirror-points = drawings.mirror-points
 
@@ -70,7 +69,7 @@ mirror-remainders = numbers.remainder-mirror
 
 -- and this is said of the code: of two drawing calls, each by whichever way
 pub code-mirror-draws :
-    (axis : Axis) (w v : Way) (s : Shape) (controls lent : List ℤ) (o u : Outcome Drawn (List ℤ))
+    (axis : Axis) (w v : Way) (s : Shape) (controls lent : List ℤ) (o u : Outcome (Result Figures Refusal) (List ℤ))
     → MeetsDrawing w (s, controls, lent) o
     → MeetsDrawing v (s, mirror axis controls, mirror axis lent) u
     → u ≡ mirror_drawn axis o
@@ -125,10 +124,10 @@ mirror-previewing = previews.mirror-previewing
 -- into any other list as long: all points on the axis are the opposite ones, and those on the other stay
 pub mirror-preview-points :
     (axis : Axis) (s : Shape) (controls : List ℤ) (lent : List Float) (n : ℕ) (l : List Float)
-    → previewing s controls lent ≡ outcome (preview.Drawn n) l
+    → previewing s controls lent ≡ outcome (Ok n) l
     → (other : List Float)
     → length other ≡ length lent
     → (l' : List Float)
-    × (previewing s (mirror axis controls) other ≡ outcome (preview.Drawn n) l')
+    × (previewing s (mirror axis controls) other ≡ outcome (Ok n) l')
     × ((q : ℕ) → q < 2 * n → get_or l' q nan ≡ across opposite axis q (get_or l q nan))
 mirror-preview-points = previews.mirror-preview-points

@@ -1,5 +1,6 @@
 -- The parameter of a cardinal curve (document 02, request 7). At 0 and at 32 every point, and how many coordinates are exact, is what document 01 gives at one half; of another basis any parameter answers alike;
 -- one above 64 is refused with 24 by every call that has a shape of basis 3; edits hand it on; and a file without parameters is read as document 01 reads it.
+use Rattle.std.specs.Prelude.{Err, Ok, Result}
 use mathlib.Core.Bool.{Bool, true, false, not, cond, ◌&&◌, ◌||◌}
 use mathlib.Core.List.{List, [], ◌∷◌, ◌++◌}
 use mathlib.Core.Logic.{◌⊎◌, inl, inr, ⊎_elim}
@@ -32,14 +33,12 @@ use Rattle.curve.proofs.Stride.{unit-first}
 use Rattle.shape.specs.declared.Shape.{Shape}
 use Rattle.shape.specs.declared.Plan.{Plan}
 use Rattle.shape.specs.declared.Refusal.{Refusal}
-use Rattle.shape.specs.declared.Judged.TheVariants.{Unsound}
 use Rattle.shape.specs.Shape.{last_basis, cardinal, sixty_fourths, basis_of, spans_of, allowed}
 use Rattle.shape.specs.Refusals.{Row, row, judge, basis_row, depth_row, parameter_row, count_row, shape_rows, plan_of, judge_shape}
 use Rattle.shape.proofs.Refusals.{judge-append, unsound, first-unsound}
 use Rattle.spans.specs.Numbers.{sum_of, number, remainder_of, nought, noughts, exact_in}
 use Rattle.pieces.proofs.Even.{nought-times}
 use Rattle.outline.specs.declared.Figures.{Figures}
-use Rattle.outline.specs.declared.Drawn.TheVariants as drawn
 use Rattle.outline.specs.Outline as outline
 use Rattle.outline.specs.Outline.{draws}
 use Rattle.outline.specs.View.{empty_part, out_of_sight, part_of}
@@ -47,26 +46,21 @@ use Rattle.outline.proofs.Draws.{draws-unsound}
 use Rattle.outline.proofs.Exactly.{done-figures}
 use Rattle.outline.proofs.Held.{held_number}
 use Rattle.outline.proofs.Views.{span_part, part-unsound}
-use Rattle.tolerance.specs.declared.Chosen.TheVariants as chosen
 use Rattle.tolerance.specs.Reading as choice
 use Rattle.tolerance.specs.Reading.{chooses}
 use Rattle.tolerance.proofs.Chooses.{chooses-unsound}
 use Rattle.asked.specs.declared.Edit.{Edit}
-use Rattle.edit.specs.declared.Edited.{Edited}
-use Rattle.edit.specs.declared.Edited.TheVariants as edited
 use Rattle.edit.specs.Reading as reading
 use Rattle.edit.specs.Reading.{shape_after, edits}
 use Rattle.edit.proofs.Rows.{shape-bad}
 use Rattle.sequences.specs.Played.{State, Call, played}
 use Rattle.sequences.proofs.Played.{played-leaves}
-use Rattle.preview.specs.declared.Previewed.TheVariants as previewed
 use Rattle.preview.specs.Preview as preview
 use Rattle.preview.specs.Preview.{previewing}
-use Rattle.record_file.specs.declared.Reading.{Reading}
-use Rattle.record_file.specs.declared.Reading.TheVariants as read
 use Rattle.record_file.specs.Format.{byte, numbers}
 use Rattle.record_file.specs.Rows.{zeros_row, alike_row, record_rows, length_rows, list_rows, record_count, shape_of, reading as reading_file}
 use Rattle.promises.specs.Parameters.{with_parameter, but_parameter, half_controls, half_sum, half_number, half_remainder, old_zeros_row, old_alike_row, old_record_rows, old_shape, old_reading}
+use Rattle.edit.specs.declared.Change.{Change}
 
 -- ---- at one half
 
@@ -132,7 +126,7 @@ half-basis s three half =
 
 -- After an accepted drawing of it, each coordinate is document 01's, and so is the figure of exact ones.
 pub drawn-at-half : (s : Shape) → s.basis ≡ cardinal → (s.parameter ≡ 0) ⊎ (s.parameter ≡ 32)
-    → (controls lent : List ℤ) (fs : Figures) (held : List ℤ) → draws s controls lent ≡ outcome (drawn.Done fs) held
+    → (controls lent : List ℤ) (fs : Figures) (held : List ℤ) → draws s controls lent ≡ outcome (Ok fs) held
     → ((q : ℕ) → q < 2 * fs.points → get_or held q (pos 0) ≡ half_number s.depth (plan_of s).spans controls q)
     × (fs.exact ≡ noughts (tab (half_remainder s.depth (plan_of s).spans controls) 0 (2 * fs.points)))
 unfolding plan_of
@@ -211,17 +205,17 @@ module _ (s : Shape) (c d : ℕ) (alike : Alike s c d) where
   pub draws-alike : (controls lent : List ℤ) → draws one controls lent ≡ draws other controls lent
   unfolding draws
   draws-alike controls lent =
-      λ x. judge (rows x ++ outline.plan_rows s.count (plans x) controls lent) (refuses drawn.Refused lent) (outline.accepts (plans x) controls lent)
+      λ x. judge (rows x ++ outline.plan_rows s.count (plans x) controls lent) (refuses Err lent) (outline.accepts (plans x) controls lent)
 
   pub cuts-alike : (tolerance most : ℕ) (controls lent : List ℤ) → chooses one tolerance most controls lent ≡ chooses other tolerance most controls lent
   unfolding chooses
   cuts-alike tolerance most controls lent =
-      λ x. judge (rows x ++ choice.plan_rows s.count (plans x) tolerance most controls lent) (refuses chosen.Refused lent) (choice.accepts (plans x) tolerance controls lent)
+      λ x. judge (rows x ++ choice.plan_rows s.count (plans x) tolerance most controls lent) (refuses Err lent) (choice.accepts (plans x) tolerance controls lent)
 
   pub previews-alike : (controls : List ℤ) (points : List Float) → previewing one controls points ≡ previewing other controls points
   unfolding previewing
   previews-alike controls points =
-      λ x. judge (rows x ++ preview.later_rows s (plans x) controls (length points)) (refuses previewed.Refused points) (preview.accepts (plans x) controls points)
+      λ x. judge (rows x ++ preview.later_rows s (plans x) controls (length points)) (refuses Err points) (preview.accepts (plans x) controls points)
 
   pub views-alike : (t : ℕ) (lent : List ℤ) → part_of one t lent ≡ part_of other t lent
   unfolding part_of
@@ -233,8 +227,8 @@ module _ (s : Shape) (c d : ℕ) (alike : Alike s c d) where
   edits-alike e j controls lent =
       let after = shape_after e s in
       let nexts : plan_of (with_parameter c after) ≡ plan_of (with_parameter d after) = λ x. record { basis = alike.basis after.count x; depth = s.depth; spans = spans_of (alike.basis after.count x) after.count } in
-      let f : Refusal → Outcome Edited (List ℤ × List ℤ) = λ r. outcome (edited.Refused r) (controls, lent) in
-      let came : Shape → Outcome Edited (List ℤ × List ℤ) = λ t. reading.accepts e t (plan_of (shape_after e t)) j controls lent in
+      let f : Refusal → Outcome (Result Change Refusal) (List ℤ × List ℤ) = λ r. outcome (Err r) (controls, lent) in
+      let came : Shape → Outcome (Result Change Refusal) (List ℤ × List ℤ) = λ t. reading.accepts e t (plan_of (shape_after e t)) j controls lent in
       judged but_parameter (shape_rows one ++ reading.edit_rows e one (plan_of one) (plan_of (shape_after e one)) j controls lent) f (came one)
       ∙ (λ x. judge (rows x ++ reading.edit_rows e s (plans x) (nexts x) j controls lent) (λ r. but_parameter (f r)) (but_parameter (reading.accepts e s (nexts x) j controls lent)))
       ∙ sym (judged but_parameter (shape_rows other ++ reading.edit_rows e other (plan_of other) (plan_of (shape_after e other)) j controls lent) f (came other))
@@ -246,24 +240,24 @@ module _ (s : Shape) (three : s.basis ≡ cardinal) (shallow : s.depth ≤ deepe
   abbrev above : Refusal
   above = record { number = 24; place = 0 }
 
-  refused : judge_shape s ≡ Unsound above
+  refused : judge_shape s ≡ Err above
   refused =
       let no-basis : (basis_row s).holds ≡ false = simp (le-leb 1 s.basis (omega (arith, three)), le-leb s.basis last_basis (omega (arith, three))) in
       first-unsound s above (inr (no-basis, inr (le-ltb deepest s.depth shallow, inl (simp (eq-eqb s.basis cardinal three, lt-ltb most_parameter s.parameter past), refl))))
 
-  pub drawing-refused : (controls lent : List ℤ) → draws s controls lent ≡ refuses drawn.Refused lent above
+  pub drawing-refused : (controls lent : List ℤ) → draws s controls lent ≡ refuses Err lent above
   drawing-refused controls lent = draws-unsound s above refused controls lent
 
-  pub cutting-refused : (tolerance most : ℕ) (controls lent : List ℤ) → chooses s tolerance most controls lent ≡ refuses chosen.Refused lent above
+  pub cutting-refused : (tolerance most : ℕ) (controls lent : List ℤ) → chooses s tolerance most controls lent ≡ refuses Err lent above
   cutting-refused tolerance most controls lent = chooses-unsound s tolerance most controls lent above refused
 
-  pub edit-refused : (e : Edit) (j : ℕ) (controls lent : List ℤ) → edits e s j controls lent ≡ refuses edited.Refused (controls, lent) above
+  pub edit-refused : (e : Edit) (j : ℕ) (controls lent : List ℤ) → edits e s j controls lent ≡ refuses Err (controls, lent) above
   edit-refused e j controls lent = shape-bad e s j controls lent above refused
 
   -- the preview too, which basis 3 does not have
-  pub preview-refused : (controls : List ℤ) (points : List Float) → previewing s controls points ≡ refuses previewed.Refused points above
+  pub preview-refused : (controls : List ℤ) (points : List Float) → previewing s controls points ≡ refuses Err points above
   unfolding previewing
-  preview-refused controls points = unsound s above refused (preview.later_rows s (plan_of s) controls (length points)) (refuses previewed.Refused points) (preview.accepts (plan_of s) controls points)
+  preview-refused controls points = unsound s above refused (preview.later_rows s (plan_of s) controls (length points)) (refuses Err points) (preview.accepts (plan_of s) controls points)
 
   pub view-empty : (t : ℕ) (lent : List ℤ) → part_of s t lent ≡ empty_part
   view-empty t lent = part-unsound s above t lent refused
@@ -316,12 +310,12 @@ module _ (file : List ℕ) (none : (r : ℕ) → byte file r 2 ≡ 0) where
   read-as-before controls =
       let n = record_count file in
       let s = old_shape file n in
-      let f = refuses read.Refused controls in
-      let a : Outcome Reading (List ℤ) = outcome (read.Read s) (sets controls 0 (numbers file n)) in
+      let f = refuses Err controls in
+      let a : Outcome (Result Shape Refusal) (List ℤ) = outcome (Ok s) (sets controls 0 (numbers file n)) in
       let lists = list_rows file n controls in
       let later : judge (shape_rows s ++ lists) f a ≡ judge (basis_row s ∷ depth_row s ∷ count_row s ∷ lists) f a =
       ap (λ (t : Bool). judge (basis_row s ∷ depth_row s ∷ row t 24 0 ∷ count_row s ∷ lists) f a) (and_none (eqb s.basis cardinal)) in
-      (λ x. judge (length_rows (length file) ++ (records-before 0 n x ++ (shape_rows (shape-before n x) ++ lists))) f (outcome (read.Read (shape-before n x)) (sets controls 0 (numbers file n))))
+      (λ x. judge (length_rows (length file) ++ (records-before 0 n x ++ (shape_rows (shape-before n x) ++ lists))) f (outcome (Ok (shape-before n x)) (sets controls 0 (numbers file n))))
       ∙ judge-append (length_rows (length file)) (old_record_rows file 0 n ++ (shape_rows s ++ lists)) f a
       ∙ ap (judge (length_rows (length file)) f) (judge-append (old_record_rows file 0 n) (shape_rows s ++ lists) f a ∙ ap (judge (old_record_rows file 0 n) f) later ∙ sym (judge-append (old_record_rows file 0 n) (basis_row s ∷ depth_row s ∷ count_row s ∷ lists) f a))
       ∙ sym (judge-append (length_rows (length file)) (old_record_rows file 0 n ++ (basis_row s ∷ depth_row s ∷ count_row s ∷ lists)) f a)

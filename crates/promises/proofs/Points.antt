@@ -1,4 +1,5 @@
 -- Demand 2: after an accepted drawing each point is the published curve of its basis at its step, worked exactly and rounded once.
+use Rattle.std.specs.Prelude.{Ok}
 use mathlib.Core.Path.{◌≡◌, ◌∙◌}
 use mathlib.Core.List.{List}
 use Prim.Native.Nat.{ℕ, ◌*◌, ◌-◌, ◌/◌, ◌%◌, ◌^◌, ◌<◌, min}
@@ -17,7 +18,6 @@ use Rattle.shape.specs.declared.Shape.{Shape}
 use Rattle.shape.specs.declared.Plan.{Plan}
 use Rattle.shape.specs.Refusals.{plan_of}
 use Rattle.spans.specs.Numbers.{sum_of, number}
-use Rattle.outline.specs.declared.Drawn.TheVariants.{Done}
 use Rattle.outline.specs.declared.Figures.{Figures}
 use Rattle.outline.specs.Outline.{points, draws}
 use Rattle.outline.proofs.Held.{held_number}
@@ -42,7 +42,7 @@ number-published p controls q =
 -- after an accepted drawing, by whichever way: the three calls have this one reading
 pub drawn-published :
     (s : Shape) (controls lent : List ℤ) (fs : Figures) (held : List ℤ)
-    → draws s controls lent ≡ outcome (Done fs) held
+    → draws s controls lent ≡ outcome (Ok fs) held
     → (q : ℕ)
     → q < 2 * points (plan_of s)
     → get_or held q (pos 0) ≡ published_number (plan_of s) controls q

@@ -1,5 +1,6 @@
 -- Demand 3, from its first word to its last: start from a drawn outline; after any calls, with any arguments and refused ones among them, the points are the outline of the
 -- controls as they stand. And this is said of the code: over the contracts that are generated from the source, calls end where the reading of one call after another ends.
+use Rattle.std.specs.Prelude.{Err, Ok}
 use mathlib.Core.Path.{◌≡◌, sym, ◌∙◌, subst}
 use mathlib.Core.List.{List}
 use lib.IntN.{ℤ}
@@ -8,10 +9,8 @@ use Rattle.shape.specs.declared.Shape.{Shape}
 use Rattle.shape.specs.declared.Refusal.{Refusal}
 use Rattle.shape.specs.Refusals.{plan_of}
 use Rattle.spans.specs.declared.run.Way.{Way}
-use Rattle.outline.specs.declared.Drawn.TheVariants.{Done}
 use Rattle.outline.specs.declared.Figures.{Figures}
 use Rattle.outline.specs.Outline.{draws}
-use Rattle.edit.specs.declared.Edited.TheVariants.{Refused}
 use Rattle.sequences.specs.Played.{State, Call, state, answered, called, played, Outlined, Redraws}
 use Rattle.sequences.specs.Calls.{MeetsDrawing, Ends}
 use Rattle.sequences.proofs.Played as sequences
@@ -31,13 +30,13 @@ after-any-calls t calls out q h =
 -- from an accepted drawing, after any list of calls: drawing again would be done and change nothing, and each point is the published curve's
 pub drawn-then-any-calls :
     (s : Shape) (controls lent : List ℤ) (fs : Figures) (held : List ℤ) (calls : List Call)
-    → draws s controls lent ≡ outcome (Done fs) held
+    → draws s controls lent ≡ outcome (Ok fs) held
     → Redraws (played (state s controls held) calls) × Published (played (state s controls held) calls)
 drawn-then-any-calls s controls lent fs held calls accepted =
     (again.drawn-played-redraws s controls lent fs held calls accepted, after-any-calls (state s controls held) calls (sequences.drawn-outlined s controls lent fs held accepted))
 
 -- a call that answers a refusal leaves shape, controls and points as they were
-pub refused-keeps : (t : State) (c : Call) (r : Refusal) → (answered t c).answer ≡ Refused r → called t c ≡ t
+pub refused-keeps : (t : State) (c : Call) (r : Refusal) → (answered t c).answer ≡ Err r → called t c ≡ t
 refused-keeps = sequences.refused-keeps
 
 -- ---- by the contracts of the code
@@ -48,14 +47,14 @@ code-ends-played t list last = (calls.ends-played t list last, λ is. subst (End
 
 -- a drawing call of the code, by whichever way, comes to what its reading gives, and to nothing else
 pub code-draws : (w : Way) (s : Shape) (controls lent : List ℤ) (fs : Figures) (held : List ℤ)
-    → (MeetsDrawing w (s, controls, lent) (outcome (Done fs) held) → draws s controls lent ≡ outcome (Done fs) held)
-    × (draws s controls lent ≡ outcome (Done fs) held → MeetsDrawing w (s, controls, lent) (outcome (Done fs) held))
+    → (MeetsDrawing w (s, controls, lent) (outcome (Ok fs) held) → draws s controls lent ≡ outcome (Ok fs) held)
+    × (draws s controls lent ≡ outcome (Ok fs) held → MeetsDrawing w (s, controls, lent) (outcome (Ok fs) held))
 code-draws w s controls lent fs held = (calls.meets-draws w s controls lent _, λ is. subst (MeetsDrawing w (s, controls, lent)) is (calls.draws-meets w s controls lent))
 
 -- so an accepted drawing call, and after it any calls of the code, leave a state in which drawing again would change nothing and each point is the published curve's
 pub code-then-any-calls :
     (w : Way) (s : Shape) (controls lent : List ℤ) (fs : Figures) (held : List ℤ) (list : List Call) (last : State)
-    → MeetsDrawing w (s, controls, lent) (outcome (Done fs) held)
+    → MeetsDrawing w (s, controls, lent) (outcome (Ok fs) held)
     → Ends (state s controls held) list last
     → Redraws last × Published last
 code-then-any-calls w s controls lent fs held list last drawn ends =

@@ -1,5 +1,6 @@
 -- How far the cut strays (document 02, request 13). `Within f z d` says that z / d is, in size, at most the bound f, a fraction of micrometres; `off_chord w j a c z` is how far z is from the chord between a
 -- and c at the fraction j / w, times w; `finer l` takes a value of one depth over the divisor of l depths more. Every step of every finer depth is one of those named here.
+use Rattle.std.specs.Prelude.{Ok}
 use mathlib.Core.Path.{◌≡◌}
 use mathlib.Core.Bool.{true}
 use mathlib.Core.List.{List}
@@ -21,11 +22,9 @@ use Rattle.shape.specs.Refusals.{plan_of}
 use Rattle.spans.specs.declared.run.Way.{Way}
 use Rattle.spans.specs.Numbers.{sum_of, remainder_of}
 use Rattle.outline.specs.declared.Figures.{Figures}
-use Rattle.outline.specs.declared.Drawn.TheVariants as drawn
 use Rattle.outline.specs.Outline.{points, draws}
 use Rattle.pieces.specs.Tree.{finest, flat_on}
 use Rattle.tolerance.specs.declared.Steps.{Steps}
-use Rattle.tolerance.specs.declared.Chosen.TheVariants.{Done}
 use Rattle.tolerance.specs.Reading.{chooses}
 use Rattle.tolerance.specs.Steps.{steps_along}
 use Rattle.sequences.specs.Calls.{MeetsDrawing}
@@ -68,17 +67,17 @@ one p controls q = record { same = value-published p controls q }
 
 -- ---- A drawing answered fs, and left the points `held`.
 
-module _ (s : Shape) (controls lent : List ℤ) (fs : Figures) (held : List ℤ) (done : draws s controls lent ≡ outcome (drawn.Done fs) held) where
+module _ (s : Shape) (controls lent : List ℤ) (fs : Figures) (held : List ℤ) (done : draws s controls lent ≡ outcome (Ok fs) held) where
   abbrev p : Plan
   p = plan_of s
 
   -- each of its points is found again at every deeper depth: that is drawn too, wherever shapes allow the depth and the list has room
   pub drawn-deeper : (l : ℕ) (list : List ℤ) → s.depth + l ≤ deepest → 2 * points (plan_of (shape_at (s.depth + l) s)) ≤ length list
-      → (gs : Figures) × (now : List ℤ) × (draws (shape_at (s.depth + l) s) controls list ≡ outcome (drawn.Done gs) now)
+      → (gs : Figures) × (now : List ℤ) × (draws (shape_at (s.depth + l) s) controls list ≡ outcome (Ok gs) now)
   drawn-deeper = again.drawn-deeper s controls lent fs held done
 
   -- and point g of depth k is point g·2^l of depth k + l, as whole numbers in the lent lists
-  pub found-again : (l : ℕ) (list : List ℤ) (gs : Figures) (now : List ℤ) → draws (shape_at (s.depth + l) s) controls list ≡ outcome (drawn.Done gs) now
+  pub found-again : (l : ℕ) (list : List ℤ) (gs : Figures) (now : List ℤ) → draws (shape_at (s.depth + l) s) controls list ≡ outcome (Ok gs) now
       → (g axis : ℕ) → g < fs.points → axis < 2 → get_or now (2 * (g * 2 ^ l) + axis) (pos 0) ≡ get_or held (2 * g + axis) (pos 0)
   found-again = again.found-again s controls lent fs held done
 
@@ -97,7 +96,7 @@ module _ (s : Shape) (controls lent : List ℤ) (fs : Figures) (held : List ℤ)
 
 -- the same of the code, by any two ways
 pub code-found-again : (v w : Way) (s : Shape) (l : ℕ) (controls lent list : List ℤ) (fs gs : Figures) (held now : List ℤ)
-    → MeetsDrawing v (s, controls, lent) (outcome (drawn.Done fs) held) → MeetsDrawing w (shape_at (s.depth + l) s, controls, list) (outcome (drawn.Done gs) now)
+    → MeetsDrawing v (s, controls, lent) (outcome (Ok fs) held) → MeetsDrawing w (shape_at (s.depth + l) s, controls, list) (outcome (Ok gs) now)
     → (g axis : ℕ) → g < fs.points → axis < 2 → get_or now (2 * (g * 2 ^ l) + axis) (pos 0) ≡ get_or held (2 * g + axis) (pos 0)
 code-found-again v w s l controls lent list fs gs held now met again-met = found-again s controls lent fs held (meets-draws v s controls lent _ met) l list gs now (meets-draws w (shape_at (s.depth + l) s) controls list _ again-met)
 
@@ -107,7 +106,7 @@ remainder-again = again.remainder-again
 
 -- ---- Drawing by tolerance answered f, and left the points `held`: between two neighbours of them, points r and r + 1.
 
-module _ (s : Shape) (tolerance most : ℕ) (controls lent : List ℤ) (f : Steps) (held : List ℤ) (done : chooses s tolerance most controls lent ≡ outcome (Done f) held) (r l axis : ℕ) (h : r + 1 < f.points) (a : axis < 2) where
+module _ (s : Shape) (tolerance most : ℕ) (controls lent : List ℤ) (f : Steps) (held : List ℤ) (done : chooses s tolerance most controls lent ≡ outcome (Ok f) held) (r l axis : ℕ) (h : r + 1 < f.points) (a : axis < 2) where
   abbrev pl : Plan
   pl = plan_of s
 

@@ -1,5 +1,6 @@
 -- Steps chosen by tolerance (document 02, request 3): an outline that cuts a span at its middle only while needed. The trees are those of `pieces/specs/Tree`: `tree_of p tolerance controls t` is that of
 -- span t, and `cuts_of` counts the inner nodes of all of them. What is refused, and when, is in `Refusals`.
+use Rattle.std.specs.Prelude.{Ok}
 use mathlib.Core.Path.{◌≡◌, refl, ◌∙◌}
 use mathlib.Core.List.{List, [], ◌∷◌}
 use mathlib.Core.Logic.{◌↔◌}
@@ -16,7 +17,6 @@ use Rattle.shape.specs.declared.Plan.{Plan}
 use Rattle.shape.specs.Refusals.{plan_of}
 use Rattle.spans.specs.Numbers.{sum_of, number, remainder_of, noughts}
 use Rattle.spans.specs.Inner.{wholes, remainders}
-use Rattle.outline.specs.declared.Drawn.TheVariants as drawn
 use Rattle.outline.specs.Outline.{draws}
 use Rattle.pieces.specs.Tree.{finest, most_tolerance, most_cuts, Sound}
 use Rattle.pieces.specs.Scan.{met_all, scan}
@@ -24,7 +24,6 @@ use Rattle.pieces.specs.Steps.{Rises}
 use Rattle.pieces.proofs.Even.{sums_at}
 use Rattle.pieces.proofs.Scans as pieces
 use Rattle.tolerance.specs.declared.Steps.{Steps}
-use Rattle.tolerance.specs.declared.Chosen.TheVariants.{Done}
 use Rattle.tolerance.specs.Reading.{controls_of, tree_of, trees_of, walk_of, cuts_of, chooses}
 use Rattle.tolerance.specs.Steps.{steps_along, finest_shape, finest_plan}
 use Rattle.tolerance.proofs.Along as along
@@ -71,7 +70,7 @@ exact-at p controls (g ∷ steps) = λ i. counts_whole p controls (2 * g) i + (c
 
 -- ---- The call answered f, and left the points `held`.
 
-module _ (s : Shape) (tolerance most : ℕ) (controls lent : List ℤ) (f : Steps) (held : List ℤ) (done : chooses s tolerance most controls lent ≡ outcome (Done f) held) where
+module _ (s : Shape) (tolerance most : ℕ) (controls lent : List ℤ) (f : Steps) (held : List ℤ) (done : chooses s tolerance most controls lent ≡ outcome (Ok f) held) where
   abbrev p : Plan
   p = plan_of s
 
@@ -99,9 +98,9 @@ module _ (s : Shape) (tolerance most : ℕ) (controls lent : List ℤ) (f : Step
   answered-exact = along.exact-along s tolerance most controls lent f held done ∙ exact-at (finest_plan p) controls steps
 
   -- where every piece above depth 6 is cut, which makes 63 cuts a span, it is the even outline at depth 6: drawing that leaves the same list and answers the same figures
-  pub answered-even : f.cuts ≡ most_cuts * p.spans → draws (finest_shape s) controls lent ≡ outcome (drawn.Done (record { points = f.points; exact = f.exact })) held
+  pub answered-even : f.cuts ≡ most_cuts * p.spans → draws (finest_shape s) controls lent ≡ outcome (Ok (record { points = f.points; exact = f.exact })) held
   answered-even full = evenly.even-outline s tolerance most controls lent f held done full
 
   -- more tolerance, up to 10,000, is accepted too, and never needs more cuts
-  pub more-tolerance : (more : ℕ) → tolerance ≤ more → more ≤ most_tolerance → (g : Steps) × (now : List ℤ) × (chooses s more most controls lent ≡ outcome (Done g) now) × (g.cuts ≤ f.cuts)
+  pub more-tolerance : (more : ℕ) → tolerance ≤ more → more ≤ most_tolerance → (g : Steps) × (now : List ℤ) × (chooses s more most controls lent ≡ outcome (Ok g) now) × (g.cuts ≤ f.cuts)
   more-tolerance bigger h near = more.more-tolerant s tolerance most controls lent f held done bigger h near

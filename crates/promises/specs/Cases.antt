@@ -1,10 +1,8 @@
 -- P1 to P12 of document 01 ("Sums to hold it to") as one list of cases. A case is what the definitions give and what the paper gives, each as a list of whole numbers: of
 -- P1 to P11 the number and the values of the call's answer and what the lent lists then hold.
-use Rattle.std.specs.Prelude.{List, [], ◌∷◌, ◌++◌, map, ℕ, ◌+◌, ◌*◌, ◌^◌, ℤ, pos, replicate}
+use Rattle.std.specs.Prelude.{List, [], ◌∷◌, ◌++◌, map, ℕ, ◌+◌, ◌*◌, ◌^◌, ℤ, pos, replicate, Ok, Result}
 use Rattle.whole.specs.Outcome.{Outcome, outcome}
 use Rattle.curve.specs.Numbers.{neg}
-use Rattle.outline.specs.declared.Drawn.{Drawn}
-use Rattle.outline.specs.declared.Drawn.TheVariants as drawing
 use Rattle.outline.specs.Outline as outline
 use Rattle.outline.specs.Outline.{draws}
 use Rattle.outline.specs.Cases as outline-cases
@@ -14,18 +12,19 @@ use Rattle.doubles.specs.Number as number
 use Rattle.shape.specs.declared.Shape.{Shape}
 use Rattle.shape.specs.Exactly as answer
 use Rattle.asked.specs.declared.Edit.TheVariants.{Move, Insert, Remove}
-use Rattle.edit.specs.declared.Edited.{Edited}
-use Rattle.edit.specs.declared.Edited.TheVariants.{Done}
 use Rattle.edit.specs.Cases as edit
 use Rattle.edit.specs.Reading as reading
 use Rattle.edit.specs.Reading.{edits}
+use Rattle.edit.specs.declared.Change.{Change}
+use Rattle.outline.specs.declared.Figures.{Figures}
+use Rattle.shape.specs.declared.Refusal.{Refusal}
 
 pub record Case : Type 0 where
   pub given : List ℤ
   pub paper : List ℤ
 
 -- P1 to P8: what drawing a span comes to.
-abbrev pub told_drawn : Outcome Drawn (List ℤ) → List ℤ
+abbrev pub told_drawn : Outcome (Result Figures Refusal) (List ℤ) → List ℤ
 told_drawn o = pos (answer.number (outline.told o.answer)) ∷ answer.values (outline.told o.answer) ++ o.held
 
 abbrev pub of_drawing : outline-cases.Case → Case
@@ -36,18 +35,18 @@ abbrev pub start : Case
 start =
     record {
       given = told_drawn (draws (edit.cardinal 6) edit.controls_before (replicate 10 (neg 1)));
-      paper = told_drawn (outcome (drawing.Done (record { points = 4; exact = 8 })) edit.held_before);
+      paper = told_drawn (outcome (Ok (record { points = 4; exact = 8 })) edit.held_before);
     }
 
 -- P9 to P11: what an edit of it comes to.
-abbrev pub told : Outcome Edited (List ℤ × List ℤ) → List ℤ
+abbrev pub told : Outcome (Result Change Refusal) (List ℤ × List ℤ) → List ℤ
 told o = pos (answer.number (reading.told o.answer)) ∷ answer.values (reading.told o.answer) ++ (o.held.0 ++ o.held.1)
 
 abbrev pub of_edit : edit.Case → Case
 of_edit c =
     record {
       given = told (edits c.edit (edit.cardinal 6) c.place edit.controls_before edit.held_before);
-      paper = told (outcome (Done (record { shape = edit.cardinal c.count; first = c.first; fresh = c.fresh; exact = c.exact })) (c.controls, c.held));
+      paper = told (outcome (Ok (record { shape = edit.cardinal c.count; first = c.first; fresh = c.fresh; exact = c.exact })) (c.controls, c.held));
     }
 
 -- P12: 0.0625 mm is 63, -0.0625 mm is -63 (document 02, request 1); 4000.00048828125 mm is accepted, 4000.0009765625 mm gives 11. These doubles are 1/2^4, -1/2^4, 4000 + 1/2^11 and
@@ -78,7 +77,7 @@ abbrev pub square : Case
 square =
     record {
       given = told_drawn (draws (loop_of 1 4) (edit.flat (0 ∷ 12 ∷ 24 ∷ 12 ∷ [])) (replicate 20 (neg 1)));
-      paper = told_drawn (outcome (drawing.Done (record { points = 9; exact = 14 })) (edit.flat (12 ∷ 18 ∷ 20 ∷ 18 ∷ 12 ∷ 7 ∷ 4 ∷ 7 ∷ 12 ∷ []) ++ edit.free));
+      paper = told_drawn (outcome (Ok (record { points = 9; exact = 14 })) (edit.flat (12 ∷ 18 ∷ 20 ∷ 18 ∷ 12 ∷ 7 ∷ 4 ∷ 7 ∷ 12 ∷ []) ++ edit.free));
     }
 
 abbrev pub loop_controls : List ℤ
@@ -91,7 +90,7 @@ abbrev pub six : Case
 six =
     record {
       given = told_drawn (draws (loop_of 0 6) loop_controls (replicate 16 (neg 1)));
-      paper = told_drawn (outcome (drawing.Done (record { points = 7; exact = 14 })) loop_held);
+      paper = told_drawn (outcome (Ok (record { points = 7; exact = 14 })) loop_held);
     }
 
 -- An edit of it and its place; the count, the first of the run going round, its spans and how many of their coordinates are exact; and what the lent lists then hold.
@@ -99,7 +98,7 @@ abbrev pub of_loop : edit.Case → Case
 of_loop c =
     record {
       given = told (edits c.edit (loop_of 0 6) c.place loop_controls loop_held);
-      paper = told (outcome (Done (record { shape = loop_of 0 c.count; first = c.first; fresh = c.fresh; exact = c.exact })) (c.controls, c.held));
+      paper = told (outcome (Ok (record { shape = loop_of 0 c.count; first = c.first; fresh = c.fresh; exact = c.exact })) (c.controls, c.held));
     }
 
 abbrev pub inserted : edit.Case
@@ -147,7 +146,7 @@ abbrev pub whole : Case
 whole =
     record {
       given = told (edits (Move (pos 36) (pos 0)) (loop_of 0 4) 3 (edit.flat (0 ∷ 12 ∷ 24 ∷ 12 ∷ [])) (replicate 10 (neg 1)));
-      paper = told (outcome (Done (record { shape = loop_of 0 4; first = 0; fresh = 4; exact = 10 })) (edit.flat (0 ∷ 12 ∷ 24 ∷ 36 ∷ []), edit.flat (12 ∷ 24 ∷ 28 ∷ 8 ∷ 12 ∷ [])));
+      paper = told (outcome (Ok (record { shape = loop_of 0 4; first = 0; fresh = 4; exact = 10 })) (edit.flat (0 ∷ 12 ∷ 24 ∷ 36 ∷ []), edit.flat (12 ∷ 24 ∷ 28 ∷ 8 ∷ 12 ∷ [])));
     }
 
 abbrev pub loops : List Case

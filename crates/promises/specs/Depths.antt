@@ -1,6 +1,6 @@
 -- What a build with another deepest depth answers (document 02, request 10): document 01's build had 6, this one has `deepest`. Of the table of weights and of the refusals alone the deepest depth is a
 -- part; a point's own definition has none. Definitions only.
-use Rattle.std.specs.Prelude.{List, [], ◌∷◌, ◌++◌, ℕ, ◌+◌, ◌*◌, ◌-◌, ◌^◌, ltb, ℤ, pos, length}
+use Rattle.std.specs.Prelude.{List, [], ◌∷◌, ◌++◌, ℕ, ◌+◌, ◌*◌, ◌-◌, ◌^◌, ltb, ℤ, pos, length, Err, Result}
 use Rattle.whole.specs.Outcome.{Outcome, refuses}
 use Rattle.whole.specs.Nearest.{nearest, remainder}
 use Rattle.curve.specs.declared.Four.{Four}
@@ -9,14 +9,11 @@ use Rattle.curve.specs.Span.{whole_controls, weighted, divisor}
 use Rattle.shape.specs.declared.Shape.{Shape}
 use Rattle.shape.specs.declared.Refusal.{Refusal}
 use Rattle.shape.specs.Refusals.{Row, row, judge, basis_row, parameter_row, count_row, plan_of}
-use Rattle.outline.specs.declared.Drawn.{Drawn}
-use Rattle.outline.specs.declared.Drawn.TheVariants as drawn
 use Rattle.outline.specs.Outline as outline
-use Rattle.record_file.specs.declared.Reading.{Reading}
-use Rattle.record_file.specs.declared.Reading.TheVariants as read
 use Rattle.record_file.specs.Rows as rows
 use Rattle.record_file.specs.Rows.{record_count, length_rows, record_rows, shape_of}
 use Rattle.file_list.specs.Files.{controls, points, drawn_text, read_text}
+use Rattle.outline.specs.declared.Figures.{Figures}
 
 -- ---- the table
 
@@ -41,10 +38,10 @@ abbrev pub call_of : {A : Type 0} → ℕ → Shape → List Row → (Refusal �
 call_of d s own refused accepted = judge (shape_rows_of d s ++ own) refused accepted
 
 -- Reading a file: the same rows come after those of its length and its records.
-abbrev pub reading_of : ℕ → List ℕ → List ℤ → Outcome Reading (List ℤ)
+abbrev pub reading_of : ℕ → List ℕ → List ℤ → Outcome (Result Shape Refusal) (List ℤ)
 reading_of d file lent =
     let n = record_count file in
-    judge (length_rows (length file) ++ (record_rows file 0 n ++ (shape_rows_of d (shape_of file n) ++ rows.list_rows file n lent))) (refuses read.Refused lent) (rows.accepts file n lent)
+    judge (length_rows (length file) ++ (record_rows file 0 n ++ (shape_rows_of d (shape_of file n) ++ rows.list_rows file n lent))) (refuses Err lent) (rows.accepts file n lent)
 
 -- ---- the listing that outline-list wrote
 
@@ -52,7 +49,7 @@ abbrev pub even_text_of : ℕ → Shape → List ℤ → List ℕ
 even_text_of d s held =
     let lent = points d in
     let p = plan_of s in
-    let o : Outcome Drawn (List ℤ) = call_of d s (outline.plan_rows s.count p held lent) (refuses drawn.Refused lent) (outline.accepts p held lent) in
+    let o : Outcome (Result Figures Refusal) (List ℤ) = call_of d s (outline.plan_rows s.count p held lent) (refuses Err lent) (outline.accepts p held lent) in
     drawn_text s o.held o.answer
 
 abbrev pub file_text_of : ℕ → List ℕ → List ℕ

@@ -1,5 +1,5 @@
 -- The parameter of a cardinal curve (document 02, request 7): the same shape with another one; document 01's cardinal curve, at one half; and document 01's record file, which had no parameter. Definitions only.
-use Rattle.std.specs.Prelude.{not, ◌&&◌, List, [], ◌∷◌, ◌++◌, ℕ, zero, suc, ◌*◌, ◌-◌, ◌/◌, ◌%◌, ◌^◌, min, eqb, ℤ, pos, ◌+ℤ◌, ◌-ℤ◌, ◌*ℤ◌, length}
+use Rattle.std.specs.Prelude.{not, ◌&&◌, List, [], ◌∷◌, ◌++◌, ℕ, zero, suc, ◌*◌, ◌-◌, ◌/◌, ◌%◌, ◌^◌, min, eqb, ℤ, pos, ◌+ℤ◌, ◌-ℤ◌, ◌*ℤ◌, length, Err, Ok, Result}
 use Rattle.std.proofs.lemmas.List.Edits.{sets}
 use Rattle.whole.specs.Nearest.{nearest, remainder}
 use Rattle.whole.specs.Outcome.{Outcome, outcome, refuses}
@@ -8,22 +8,20 @@ use Rattle.curve.specs.Four.{four}
 use Rattle.curve.specs.Span.{coordinate, records_from, weighted}
 use Rattle.shape.specs.declared.Shape.{Shape}
 use Rattle.shape.specs.Refusals.{Row, row, judge, basis_row, depth_row, count_row}
-use Rattle.edit.specs.declared.Edited.{Edited}
-use Rattle.edit.specs.declared.Edited.TheVariants as edited
-use Rattle.record_file.specs.declared.Reading.{Reading}
-use Rattle.record_file.specs.declared.Reading.TheVariants.{Read, Refused}
 use Rattle.record_file.specs.Format.{byte, numbers}
 use Rattle.record_file.specs.Rows.{length_rows, list_rows, record_count}
+use Rattle.edit.specs.declared.Change.{Change}
+use Rattle.shape.specs.declared.Refusal.{Refusal}
 
 abbrev pub with_parameter : ℕ → Shape → Shape
 with_parameter c s = record { basis = s.basis; depth = s.depth; count = s.count; parameter = c }
 
 -- What an edit comes to, with the parameter of its answer left out.
-abbrev pub without : Edited → Edited
-without (edited.Done c) = edited.Done (record { shape = with_parameter 0 c.shape; first = c.first; fresh = c.fresh; exact = c.exact })
-without (edited.Refused r) = edited.Refused r
+abbrev pub without : Result Change Refusal → Result Change Refusal
+without (Ok c) = Ok (record { shape = with_parameter 0 c.shape; first = c.first; fresh = c.fresh; exact = c.exact })
+without (Err r) = Err r
 
-abbrev pub but_parameter : Outcome Edited (List ℤ × List ℤ) → Outcome Edited (List ℤ × List ℤ)
+abbrev pub but_parameter : Outcome (Result Change Refusal) (List ℤ × List ℤ) → Outcome (Result Change Refusal) (List ℤ × List ℤ)
 but_parameter o = outcome (without o.answer) o.held
 
 -- ---- document 01's cardinal curve ("The curve, exactly")
@@ -68,7 +66,7 @@ old_rows file controls =
     let s = old_shape file n in
     length_rows (length file) ++ (old_record_rows file 0 n ++ (basis_row s ∷ depth_row s ∷ count_row s ∷ list_rows file n controls))
 
-abbrev pub old_reading : List ℕ → List ℤ → Outcome Reading (List ℤ)
+abbrev pub old_reading : List ℕ → List ℤ → Outcome (Result Shape Refusal) (List ℤ)
 old_reading file controls =
     let n = record_count file in
-    judge (old_rows file controls) (refuses Refused controls) (outcome (Read (old_shape file n)) (sets controls 0 (numbers file n)))
+    judge (old_rows file controls) (refuses Err controls) (outcome (Ok (old_shape file n)) (sets controls 0 (numbers file n)))

@@ -1,4 +1,5 @@
 -- A file of given records is read back: record by record its bytes are the fields they were made from, and so the table's rows are those of the records themselves.
+use Rattle.std.specs.Prelude.{Ok}
 use mathlib.Core.Path.{◌≡◌, refl, sym, ap, ◌∙◌, subst}
 use mathlib.Core.Bool.{Bool, true, false, not, ◌&&◌, ◌||◌}
 use mathlib.Core.List.{List, [], ◌∷◌, ◌++◌}
@@ -19,7 +20,6 @@ use Rattle.shape.specs.Refusals.{NoRow, shape_rows, controls_row, limits_row}
 use Rattle.shape.specs.Inner.{Lent}
 use Rattle.shape.proofs.Refusals.{none_both, none-earlier, row-fails, good-plan, lent-facts}
 use Rattle.shape.specs.Shape.{cardinal, most_records}
-use Rattle.record_file.specs.declared.Reading.TheVariants.{Read}
 use Rattle.record_file.specs.Format.{byte, word, signed, number, numbers, encoded}
 use Rattle.record_file.specs.Rows.{most_bytes, record_rows, record_count, later_rows, file_rows, shape_of, accepts, reading}
 use Rattle.record_file.proofs.Words.{coordinate-back}
@@ -120,7 +120,7 @@ module _ (basis depth parameter n : ℕ) (records controls : List ℤ) (even : l
       (spare (byte file r 3) (byte file r 2) (byte file r 0) d mine, (like, records-pass (suc r) m (omega arith)))
 
   -- Reading a file of given records gives them back, wherever a basis without a parameter has none and the rows of the records themselves pass: 1, 2, 24, 3, 7 and 8.
-  pub read_back : NoRow (shape_rows given ++ (controls_row n controls ∷ limits_row n records ∷ [])) → reading file controls ≡ outcome (Read given) (sets controls 0 records)
+  pub read_back : NoRow (shape_rows given ++ (controls_row n controls ∷ limits_row n records ∷ [])) → reading file controls ≡ outcome (Ok given) (sets controls 0 records)
   read_back h =
       let lists = controls_row n controls ∷ limits_row n records ∷ [] in
       let good = good-plan given (none-earlier (shape_rows given) lists h) in
@@ -142,7 +142,7 @@ module _ (basis depth parameter n : ℕ) (records controls : List ℤ) (even : l
               (subst (λ v. NoRow (shape_rows given ++ (controls_row n controls ∷ limits_row n v ∷ []))) (sym whole) h))),
         ),
       ) in
-      none_read file controls none ∙ ap (λ (m : ℕ). accepts file m controls) count ∙ (λ k. outcome (Read (shape k)) (sets controls 0 (whole k)))
+      none_read file controls none ∙ ap (λ (m : ℕ). accepts file m controls) count ∙ (λ k. outcome (Ok (shape k)) (sets controls 0 (whole k)))
     where
       same : Lent n records 0 0 → numbers file n ≡ records
       same lent =

@@ -1,15 +1,14 @@
 -- What reading a record file answers and leaves: the refusal table's rows in the order of document 01 (3 for the length, 13, then record by record 14 and 15, then
 -- 1, 2, 24, 3 for the shape, 7, 8), and one total reading over them. Definitions only.
-use Rattle.std.specs.Prelude.{not, cond, ◌&&◌, ◌||◌, List, [], ◌∷◌, ◌++◌, ℕ, zero, suc, ◌*◌, ◌/◌, ◌%◌, ltb, eqb, ℤ, pos, length}
+use Rattle.std.specs.Prelude.{not, cond, ◌&&◌, ◌||◌, List, [], ◌∷◌, ◌++◌, ℕ, zero, suc, ◌*◌, ◌/◌, ◌%◌, ltb, eqb, ℤ, pos, length, Err, Ok, Result}
 use Rattle.std.proofs.lemmas.List.Edits.{sets}
 use Rattle.whole.specs.Outcome.{Outcome, outcome, refuses}
 use Rattle.shape.specs.declared.Shape.{Shape}
 use Rattle.shape.specs.Shape.{cardinal, most_records}
 use Rattle.shape.specs.Refusals.{Row, row, judge, shape_rows, controls_row, limits_row}
 use Rattle.shape.specs.Exactly.{Told, Refuses, Accepts}
-use Rattle.record_file.specs.declared.Reading.{Reading}
-use Rattle.record_file.specs.declared.Reading.TheVariants.{Read, Refused}
 use Rattle.record_file.specs.Format.{record_bytes, byte, numbers}
+use Rattle.shape.specs.declared.Refusal.{Refusal}
 
 -- ---- rows 3 and 13: the length
 
@@ -68,13 +67,13 @@ file_rows file controls =
     length_rows (length file) ++ (record_rows file 0 n ++ later_rows file n controls)
 
 -- n records are written from the start of the controls on, x then y, and all past them is kept.
-abbrev pub accepts : List ℕ → ℕ → List ℤ → Outcome Reading (List ℤ)
-accepts file n controls = outcome (Read (shape_of file n)) (sets controls 0 (numbers file n))
+abbrev pub accepts : List ℕ → ℕ → List ℤ → Outcome (Result Shape Refusal) (List ℤ)
+accepts file n controls = outcome (Ok (shape_of file n)) (sets controls 0 (numbers file n))
 
-unfoldable pub reading : List ℕ → List ℤ → Outcome Reading (List ℤ)
-reading file controls = judge (file_rows file controls) (refuses Refused controls) (accepts file (record_count file) controls)
+unfoldable pub reading : List ℕ → List ℤ → Outcome (Result Shape Refusal) (List ℤ)
+reading file controls = judge (file_rows file controls) (refuses Err controls) (accepts file (record_count file) controls)
 
 -- What the answer tells: basis, depth, control count and parameter, or the refusal.
-abbrev pub told : Reading → Told
-told (Read s) = Accepts (pos s.basis ∷ pos s.depth ∷ pos s.count ∷ pos s.parameter ∷ [])
-told (Refused r) = Refuses r
+abbrev pub told : Result Shape Refusal → Told
+told (Ok s) = Accepts (pos s.basis ∷ pos s.depth ∷ pos s.count ∷ pos s.parameter ∷ [])
+told (Err r) = Refuses r

@@ -1,5 +1,6 @@
 -- Drawing again: where the drawing call would be done and change nothing, so it would be after every list of calls. The shape stays sound, the records inside the limits
 -- and the lists long enough.
+use Rattle.std.specs.Prelude.{Ok}
 use mathlib.Core.Path.{◌≡◌, sym, ap, ◌∙◌, subst}
 use mathlib.Core.Bool.{false, not}
 use mathlib.Core.Logic.{⊎_elim}
@@ -26,7 +27,6 @@ use Rattle.shape.proofs.Refusals.{none_both, verdict, offered-row}
 use Rattle.shape.proofs.Seek.{seek-none}
 use Rattle.shape.proofs.Spans.{spans-records, facts-allowed}
 use Rattle.spans.proofs.Filled.{length-filled, same-filled}
-use Rattle.outline.specs.declared.Drawn.TheVariants as outline
 use Rattle.outline.specs.declared.Figures.{Figures}
 use Rattle.spans.specs.Numbers.{number}
 use Rattle.outline.specs.Outline.{points, drawn, draw_rows, figures_of, draws}
@@ -75,7 +75,7 @@ redrawn t out =
 
 outlined-redraws : (t : State) → Outlined t → NoRow (draw_rows t.shape t.controls t.held) → Redraws t
 outlined-redraws t out none =
-    none-drawn t.shape t.controls t.held none ∙ ap (outcome (outline.Done (figures_of (plan_of t.shape) t.controls))) (redrawn t out)
+    none-drawn t.shape t.controls t.held none ∙ ap (outcome (Ok (figures_of (plan_of t.shape) t.controls))) (redrawn t out)
 
 -- ---- one call
 
@@ -125,7 +125,7 @@ played-redraws t (c ∷ calls) again = played-redraws (called t c) calls (called
 -- ---- from the first drawing on
 
 -- after an accepted drawing call, drawing again changes nothing
-pub drawn-redraws : (s : Shape) (controls lent : List ℤ) (fs : Figures) (held : List ℤ) → draws s controls lent ≡ outcome (outline.Done fs) held → Redraws (state s controls held)
+pub drawn-redraws : (s : Shape) (controls lent : List ℤ) (fs : Figures) (held : List ℤ) → draws s controls lent ≡ outcome (Ok fs) held → Redraws (state s controls held)
 drawn-redraws s controls lent fs held answered =
     let p = plan_of s in
     let long : length lent ≡ length held = sym (length-filled (number p controls) 0 (2 * points p) lent) ∙ ap length (held-drawn s controls lent fs held answered) in
@@ -133,11 +133,11 @@ drawn-redraws s controls lent fs held answered =
     (subst (λ (len : ℕ). NoRow (shape_rows s ++ list_rows s.count controls (points p) len)) long (done_none s controls lent fs held answered))
 
 -- nor does it after any calls more
-pub drawn-played-redraws : (s : Shape) (controls lent : List ℤ) (fs : Figures) (held : List ℤ) (calls : List Call) → draws s controls lent ≡ outcome (outline.Done fs) held → Redraws (played (state s controls held) calls)
+pub drawn-played-redraws : (s : Shape) (controls lent : List ℤ) (fs : Figures) (held : List ℤ) (calls : List Call) → draws s controls lent ≡ outcome (Ok fs) held → Redraws (played (state s controls held) calls)
 drawn-played-redraws s controls lent fs held calls answered = played-redraws (state s controls held) calls (drawn-redraws s controls lent fs held answered)
 
 -- and every number of the outline is then within the reach of its basis
-pub drawn-played-within : (s : Shape) (controls lent : List ℤ) (fs : Figures) (held : List ℤ) (calls : List Call) → draws s controls lent ≡ outcome (outline.Done fs) held
+pub drawn-played-within : (s : Shape) (controls lent : List ℤ) (fs : Figures) (held : List ℤ) (calls : List Call) → draws s controls lent ≡ outcome (Ok fs) held
     → (q : ℕ) → q < 2 * points (plan_of (played (state s controls held) calls).shape)
     → nat_abs (get_or (played (state s controls held) calls).held q (pos 0)) ≤ reach (plan_of (played (state s controls held) calls).shape).basis
 drawn-played-within s controls lent fs held calls answered q h =

@@ -1,5 +1,6 @@
 -- An edit in terms of its answer: from an outcome that is done, for any contents of the lent points. The reading of an edit that no row refuses has each fact, and what was
 -- answered is that reading.
+use Rattle.std.specs.Prelude.{Ok, Result}
 use mathlib.Core.Path.{◌≡◌, refl, sym, ap, ◌∙◌, subst}
 use mathlib.Core.Bool.{true, false}
 use mathlib.Core.Logic.{⊎_elim, ◌↔◌}
@@ -31,8 +32,6 @@ use Rattle.asked.specs.Inner.{Askable}
 use Rattle.asked.proofs.Runs.{run-loop, open-most}
 use Rattle.asked.proofs.Splines.{offered-again}
 use Rattle.edit.specs.declared.Change.{Change}
-use Rattle.edit.specs.declared.Edited.{Edited}
-use Rattle.edit.specs.declared.Edited.TheVariants.{Done}
 use Rattle.edit.specs.Reading.{shape_after, plan_after, change, controls_after, points_after, edits}
 use Rattle.edit.specs.Inner.{Editable, Workable}
 use Rattle.edit.proofs.Exactly.{call_rows, done_none, none_done}
@@ -41,6 +40,7 @@ use Rattle.edit.proofs.Rows.{new-room, workable}
 use Rattle.asked.proofs.Fresh.{next-span}
 use Rattle.edit.proofs.Worked.{fresh_at}
 use Rattle.sequences.specs.Touched.{record_in, Touched, InRun, Fresh, old_span}
+use Rattle.shape.specs.declared.Refusal.{Refusal}
 use Rattle.sequences.proofs.Touched.{AtPlace, run-touched, nought-touched, held-fresh}
 use Rattle.sequences.proofs.OldSpans.{in-some-span, stale-at}
 use Rattle.sequences.proofs.Kept.{at, old-records}
@@ -54,10 +54,10 @@ old-room (Move x y) j n len can = can.1
 old-room (Insert x y) j n len can = omega (arith, can.1)
 old-room Remove j n len can = can.1
 
-done-same : (c d : Change) → Done c ≡ Done d → c ≡ d
+done-same : (c d : Change) → Ok c ≡ Ok d → c ≡ d
 done-same c d h = cc
 
-module _ (e : Edit) (s : Shape) (j : ℕ) (controls lent : List ℤ) (c : Change) (new held : List ℤ) (done : edits e s j controls lent ≡ outcome (Done c) (new, held)) where
+module _ (e : Edit) (s : Shape) (j : ℕ) (controls lent : List ℤ) (c : Change) (new held : List ℤ) (done : edits e s j controls lent ≡ outcome (Ok c) (new, held)) where
   abbrev before : Plan
   before = plan_of s
 
@@ -85,7 +85,7 @@ module _ (e : Edit) (s : Shape) (j : ℕ) (controls lent : List ℤ) (c : Change
       → P answer after (controls_after e s j controls) (points_after e s after j controls lent) → P c (plan_of c.shape) new held
   by_answer P fact =
       let q = plan_of (shape_after e s) in
-      let is : ◌≡◌ {A = Outcome Edited (List ℤ × List ℤ)} _ (outcome (Done c) (new, held)) = sym (none_done e s j controls lent none) ∙ done in
+      let is : ◌≡◌ {A = Outcome (Result Change Refusal) (List ℤ × List ℤ)} _ (outcome (Ok c) (new, held)) = sym (none_done e s j controls lent none) ∙ done in
       let same = done-same (changed q) c (λ i. (is i).answer) in
       subst (λ l. P c (plan_of c.shape) new l) (λ i. (is i).held.1)
       (subst (λ l. P c (plan_of c.shape) l (points_after e s q j controls lent)) (λ i. (is i).held.0)

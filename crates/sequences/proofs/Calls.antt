@@ -1,5 +1,6 @@
 -- The theorems over sequences are about the code: what a call of the code may come to by its contract is what the reading gives, so a chain of calls ends where `played`
 -- ends; and for every list of calls there is such a chain.
+use Rattle.std.specs.Prelude.{Result}
 use mathlib.Core.Path.{◌≡◌, refl, sym, ap, ◌∙◌}
 use mathlib.Core.List.{List, [], ◌∷◌}
 use Prim.Native.Nat.{ℕ}
@@ -9,28 +10,29 @@ use Rattle.whole.specs.Outcome.{Outcome}
 use Rattle.shape.specs.declared.Shape.{Shape}
 use Rattle.spans.specs.declared.run.Way.{Way}
 use Rattle.spans.specs.declared.run.Way.TheVariants.{Weights, Halving, Differences}
-use Rattle.outline.specs.declared.Drawn.{Drawn}
 use Rattle.outline.specs.Outline.{draws}
 use Rattle.asked.specs.declared.Edit.{Edit}
 use Rattle.asked.specs.declared.Edit.TheVariants.{Move, Insert, Remove}
-use Rattle.edit.specs.declared.Edited.{Edited}
 use Rattle.sequences.specs.Played.{State, Call, state_then, answered, called, played}
 use Rattle.sequences.specs.Calls.{MeetsDrawing, MeetsCall, Ends}
+use Rattle.edit.specs.declared.Change.{Change}
+use Rattle.outline.specs.declared.Figures.{Figures}
+use Rattle.shape.specs.declared.Refusal.{Refusal}
 
 -- ---- one call: its contract equates what it leaves with the reading of what was asked
 
-abbrev drawing : Shape × List ℤ × List ℤ → Outcome Drawn (List ℤ)
+abbrev drawing : Shape × List ℤ × List ℤ → Outcome (Result Figures Refusal) (List ℤ)
 drawing asked = draws asked.0 asked.1 asked.2
 
-pub meets-draws : (w : Way) (s : Shape) (controls lent : List ℤ) (o : Outcome Drawn (List ℤ)) → MeetsDrawing w (s, controls, lent) o → draws s controls lent ≡ o
+pub meets-draws : (w : Way) (s : Shape) (controls lent : List ℤ) (o : Outcome (Result Figures Refusal) (List ℤ)) → MeetsDrawing w (s, controls, lent) o → draws s controls lent ≡ o
 meets-draws Weights s controls lent o call = sym (sym call.leaves ∙ call.meets ∙ ap drawing call.asks)
 meets-draws Halving s controls lent o call = sym (sym call.leaves ∙ call.meets ∙ ap drawing call.asks)
 meets-draws Differences s controls lent o call = sym (sym call.leaves ∙ call.meets ∙ ap drawing call.asks)
 
-abbrev reading : State × Call → Outcome Edited (List ℤ × List ℤ)
+abbrev reading : State × Call → Outcome (Result Change Refusal) (List ℤ × List ℤ)
 reading asked = answered asked.0 asked.1
 
-meets-reading : (e : Edit) (asked : State × Call) (o : Outcome Edited (List ℤ × List ℤ)) → MeetsCall e asked o → o ≡ reading asked
+meets-reading : (e : Edit) (asked : State × Call) (o : Outcome (Result Change Refusal) (List ℤ × List ℤ)) → MeetsCall e asked o → o ≡ reading asked
 meets-reading (Move x y) asked o call = sym call.leaves ∙ call.meets ∙ ap reading call.asks
 meets-reading (Insert x y) asked o call = sym call.leaves ∙ call.meets ∙ ap reading call.asks
 meets-reading Remove asked o call = sym call.leaves ∙ call.meets ∙ ap reading call.asks

@@ -1,4 +1,5 @@
 -- After every list of calls, done ones and refused ones in any order, the points are the outline of the controls, where they were at the start.
+use Rattle.std.specs.Prelude.{Err, Ok, Result}
 use mathlib.Core.Path.{◌≡◌, refl, sym, ap, ◌∙◌, subst}
 use mathlib.Core.Logic.{⊎_elim}
 use mathlib.Core.List.{List, [], ◌∷◌}
@@ -12,7 +13,6 @@ use Rattle.shape.specs.declared.Refusal.{Refusal}
 use Rattle.shape.specs.Refusals.{First, NoRow, plan_of}
 use Rattle.shape.proofs.Refusals.{verdict}
 use Rattle.spans.proofs.Filled.{length-filled, in-filled}
-use Rattle.outline.specs.declared.Drawn.TheVariants as outline
 use Rattle.outline.specs.declared.Figures.{Figures}
 use Rattle.spans.specs.Numbers.{number}
 use Rattle.outline.specs.Outline.{points, draws}
@@ -20,8 +20,6 @@ use Rattle.outline.proofs.Held.{held-room, held_number}
 use Rattle.asked.specs.declared.Edit.{Edit}
 use Rattle.asked.specs.Edits.{point_at}
 use Rattle.edit.specs.declared.Change.{Change}
-use Rattle.edit.specs.declared.Edited.{Edited}
-use Rattle.edit.specs.declared.Edited.TheVariants.{Done, Refused}
 use Rattle.edit.specs.Reading.{shape_after, controls_after, accepts, edits}
 use Rattle.edit.proofs.Exactly.{call_rows, first-refused, none_done}
 use Rattle.sequences.specs.Played.{State, Call, state, state_then, answered, called, played, Outlined}
@@ -55,10 +53,10 @@ unfolding called
 called-outlined t c out = edit-outlined c.edit t.shape c.place t.controls t.held out
 
 -- a call that is refused leaves the state as it was
-refused-apart : (a : Edited) (c : Change) (r : Refusal) → a ≡ Done c → a ≡ Refused r → ⊥
+refused-apart : (a : Result Change Refusal) (c : Change) (r : Refusal) → a ≡ Ok c → a ≡ Err r → ⊥
 refused-apart a c r done refused = let z : ◌≡◌ {A = ℕ} 0 1 = cc in omega arith
 
-pub refused-keeps : (t : State) (c : Call) (r : Refusal) → (answered t c).answer ≡ Refused r → called t c ≡ t
+pub refused-keeps : (t : State) (c : Call) (r : Refusal) → (answered t c).answer ≡ Err r → called t c ≡ t
 unfolding called
 refused-keeps t c r refused =
     let rows = call_rows c.edit t.shape c.place t.controls t.held in
@@ -93,5 +91,5 @@ module _ (part : Shape → ℕ) (left : (e : Edit) (s : Shape) → part (shape_a
 -- ---- from the first drawing on
 
 -- an accepted drawing call leaves an outline
-pub drawn-outlined : (s : Shape) (controls lent : List ℤ) (fs : Figures) (held : List ℤ) → draws s controls lent ≡ outcome (outline.Done fs) held → Outlined (state s controls held)
+pub drawn-outlined : (s : Shape) (controls lent : List ℤ) (fs : Figures) (held : List ℤ) → draws s controls lent ≡ outcome (Ok fs) held → Outlined (state s controls held)
 drawn-outlined s controls lent fs held answered = record { room = held-room s controls lent fs held answered; holds = held_number s controls lent fs held answered }

@@ -1,5 +1,5 @@
 -- Calls of the code, one after another (demand 3): a drawing and any edits after it, over the contracts that are generated from the source. Definitions only.
-use Rattle.std.specs.Prelude.{◌≡◌, List, [], ◌∷◌, ℕ, ℤ}
+use Rattle.std.specs.Prelude.{◌≡◌, List, [], ◌∷◌, ℕ, ℤ, Result}
 use borrow.Fn.Kinds.{ParamKind, ResultKind, Out, Dens, res_t, ended_of}
 use contract.Lifetimes.{Lfts}
 use denote.Triple.Clauses.{Lasts, at_exit}
@@ -9,14 +9,12 @@ use Rattle.asked.specs.declared.Edit.TheVariants.{Move, Insert, Remove}
 use Rattle.shape.specs.declared.Shape.{Shape}
 use Rattle.spans.specs.declared.run.Way.{Way}
 use Rattle.spans.specs.declared.run.Way.TheVariants.{Weights, Halving, Differences}
-use Rattle.outline.specs.declared.Drawn.{Drawn}
 use Rattle.outline.proofs.by_weights.Kinds as by_weights
 use Rattle.outline.proofs.by_weights.Reads as by-weights-reads
 use Rattle.outline.proofs.by_halving.Kinds as by-halving
 use Rattle.outline.proofs.by_halving.Reads as by-halving-reads
 use Rattle.outline.proofs.by_differences.Kinds as by-differences
 use Rattle.outline.proofs.by_differences.Reads as by-differences-reads
-use Rattle.edit.specs.declared.Edited.{Edited}
 use Rattle.edit.proofs.move_record.Kinds as move
 use Rattle.edit.proofs.move_record.Reads as move-reads
 use Rattle.edit.proofs.insert_record.Kinds as insert
@@ -24,6 +22,9 @@ use Rattle.edit.proofs.insert_record.Reads as insert-reads
 use Rattle.edit.proofs.remove_record.Kinds as remove
 use Rattle.edit.proofs.remove_record.Reads as remove-reads
 use Rattle.sequences.specs.Played.{State, Call, state, state_then}
+use Rattle.edit.specs.declared.Change.{Change}
+use Rattle.outline.specs.declared.Figures.{Figures}
+use Rattle.shape.specs.declared.Refusal.{Refusal}
 
 -- Of a signature's lifetimes, parameters and result, and of what the contract ensures, where `given` reads the arguments and `left` the result and what the lent lists
 -- hold at the end: there are arguments that are those asked, and a result and last lists that are the outcome o and meet the contract.
@@ -43,7 +44,7 @@ pub record Meets
 -- ---- drawing
 
 -- The drawing call of a way. Its arguments in their order are the shape, the controls and the points.
-abbrev pub MeetsDrawing : Way → Shape × List ℤ × List ℤ → Outcome Drawn (List ℤ) → Type 0
+abbrev pub MeetsDrawing : Way → Shape × List ℤ × List ℤ → Outcome (Result Figures Refusal) (List ℤ) → Type 0
 MeetsDrawing Weights =
     Meets 2 by_weights.ps by_weights.r by-weights-reads.Post (λ κs a. (a.0, a.1.0.now, a.1.1.0.now)) (λ κs a r u. outcome r u.1.1.0)
 MeetsDrawing Halving =
@@ -58,7 +59,7 @@ abbrev pub asking : Edit → Shape → ℕ → List ℤ → List ℤ → State �
 asking e s j controls held = (state s controls held, record { edit = e; place = j })
 
 -- The call of an edit. Its arguments in their order are the shape, the place, the new record's x and y where there is one, the controls and the points.
-abbrev pub MeetsCall : Edit → State × Call → Outcome Edited (List ℤ × List ℤ) → Type 0
+abbrev pub MeetsCall : Edit → State × Call → Outcome (Result Change Refusal) (List ℤ × List ℤ) → Type 0
 MeetsCall (Move x y) =
     Meets 2 move.ps move.r move-reads.Post (λ κs a. asking (Move a.1.1.0 a.1.1.1.0) a.0 a.1.0 a.1.1.1.1.0.now a.1.1.1.1.1.0.now)
     (λ κs a r u. outcome r (u.1.1.1.1.0, u.1.1.1.1.1.0))
@@ -71,4 +72,4 @@ MeetsCall Remove =
 -- From a state, calls of the code end in a last state: each is given what the one before it left.
 unfoldable pub Ends : State → List Call → State → Type 0
 Ends t [] last = last ≡ t
-Ends t (c ∷ calls) last = (o : Outcome Edited (List ℤ × List ℤ)) × MeetsCall c.edit (t, c) o × Ends (state_then t.shape o) calls last
+Ends t (c ∷ calls) last = (o : Outcome (Result Change Refusal) (List ℤ × List ℤ)) × MeetsCall c.edit (t, c) o × Ends (state_then t.shape o) calls last

@@ -1,5 +1,6 @@
 -- A table of rows is read from the top: either some row holds first, and its refusal is the answer, or none holds. What each call's checks say follows, since an answer
 -- that refuses is never one that accepts.
+use Rattle.std.specs.Prelude.{Err, Ok, Result}
 use mathlib.Core.Path.{◌≡◌, refl, sym, ap, ◌∙◌, subst}
 use mathlib.Core.Bool.{Bool, true, false, cond, ◌&&◌}
 use mathlib.Core.List.{List, [], ◌∷◌, ◌++◌}
@@ -19,8 +20,6 @@ use Rattle.curve.specs.declared.Basis.{Basis}
 use Rattle.shape.specs.declared.Shape.{Shape}
 use Rattle.shape.specs.declared.Plan.{Plan}
 use Rattle.shape.specs.declared.Refusal.{Refusal}
-use Rattle.shape.specs.declared.Judged.TheVariants.{Sound, Unsound}
-use Rattle.shape.specs.declared.Checked.TheVariants.{Fine, Bad}
 use Rattle.shape.specs.Depth.{shape_at}
 use Rattle.shape.specs.Shape.{last_basis, cardinal, sixty_fourths, basis_of, basis_in, spans_of, allowed, least_records}
 use Rattle.shape.specs.Refusals.{Row, judge, First, NoRow, shape_rows, plan_of, judge_shape, outside, first_outside, limits_row, control_rows, judge_controls, list_rows, judge_lists}
@@ -124,42 +123,69 @@ pub only_none {ℓ} : {A : Type ℓ} (rows : List Row) (f : Refusal → A) (a b 
 only_none rows f a b apart e =
     ⊎_elim (λ (v : (r : Refusal) × First rows r). absurd (apart v.0 (sym (judge-first rows f a v.0 v.1) ∙ e))) (λ h. h) (verdict rows)
 
+-- ---- a table that is judged to a Result
+
+-- an answer is refused or accepted, never both, and tells which refusal and which value
+module _ {T : Type 0} where
+  pub err-same : (q r : Refusal) → ◌≡◌ {A = Result T Refusal} (Err q) (Err r) → q ≡ r
+  err-same q r e = cc
+
+  pub ok-same : (v w : T) → ◌≡◌ {A = Result T Refusal} (Ok v) (Ok w) → v ≡ w
+  ok-same v w e = cc
+
+  pub err-apart : (v : T) (q : Refusal) → ◌≡◌ {A = Result T Refusal} (Err q) (Ok v) → ⊥
+  err-apart v q e = let z : ◌≡◌ {A = ℕ} 0 1 = cc in omega arith
+
+-- rows that are judged so, where the value is accepted if none holds, and a call whose table starts with them
+module _ {T : Type 0} (rows : List Row) (v : T) where
+  abbrev judged : Result T Refusal
+  judged = judge rows Err (Ok v)
+
+  pub rows-first : (r : Refusal) → judged ≡ Err r → First rows r
+  rows-first r e = only-first rows Err (Ok v) err-same (err-apart v) r e
+
+  pub rows_none : {w : T} → judged ≡ Ok w → NoRow rows
+  rows_none {w = w} e = only_none rows Err (Ok v) (Ok w) (err-apart w) e
+
+  pub rows-value : {w : T} → judged ≡ Ok w → w ≡ v
+  rows-value {w = w} e = ok-same w v (sym e ∙ judge-none rows Err (Ok v) (rows_none e))
+
+  pub rows-bad {ℓ} : {A : Type ℓ} (r : Refusal) → judged ≡ Err r → (rest : List Row) (f : Refusal → A) (a : A) → judge (rows ++ rest) f a ≡ f r
+  rows-bad r e rest f a = judge-append rows rest f a ∙ judge-first rows f (judge rest f a) r (rows-first r e)
+
+  pub rows-fine {ℓ} : {A : Type ℓ} {w : T} → judged ≡ Ok w → (rest : List Row) (f : Refusal → A) (a : A) → judge (rows ++ rest) f a ≡ judge rest f a
+  rows-fine e rest f a = judge-append rows rest f a ∙ judge-none rows f (judge rest f a) (rows_none e)
+
 -- ---- rows 1, 2, 24, 3
 
-unsound-same : (q r : Refusal) → Unsound q ≡ Unsound r → q ≡ r
-unsound-same q r e = cc
-
-unsound-apart : (p : Plan) (q : Refusal) → Unsound q ≡ Sound p → ⊥
-unsound-apart p q e = let z : ◌≡◌ {A = ℕ} 0 1 = cc in omega arith
-
-pub unsound-first : (s : Shape) (r : Refusal) → judge_shape s ≡ Unsound r → First (shape_rows s) r
+pub unsound-first : (s : Shape) (r : Refusal) → judge_shape s ≡ Err r → First (shape_rows s) r
 unfolding judge_shape
-unsound-first s r e = only-first (shape_rows s) Unsound (Sound (plan_of s)) unsound-same (unsound-apart (plan_of s)) r e
+unsound-first s r e = rows-first (shape_rows s) (plan_of s) r e
 
-pub first-unsound : (s : Shape) (r : Refusal) → First (shape_rows s) r → judge_shape s ≡ Unsound r
+pub first-unsound : (s : Shape) (r : Refusal) → First (shape_rows s) r → judge_shape s ≡ Err r
 unfolding judge_shape
-first-unsound s r h = judge-first (shape_rows s) Unsound (Sound (plan_of s)) r h
+first-unsound s r h = judge-first (shape_rows s) Err (Ok (plan_of s)) r h
 
-pub sound_none : (s : Shape) (p : Plan) → judge_shape s ≡ Sound p → NoRow (shape_rows s)
+pub sound_none : (s : Shape) (p : Plan) → judge_shape s ≡ Ok p → NoRow (shape_rows s)
 unfolding judge_shape
-sound_none s p e = only_none (shape_rows s) Unsound (Sound (plan_of s)) (Sound p) (unsound-apart p) e
+sound_none s p e = rows_none (shape_rows s) (plan_of s) e
 
-pub none-sound : (s : Shape) → NoRow (shape_rows s) → judge_shape s ≡ Sound (plan_of s)
+pub none-sound : (s : Shape) → NoRow (shape_rows s) → judge_shape s ≡ Ok (plan_of s)
 unfolding judge_shape
-none-sound s h = judge-none (shape_rows s) Unsound (Sound (plan_of s)) h
+none-sound s h = judge-none (shape_rows s) Err (Ok (plan_of s)) h
 
-pub sound-plan : (s : Shape) (p : Plan) → judge_shape s ≡ Sound p → p ≡ plan_of s
-sound-plan s p e = same (sym e ∙ none-sound s (sound_none s p e))
-  where
-    same : {q : Plan} → Sound p ≡ Sound q → p ≡ q
-    same e = cc
+pub sound-plan : (s : Shape) (p : Plan) → judge_shape s ≡ Ok p → p ≡ plan_of s
+unfolding judge_shape
+sound-plan s p e = rows-value (shape_rows s) (plan_of s) e
 
 -- a call whose table starts with these rows
-pub unsound {ℓ} : {A : Type ℓ} (s : Shape) (r : Refusal) → judge_shape s ≡ Unsound r → (rest : List Row) (f : Refusal → A) (a : A) → judge (shape_rows s ++ rest) f a ≡ f r
-unsound s r e rest f a = judge-append (shape_rows s) rest f a ∙ judge-first (shape_rows s) f (judge rest f a) r (unsound-first s r e)
+pub unsound {ℓ} : {A : Type ℓ} (s : Shape) (r : Refusal) → judge_shape s ≡ Err r → (rest : List Row) (f : Refusal → A) (a : A) → judge (shape_rows s ++ rest) f a ≡ f r
+unfolding judge_shape
+unsound s r e rest f a = rows-bad (shape_rows s) (plan_of s) r e rest f a
 
-pub sound {ℓ} : {A : Type ℓ} (s : Shape) (p : Plan) → judge_shape s ≡ Sound p → (rest : List Row) (f : Refusal → A) (a : A) → judge (shape_rows s ++ rest) f a ≡ judge rest f a
-sound s p e rest f a = judge-append (shape_rows s) rest f a ∙ judge-none (shape_rows s) f (judge rest f a) (sound_none s p e)
+pub sound {ℓ} : {A : Type ℓ} (s : Shape) (p : Plan) → judge_shape s ≡ Ok p → (rest : List Row) (f : Refusal → A) (a : A) → judge (shape_rows s ++ rest) f a ≡ judge rest f a
+unfolding judge_shape
+sound s p e rest f a = rows-fine (shape_rows s) (plan_of s) e rest f a
 
 -- a basis whose row 24 fails has a parameter that is offered
 offered : (b c n : ℕ) → (eqb b cardinal && ltb most_parameter c) ≡ false → parameter_of (basis_of b c n) ≤ most_parameter
@@ -213,7 +239,7 @@ good-plan s h =
       records-most = records-most;
     }
 
-pub sound-facts : (s : Shape) (p : Plan) → judge_shape s ≡ Sound p → Good s p
+pub sound-facts : (s : Shape) (p : Plan) → judge_shape s ≡ Ok p → Good s p
 sound-facts s p e = subst (λ q. Good s q) (sym (sound-plan s p e)) (good-plan s (sound_none s p e))
 
 -- no row holds of the same shape at another depth that is offered
@@ -226,57 +252,37 @@ good-records s p g t i h few = subst (λ n. record_at p.basis (first_record p.ba
 
 -- ---- rows 7, 8, 9
 
-bad-same : (q r : Refusal) → Bad q ≡ Bad r → q ≡ r
-bad-same q r e = cc
-
-bad-apart : (q : Refusal) → Bad q ≡ Fine → ⊥
-bad-apart q e = let z : ◌≡◌ {A = ℕ} 0 1 = cc in omega arith
-
--- rows that are judged to this answer, and a call whose table starts with them
-module _ (rows : List Row) where
-  pub rows-first : (r : Refusal) → judge rows Bad Fine ≡ Bad r → First rows r
-  rows-first r e = only-first rows Bad Fine bad-same bad-apart r e
-
-  pub rows_none : judge rows Bad Fine ≡ Fine → NoRow rows
-  rows_none e = only_none rows Bad Fine Fine bad-apart e
-
-  pub rows-bad {ℓ} : {A : Type ℓ} (r : Refusal) → judge rows Bad Fine ≡ Bad r → (rest : List Row) (f : Refusal → A) (a : A) → judge (rows ++ rest) f a ≡ f r
-  rows-bad r e rest f a = judge-append rows rest f a ∙ judge-first rows f (judge rest f a) r (rows-first r e)
-
-  pub rows-fine {ℓ} : {A : Type ℓ} → judge rows Bad Fine ≡ Fine → (rest : List Row) (f : Refusal → A) (a : A) → judge (rows ++ rest) f a ≡ judge rest f a
-  rows-fine e rest f a = judge-append rows rest f a ∙ judge-none rows f (judge rest f a) (rows_none e)
-
 -- ---- the controls, in a call whose table goes on from them
 
 module _ (n : ℕ) (controls : List ℤ) where
-  pub controls-bad {ℓ} : {A : Type ℓ} (r : Refusal) → judge_controls n controls ≡ Bad r → (rest : List Row) (f : Refusal → A) (a : A) → judge (control_rows n n controls ++ rest) f a ≡ f r
+  pub controls-bad {ℓ} : {A : Type ℓ} (r : Refusal) → judge_controls n controls ≡ Err r → (rest : List Row) (f : Refusal → A) (a : A) → judge (control_rows n n controls ++ rest) f a ≡ f r
   unfolding judge_controls
-  controls-bad r e rest f a = rows-bad (control_rows n n controls) r e rest f a
+  controls-bad r e rest f a = rows-bad (control_rows n n controls) tt r e rest f a
 
-  pub controls-fine {ℓ} : {A : Type ℓ} → judge_controls n controls ≡ Fine → (rest : List Row) (f : Refusal → A) (a : A) → judge (control_rows n n controls ++ rest) f a ≡ judge rest f a
+  pub controls-fine {ℓ} : {A : Type ℓ} → judge_controls n controls ≡ Ok tt → (rest : List Row) (f : Refusal → A) (a : A) → judge (control_rows n n controls ++ rest) f a ≡ judge rest f a
   unfolding judge_controls
-  controls-fine e rest f a = rows-fine (control_rows n n controls) e rest f a
+  controls-fine e rest f a = rows-fine (control_rows n n controls) tt e rest f a
 
-  pub controls-none : judge_controls n controls ≡ Fine → NoRow (control_rows n n controls)
+  pub controls-none : judge_controls n controls ≡ Ok tt → NoRow (control_rows n n controls)
   unfolding judge_controls
-  controls-none e = rows_none (control_rows n n controls) e
+  controls-none e = rows_none (control_rows n n controls) tt e
 
 module _ (n : ℕ) (controls : List ℤ) (points len : ℕ) where
-  pub bad-first : (r : Refusal) → judge_lists n controls points len ≡ Bad r → First (list_rows n controls points len) r
+  pub bad-first : (r : Refusal) → judge_lists n controls points len ≡ Err r → First (list_rows n controls points len) r
   unfolding judge_lists
-  bad-first r e = rows-first (list_rows n controls points len) r e
+  bad-first r e = rows-first (list_rows n controls points len) tt r e
 
-  pub first-bad : (r : Refusal) → First (list_rows n controls points len) r → judge_lists n controls points len ≡ Bad r
+  pub first-bad : (r : Refusal) → First (list_rows n controls points len) r → judge_lists n controls points len ≡ Err r
   unfolding judge_lists
-  first-bad r h = judge-first (list_rows n controls points len) Bad Fine r h
+  first-bad r h = judge-first (list_rows n controls points len) Err (Ok tt) r h
 
-  pub fine-none : judge_lists n controls points len ≡ Fine → NoRow (list_rows n controls points len)
+  pub fine-none : judge_lists n controls points len ≡ Ok tt → NoRow (list_rows n controls points len)
   unfolding judge_lists
-  fine-none e = rows_none (list_rows n controls points len) e
+  fine-none e = rows_none (list_rows n controls points len) tt e
 
-  pub none-fine : NoRow (list_rows n controls points len) → judge_lists n controls points len ≡ Fine
+  pub none-fine : NoRow (list_rows n controls points len) → judge_lists n controls points len ≡ Ok tt
   unfolding judge_lists
-  none-fine h = judge-none (list_rows n controls points len) Bad Fine h
+  none-fine h = judge-none (list_rows n controls points len) Err (Ok tt) h
 
   -- room for n records, none of them outside, and room for the points
   pub lent-facts : 2 * n ≤ length controls → (limits_row n controls).holds ≡ false → 2 * points ≤ len → Lent n controls points len
@@ -303,7 +309,7 @@ module _ (n : ℕ) (controls : List ℤ) (points len : ℕ) where
       let rows = control_rows n n controls in
       lent-facts (ltb-false (length controls) (2 * n) (row-fails 7 rows none)) (row-fails 8 rows none) points-room
 
-  pub fine-facts : judge_lists n controls points len ≡ Fine → Lent n controls points len
+  pub fine-facts : judge_lists n controls points len ≡ Ok tt → Lent n controls points len
   fine-facts e = none-facts (fine-none e)
 
 -- the four records of a span that are among the n are inside the limits, on either axis

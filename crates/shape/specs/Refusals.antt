@@ -1,6 +1,6 @@
 -- The refusal table of document 01, as rows in the paper's order: a row is a test, its number and its place. A call is refused under the first row that holds, and
 -- accepted where none does. The rows that several calls share are here.
-use Rattle.std.specs.Prelude.{Bool, true, false, not, cond, ◌&&◌, ◌||◌, List, [], ◌∷◌, ◌++◌, ◌⊎◌, ◌≡◌, ℕ, zero, suc, ◌*◌, leb, ltb, eqb, ℤ, length}
+use Rattle.std.specs.Prelude.{Bool, true, false, not, cond, ◌&&◌, ◌||◌, List, [], ◌∷◌, ◌++◌, ◌⊎◌, ◌≡◌, ℕ, zero, suc, ◌*◌, leb, ltb, eqb, ℤ, length, Err, Ok, Result}
 use Rattle.curve.specs.Published.{most_parameter}
 use Rattle.curve.specs.Limits.{limit, beyond}
 use Rattle.curve.specs.Span.{coordinate}
@@ -8,10 +8,6 @@ use Rattle.curve.specs.Ways.{deepest}
 use Rattle.shape.specs.declared.Shape.{Shape}
 use Rattle.shape.specs.declared.Plan.{Plan}
 use Rattle.shape.specs.declared.Refusal.{Refusal}
-use Rattle.shape.specs.declared.Judged.{Judged}
-use Rattle.shape.specs.declared.Judged.TheVariants.{Sound, Unsound}
-use Rattle.shape.specs.declared.Checked.{Checked}
-use Rattle.shape.specs.declared.Checked.TheVariants.{Fine, Bad}
 use Rattle.shape.specs.Shape.{last_basis, cardinal, basis_in, spans_of, allowed}
 
 pub record Row : Type 0 where
@@ -65,11 +61,11 @@ shape_rows s = number_rows s ++ count_row s ∷ []
 unfoldable pub plan_of : Shape → Plan
 plan_of s = record { basis = basis_in s; depth = s.depth; spans = spans_of (basis_in s) s.count }
 
-unfoldable pub judge_numbers : Shape → Checked
-judge_numbers s = judge (number_rows s) Bad Fine
+unfoldable pub judge_numbers : Shape → Result (Unit {0}) Refusal
+judge_numbers s = judge (number_rows s) Err (Ok tt)
 
-unfoldable pub judge_shape : Shape → Judged
-judge_shape s = judge (shape_rows s) Unsound (Sound (plan_of s))
+unfoldable pub judge_shape : Shape → Result Plan Refusal
+judge_shape s = judge (shape_rows s) Err (Ok (plan_of s))
 
 -- ---- rows 7, 8: the controls
 
@@ -92,8 +88,8 @@ limits_row n controls = row (ltb (first_outside controls n) n) 8 (first_outside 
 abbrev pub control_rows : ℕ → ℕ → List ℤ → List Row
 control_rows most n controls = controls_row most controls ∷ limits_row n controls ∷ []
 
-unfoldable pub judge_controls : ℕ → List ℤ → Checked
-judge_controls n controls = judge (control_rows n n controls) Bad Fine
+unfoldable pub judge_controls : ℕ → List ℤ → Result (Unit {0}) Refusal
+judge_controls n controls = judge (control_rows n n controls) Err (Ok tt)
 
 -- ---- row 9: the points
 
@@ -109,5 +105,5 @@ point_rows points len = points_row points len ∷ []
 abbrev pub list_rows : ℕ → List ℤ → ℕ → ℕ → List Row
 list_rows n controls points len = control_rows n n controls ++ point_rows points len
 
-unfoldable pub judge_lists : ℕ → List ℤ → ℕ → ℕ → Checked
-judge_lists n controls points len = judge (list_rows n controls points len) Bad Fine
+unfoldable pub judge_lists : ℕ → List ℤ → ℕ → ℕ → Result (Unit {0}) Refusal
+judge_lists n controls points len = judge (list_rows n controls points len) Err (Ok tt)

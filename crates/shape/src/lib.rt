@@ -1,17 +1,20 @@
 // Shapes, refusals, and the checks that calls share. No call here has a `requires`, but those that say so: they are for crates of this project that have checked it.
 #![tactic(auto)]
 
-ghost use Rattle.std.specs.Prelude.{cond, ◌≡◌, ◌*◌, ◌^◌, ◌≤◌, length};
+ghost use Rattle.std.specs.Prelude.{cond, ◌≡◌, ◌+◌, ◌*◌, ◌^◌, ◌≤◌, ◌<◌, length};
 ghost use Rattle.curve.specs.Ways.{deepest};
 ghost use Rattle.shape.specs.Shape.{sixty_fourths, basis_of, tail, spans_of, last_using, records_of, allowed, points_of, most_records, most_points};
-ghost use Rattle.shape.specs.Refusals.{judge_numbers, judge_shape, judge_controls, judge_lists, first_outside};
+ghost use Rattle.shape.specs.Refusals.{judge_numbers, judge_shape, judge_controls, judge_lists, outside, first_outside};
+
+mod reason;
 
 use curve::bounds::is_beyond;
 use curve::records::{first_record, is_loop, stride_of};
 use curve::{Basis, DEEPEST, LIMIT, MOST_PARAMETER};
+pub use reason::Reason;
 
 // A shape as a caller passes it: basis, depth, control count and parameter, right or wrong. The parameter is looked at for basis 3 alone, and is handed on as it came.
-#[derive(Clone, Copy)]
+#[derive(Clone, Copy, Debug, PartialEq, Eq)]
 pub struct Shape {
     pub basis: usize,
     pub depth: usize,
@@ -28,24 +31,10 @@ pub struct Plan {
 }
 
 // A refusal of document 01: its number, and the place.
-#[derive(Clone, Copy)]
+#[derive(Clone, Copy, Debug, PartialEq, Eq)]
 pub struct Refusal {
     pub number: usize,
     pub place: usize,
-}
-
-// What the checks of a shape find (rows 1, 2, 24, 3).
-#[derive(Clone, Copy)]
-pub enum Judged {
-    Sound(Plan),
-    Unsound(Refusal),
-}
-
-// What a check finds: nothing that is wrong, or the refusal.
-#[derive(Clone, Copy)]
-pub enum Checked {
-    Fine,
-    Bad(Refusal),
 }
 
 impl Plan {
@@ -162,59 +151,53 @@ fn allowed_spans(basis: Basis, count: usize) -> usize
 }
 
 // The checks of a shape's basis, depth and parameter in the paper's order, 1, 2, 24.
-fn check_numbers(shape: Shape) -> Checked
+fn check_numbers(shape: Shape) -> Result<(), Refusal>
     ensures { result ≡ judge_numbers shape }
 {
     let number = shape.basis;
     if number < FIRST_BASIS {
-        return Checked::Bad(Refusal {
-            number: 1,
-            place: 0,
-        });
+        return Err(Reason::UnknownBasis.into());
     }
     if LAST_BASIS < number {
-        return Checked::Bad(Refusal {
-            number: 1,
-            place: 0,
-        });
+        return Err(Reason::UnknownBasis.into());
     }
     if DEEPEST < shape.depth {
-        return Checked::Bad(Refusal {
-            number: 2,
-            place: 0,
-        });
+        return Err(Reason::TooDeep.into());
     }
     if number == CARDINAL {
         if MOST_PARAMETER < shape.parameter {
-            return Checked::Bad(Refusal {
-                number: 24,
-                place: 0,
-            });
+            return Err(Reason::TooTaut.into());
         }
     }
-    Checked::Fine
+    Ok(())
 }
 
 // The checks of a shape in the paper's order, 1, 2, 24, 3: whatever numbers it holds, a refusal or the plan.
-pub fn check_shape(shape: Shape) -> Judged
+pub fn check_shape(shape: Shape) -> Result<Plan, Refusal>
     ensures { result ≡ judge_shape shape }
 {
-    if let Checked::Bad(refusal) = check_numbers(shape) {
-        return Judged::Unsound(refusal);
-    }
+    check_numbers(shape)?;
     let basis = basis_of(shape.basis, shape.parameter, shape.count);
     let spans = allowed_spans(basis, shape.count);
     if spans == 0 {
-        return Judged::Unsound(Refusal {
-            number: 3,
-            place: 0,
-        });
+        return Err(Reason::WrongCount.into());
     }
-    Judged::Sound(Plan {
+    Ok(Plan {
         basis,
         depth: shape.depth,
         spans,
     })
+}
+
+// Whether the record at a place of the list has a coordinate outside the limits.
+#[tactic(auto, unfolding(crate::specs::Refusals::outside, curve::specs::Span::coordinate))]
+fn is_outside(controls: &[i32], place: usize) -> bool
+    requires { 2 * place + 1 < length controls.now }
+    ensures { result ≡ outside controls.now place }
+{
+    let x = controls[2 * place];
+    let y = controls[2 * place + 1];
+    is_beyond(x, LIMIT) || is_beyond(y, LIMIT)
 }
 
 // The first of `count` records with a coordinate outside the limits, or `count` where all are inside.
@@ -222,53 +205,37 @@ pub fn first_outside(controls: &[i32], count: usize) -> usize
     requires { 2 * count ≤ length controls.now }
     ensures { result ≡ first_outside controls.now count }
 {
-    let mut i = 0;
-    while i < count {
-        if is_beyond(controls[2 * i], LIMIT) {
+    for i in 0..count {
+        if is_outside(controls, i) {
             return i;
         }
-        if is_beyond(controls[2 * i + 1], LIMIT) {
-            return i;
-        }
-        i += 1;
     }
     count
 }
 
 // The checks of the lent controls in the paper's order, 7 and 8: `count` records in the list, inside the limits. For crates that have checked the shape.
-pub fn check_controls(count: usize, controls: &[i32]) -> Checked
+pub fn check_controls(count: usize, controls: &[i32]) -> Result<(), Refusal>
     requires { count ≤ most_records }
     ensures { result ≡ judge_controls count controls.now }
 {
     if controls.len() < 2 * count {
-        return Checked::Bad(Refusal {
-            number: 7,
-            place: 0,
-        });
+        return Err(Reason::ShortControls.into());
     }
     let at = first_outside(controls, count);
     if at < count {
-        return Checked::Bad(Refusal {
-            number: 8,
-            place: at,
-        });
+        return Err(Reason::OutsideLimits.at(at));
     }
-    Checked::Fine
+    Ok(())
 }
 
 // The checks of the lent lists, 7, 8, 9: the controls, and room for `points` points in a list of `len` numbers. For crates that have checked the shape.
-pub fn check_lists(count: usize, controls: &[i32], points: usize, len: usize) -> Checked
+pub fn check_lists(count: usize, controls: &[i32], points: usize, len: usize) -> Result<(), Refusal>
     requires { (count ≤ most_records) × (points ≤ most_points) }
     ensures { result ≡ judge_lists count controls.now points len }
 {
-    if let Checked::Bad(refusal) = check_controls(count, controls) {
-        return Checked::Bad(refusal);
-    }
+    check_controls(count, controls)?;
     if len < 2 * points {
-        return Checked::Bad(Refusal {
-            number: 9,
-            place: 0,
-        });
+        return Err(Reason::ShortPoints.into());
     }
-    Checked::Fine
+    Ok(())
 }

@@ -1,5 +1,6 @@
 -- Each point is found again at every deeper depth: step g·2^l of depth k + l is at the same t as step g of depth k, so its sum is 2^(3l) times as large over a divisor as many times as large. It is
 -- rounded to the same number, and what is left over of it is as many times as large.
+use Rattle.std.specs.Prelude.{Ok}
 use mathlib.Core.Path.{◌≡◌, sym, ap, ◌∙◌, subst}
 use mathlib.Core.List.{List}
 use Prim.Native.Nat.{ℕ, ◌+◌, ◌*◌, ◌-◌, ◌/◌, ◌%◌, ◌^◌, min, ◌≤◌, ◌<◌}
@@ -28,7 +29,6 @@ use Rattle.shape.specs.Refusals.{NoRow, shape_rows, control_rows, point_rows, pl
 use Rattle.shape.specs.Shape.{points_of}
 use Rattle.shape.proofs.Refusals.{none-earlier, none-later, none_both, none-at}
 use Rattle.spans.specs.Numbers.{sum_of, number, remainder_of}
-use Rattle.outline.specs.declared.Drawn.TheVariants.{Done}
 use Rattle.outline.specs.declared.Figures.{Figures}
 use Rattle.outline.specs.Outline.{points, plan_rows, draw_rows, figures_of, drawn, draws}
 use Rattle.outline.proofs.Exactly.{done_none, none-drawn, done-figures}
@@ -97,11 +97,11 @@ module _ (p : Plan) (controls : List ℤ) (k l g axis : ℕ) (a : axis < 2) wher
 
 -- ---- the calls: a shape was drawn
 
-pub points-are : (s : Shape) (controls lent : List ℤ) (fs : Figures) (held : List ℤ) → draws s controls lent ≡ outcome (Done fs) held → fs.points ≡ (plan_of s).spans * 2 ^ s.depth + 1
+pub points-are : (s : Shape) (controls lent : List ℤ) (fs : Figures) (held : List ℤ) → draws s controls lent ≡ outcome (Ok fs) held → fs.points ≡ (plan_of s).spans * 2 ^ s.depth + 1
 unfolding points_of plan_of
 points-are s controls lent fs held done = ap (λ (f : Figures). f.points) (sym (done-figures s controls lent fs held done))
 
-module _ (s : Shape) (controls lent : List ℤ) (fs : Figures) (held : List ℤ) (done : draws s controls lent ≡ outcome (Done fs) held) (l : ℕ) where
+module _ (s : Shape) (controls lent : List ℤ) (fs : Figures) (held : List ℤ) (done : draws s controls lent ≡ outcome (Ok fs) held) (l : ℕ) where
   abbrev deeper : Shape
   deeper = shape_at (s.depth + l) s
 
@@ -116,11 +116,11 @@ module _ (s : Shape) (controls lent : List ℤ) (fs : Figures) (held : List ℤ)
       (none_both (control_rows s.count s.count controls) (point_rows (points (plan_of deeper)) (length list)) lists (le-ltb (length list) (2 * points (plan_of deeper)) room, tt))
 
   pub drawn-deeper : (list : List ℤ) → s.depth + l ≤ deepest → 2 * points (plan_of deeper) ≤ length list
-      → (gs : Figures) × (now : List ℤ) × (draws deeper controls list ≡ outcome (Done gs) now)
+      → (gs : Figures) × (now : List ℤ) × (draws deeper controls list ≡ outcome (Ok gs) now)
   drawn-deeper list shallow room = (figures_of (plan_of deeper) controls, drawn (plan_of deeper) controls list, none-drawn deeper controls list (none-deeper list shallow room))
 
   -- and each of its points is there, at 2^l times its number
-  pub found-again : (list : List ℤ) (gs : Figures) (now : List ℤ) → draws deeper controls list ≡ outcome (Done gs) now → (g axis : ℕ) → g < fs.points → axis < 2 → get_or now (2 * (g * 2 ^ l) + axis) (pos 0) ≡ get_or held (2 * g + axis) (pos 0)
+  pub found-again : (list : List ℤ) (gs : Figures) (now : List ℤ) → draws deeper controls list ≡ outcome (Ok gs) now → (g axis : ℕ) → g < fs.points → axis < 2 → get_or now (2 * (g * 2 ^ l) + axis) (pos 0) ≡ get_or held (2 * g + axis) (pos 0)
   unfolding points_of plan_of
   found-again list gs now drawn-now g axis h a =
       let p = plan_of s in

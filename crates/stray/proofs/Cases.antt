@@ -1,4 +1,5 @@
 -- The bounds at their edges, by computation: where they are met, and where anything less would be passed.
+use Rattle.std.specs.Prelude.{Ok}
 use mathlib.Core.Path.{◌≡◌, refl}
 use mathlib.Core.List.{List, [], ◌∷◌}
 use Prim.Native.Nat.{ℕ, ◌+◌, ◌*◌, ◌^◌, ◌<◌}
@@ -20,13 +21,11 @@ use Rattle.curve.specs.Ways.{left_half, right_half}
 use Rattle.shape.specs.Refusals.{judge, seek, plan_of, outside}
 use Rattle.shape.specs.Shape.{sixty_fourths, basis_of, records_of, spans_of, allowed, points_of}
 use Rattle.spans.specs.Numbers.{sum_of, number, remainder_of, noughts}
-use Rattle.outline.specs.declared.Drawn.TheVariants as drawn
 use Rattle.outline.specs.Outline.{draws}
 use Rattle.outline.specs.Cases.{on_x}
 use Rattle.pieces.specs.Tree.{finest, is_flat, tree, cuts, all_cuts}
 use Rattle.pieces.specs.Walk.{walk, walk_all}
 use Rattle.pieces.specs.Values.{starts, all_starts}
-use Rattle.tolerance.specs.declared.Chosen.TheVariants.{Done}
 use Rattle.tolerance.specs.Reading.{tree_of, chooses}
 use Rattle.stray.specs.Chord.{Bound, Within, Meets, bend_bound, micrometres, half_more, off_chord, finer}
 
@@ -90,7 +89,7 @@ larger-counts = lit≤ tt
 abbrev quarters : Four
 quarters = four (pos 0) (pos 1) (pos 5) (pos 9)
 
-pub drawn-quarters : draws (record { basis = 4; depth = 2; count = 4; parameter = 0 }) (on_x (pos 0 ∷ pos 1 ∷ pos 5 ∷ pos 9 ∷ [])) (replicate 10 (neg 1)) ≡ outcome (drawn.Done (record { points = 5; exact = 8 })) (on_x (pos 0 ∷ pos 1 ∷ pos 2 ∷ pos 3 ∷ pos 5 ∷ []))
+pub drawn-quarters : draws (record { basis = 4; depth = 2; count = 4; parameter = 0 }) (on_x (pos 0 ∷ pos 1 ∷ pos 5 ∷ pos 9 ∷ [])) (replicate 10 (neg 1)) ≡ outcome (Ok (record { points = 5; exact = 8 })) (on_x (pos 0 ∷ pos 1 ∷ pos 2 ∷ pos 3 ∷ pos 5 ∷ []))
 unfolding draws judge plan_of sixty_fourths basis_of spans_of records_of points_of allowed outside seek coordinate on_x tab number sum_of remainder_of weighted weights dot first_record records_from whole_controls nearest half_up remainder noughts
 drawn-quarters = refl
 
@@ -100,7 +99,7 @@ unfolding published cubic dot whole_controls bend
 half-met = refl
 
 -- By tolerance: a Bezier span 0, 1, 18, 51 on x at 3 micrometres is cut once, at 13 1/2, which is rounded to 14.
-pub cut-once : chooses (record { basis = 1; depth = 0; count = 4; parameter = 0 }) 3 1 (on_x (pos 0 ∷ pos 1 ∷ pos 18 ∷ pos 51 ∷ [])) (replicate 6 (neg 1)) ≡ outcome (Done (record { points = 3; cuts = 1; exact = 5 })) (on_x (pos 0 ∷ pos 14 ∷ pos 51 ∷ []))
+pub cut-once : chooses (record { basis = 1; depth = 0; count = 4; parameter = 0 }) 3 1 (on_x (pos 0 ∷ pos 1 ∷ pos 18 ∷ pos 51 ∷ [])) (replicate 6 (neg 1)) ≡ outcome (Ok (record { points = 3; cuts = 1; exact = 5 })) (on_x (pos 0 ∷ pos 14 ∷ pos 51 ∷ []))
 unfolding chooses judge plan_of sixty_fourths basis_of spans_of records_of allowed outside seek coordinate on_x tree_of tab tree is_flat bend left_half right_half cuts all_cuts starts all_starts walk walk_all first_record records_from whole_controls nearest half_up remainder noughts
 cut-once = refl
 

@@ -1,5 +1,6 @@
 -- Between two neighbouring points that were chosen by tolerance the curve stays within the tolerance of the chord, since they are the ends of one flat piece; and within half a micrometre more of the
 -- chord between the points as they stand in the list.
+use Rattle.std.specs.Prelude.{Ok}
 use mathlib.Core.Path.{◌≡◌, refl, sym, ap, ◌∙◌, subst}
 use mathlib.Core.List.{List, [], ◌∷◌, ◌++◌}
 use Prim.Native.Nat.{ℕ, zero, suc, ◌+◌, ◌*◌, ◌-◌, ◌^◌, ◌≤◌, ◌<◌}
@@ -26,7 +27,6 @@ use Rattle.pieces.specs.Steps.{steps_in}
 use Rattle.pieces.proofs.Even.{sums_at, Covers}
 use Rattle.pieces.proofs.Stepped.{steps-begin}
 use Rattle.tolerance.specs.declared.Steps.{Steps}
-use Rattle.tolerance.specs.declared.Chosen.TheVariants.{Done}
 use Rattle.tolerance.specs.Reading.{controls_of, tree_of, trees_of, chooses}
 use Rattle.tolerance.specs.Steps.{steps_from, steps_along, finest_plan}
 use Rattle.tolerance.proofs.Along.{at-step, held-along, many-along}
@@ -111,7 +111,7 @@ rounded-at d x y (g ∷ steps) (suc r) h =
 
 -- ---- after an accepted call
 
-module _ (s : Shape) (tolerance most : ℕ) (controls lent : List ℤ) (fs : Steps) (held : List ℤ) (done : chooses s tolerance most controls lent ≡ outcome (Done fs) held) where
+module _ (s : Shape) (tolerance most : ℕ) (controls lent : List ℤ) (fs : Steps) (held : List ℤ) (done : chooses s tolerance most controls lent ≡ outcome (Ok fs) held) where
   abbrev pl : Plan
   pl = plan_of s
 

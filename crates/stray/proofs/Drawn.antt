@@ -1,5 +1,6 @@
 -- Between two neighbouring points of an even outline the curve stays within the chord theorem's bound for their span, and within half a micrometre more of the chord between the points as they stand in
 -- the list.
+use Rattle.std.specs.Prelude.{Ok}
 use mathlib.Core.Path.{◌≡◌, sym, ap, ◌∙◌}
 use mathlib.Core.List.{List}
 use Prim.Native.Nat.{ℕ, ◌+◌, ◌*◌, ◌/◌, ◌%◌, ◌^◌, ◌≤◌, ◌<◌}
@@ -16,7 +17,6 @@ use Rattle.shape.specs.Depth.{plan_at}
 use Rattle.shape.specs.Refusals.{plan_of}
 use Rattle.shape.specs.Shape.{points_of}
 use Rattle.spans.specs.Numbers.{sum_of, number}
-use Rattle.outline.specs.declared.Drawn.TheVariants.{Done}
 use Rattle.outline.specs.declared.Figures.{Figures}
 use Rattle.outline.specs.Outline.{draws}
 use Rattle.outline.proofs.Held.{held_number}
@@ -71,7 +71,7 @@ module _ (p : Plan) (controls : List ℤ) (k l g axis : ℕ) (h : g < p.spans * 
 
 -- ---- after an accepted drawing
 
-module _ (s : Shape) (controls lent : List ℤ) (fs : Figures) (held : List ℤ) (done : draws s controls lent ≡ outcome (Done fs) held) (l g axis : ℕ) (h : g + 1 < fs.points) (a : axis < 2) where
+module _ (s : Shape) (controls lent : List ℤ) (fs : Figures) (held : List ℤ) (done : draws s controls lent ≡ outcome (Ok fs) held) (l g axis : ℕ) (h : g + 1 < fs.points) (a : axis < 2) where
   abbrev pl : Plan
   pl = plan_of s
 

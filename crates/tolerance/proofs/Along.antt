@@ -1,4 +1,5 @@
 -- The chosen points along the outline: each is the point of the even outline at the finest depth at its step, and the steps rise strictly from the first to the last.
+use Rattle.std.specs.Prelude.{Ok}
 use mathlib.Core.Path.{◌≡◌, refl, sym, ap, ◌∙◌, subst}
 use mathlib.Core.List.{List, [], ◌∷◌, ◌++◌}
 use Prim.Native.Nat.{ℕ, zero, suc, ◌+◌, ◌*◌, ◌-◌, ◌/◌, ◌%◌, ◌^◌, ◌≤◌, ◌<◌}
@@ -23,7 +24,6 @@ use Rattle.pieces.specs.Values.{all_starts, end, numbers}
 use Rattle.pieces.specs.Steps.{steps_in, Rises}
 use Rattle.pieces.proofs.Even.{sums_at, sums-append, Same, same-append, same-both, Covers, starts-even}
 use Rattle.pieces.proofs.Stepped.{rises-append, steps-rise, steps-begin, steps-count}
-use Rattle.tolerance.specs.declared.Chosen.TheVariants.{Done}
 use Rattle.tolerance.specs.declared.Steps.{Steps}
 use Rattle.tolerance.specs.Reading.{controls_of, tree_of, trees_of, values_of, cuts_of, chooses}
 use Rattle.tolerance.specs.Steps.{steps_from, steps_along, finest_plan}
@@ -140,7 +140,7 @@ module _ (p : Plan) (tolerance : ℕ) (controls : List ℤ) where
 pub written-front : (l vs : List ℤ) → length vs ≤ length l → take (length vs) (sets l 0 vs) ≡ vs
 written-front l vs h = ap (take (length vs)) (sets-eq vs l 0 (omega arith)) ∙ take_at vs _ (length vs) refl
 
-module _ (s : Shape) (tolerance most : ℕ) (controls lent : List ℤ) (fs : Steps) (held : List ℤ) (done : chooses s tolerance most controls lent ≡ outcome (Done fs) held) where
+module _ (s : Shape) (tolerance most : ℕ) (controls lent : List ℤ) (fs : Steps) (held : List ℤ) (done : chooses s tolerance most controls lent ≡ outcome (Ok fs) held) where
   abbrev pl : Plan
   pl = plan_of s
 

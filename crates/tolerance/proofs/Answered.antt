@@ -1,4 +1,5 @@
 -- What an accepted call answers: the inner nodes of the trees, within the caller's most; as many points as flat pieces and one more; and the list with them.
+use Rattle.std.specs.Prelude.{Err, Ok, Result}
 use mathlib.Core.Path.{◌≡◌, refl, sym, ap, ◌∙◌, subst}
 use mathlib.Core.Bool.{false}
 use mathlib.Core.List.{List, ◌∷◌}
@@ -18,24 +19,23 @@ use Rattle.shape.proofs.Lists.{sets-keeps}
 use Rattle.shape.proofs.Refusals.{none-earlier, none-later, row-fails, good-plan, controls-facts}
 use Rattle.shape.proofs.Tests.{true-is-not-false}
 use Rattle.spans.proofs.Drawables.{drawable}
-use Rattle.pieces.specs.declared.Walked.{Walked}
-use Rattle.pieces.specs.declared.Walked.TheVariants.{Cuts, TooDeep, TooMany}
 use Rattle.pieces.specs.Tree.{most_tolerance, Sound}
 use Rattle.pieces.specs.Values.{numbers}
 use Rattle.pieces.proofs.Walks.{Counted, walk-all-counted}
 use Rattle.pieces.proofs.Writes.{length-numbers}
-use Rattle.tolerance.specs.declared.Chosen.TheVariants.{Done}
 use Rattle.tolerance.specs.declared.Steps.{Steps}
 use Rattle.tolerance.specs.Reading.{tree_of, walk_of, values_of, cuts_of, points_for, steps_of, tolerance_row, is_too_deep, is_too_many, last_rows, plan_rows, choose_rows, chosen, chooses}
 use Rattle.tolerance.specs.Inner.{Walkable, Choosable}
+use Rattle.pieces.specs.declared.Uncut.{Uncut}
+use Rattle.pieces.specs.declared.Uncut.TheVariants.{TooDeep, TooMany}
 use Rattle.tolerance.proofs.Left.{values_length}
 use Rattle.tolerance.proofs.Exactly.{done_none, done-steps, done_held}
 
 -- a walk that was not refused has counted
-counted : (w : Walked) → is_too_deep w ≡ false → is_too_many w ≡ false → (n : ℕ) × (w ≡ Cuts n)
-counted (Cuts n) d m = (n, refl)
-counted TooDeep d m = absurd (true-is-not-false refl d)
-counted TooMany d m = absurd (true-is-not-false refl m)
+counted : (w : Result ℕ Uncut) → is_too_deep w ≡ false → is_too_many w ≡ false → (n : ℕ) × (w ≡ Ok n)
+counted (Ok n) d m = (n, refl)
+counted (Err TooDeep) d m = absurd (true-is-not-false refl d)
+counted (Err TooMany) d m = absurd (true-is-not-false refl m)
 
 module _ (s : Shape) (tolerance most : ℕ) (controls lent : List ℤ) (none : NoRow (choose_rows s tolerance most controls lent)) where
   abbrev p : Plan
@@ -64,7 +64,7 @@ module _ (s : Shape) (tolerance most : ℕ) (controls lent : List ℤ) (none : N
         near = near;
       }
 
-  walked : (n : ℕ) × (walk_of p tolerance most controls ≡ Cuts n)
+  walked : (n : ℕ) × (walk_of p tolerance most controls ≡ Ok n)
   walked = counted (walk_of p tolerance most controls) (row-fails 21 rows left) (row-fails 22 rows left)
 
   all-counted : Counted most 0 ((t : ℕ) → 0 ≤ t → t < 0 + p.spans → Sound (tree_of p tolerance controls t)) (cuts_of p tolerance controls) walked.0
@@ -78,7 +78,7 @@ module _ (s : Shape) (tolerance most : ℕ) (controls lent : List ℤ) (none : N
   pub within-most : cuts_of p tolerance controls ≤ most
   within-most = omega (arith, all-counted.count, all-counted.within (omega arith))
 
-module _ (s : Shape) (tolerance most : ℕ) (controls lent : List ℤ) (f : Steps) (held : List ℤ) (done : chooses s tolerance most controls lent ≡ outcome (Done f) held) where
+module _ (s : Shape) (tolerance most : ℕ) (controls lent : List ℤ) (f : Steps) (held : List ℤ) (done : chooses s tolerance most controls lent ≡ outcome (Ok f) held) where
   none : NoRow (choose_rows s tolerance most controls lent)
   none = done_none s tolerance most controls lent f held done
 

@@ -1,4 +1,5 @@
 -- Where every piece above the finest level is cut, 63 cuts to each span, every step has a point: the call leaves and answers what drawing the even outline at the finest depth does.
+use Rattle.std.specs.Prelude.{Ok}
 use mathlib.Core.Path.{◌≡◌, refl, sym, ap, ◌∙◌, subst}
 use mathlib.Core.List.{List, [], ◌∷◌, ◌++◌}
 use Prim.Native.Nat.{ℕ, zero, suc, ◌+◌, ◌*◌, ◌^◌, ◌≤◌, ◌<◌}
@@ -21,7 +22,6 @@ use Rattle.spans.specs.Numbers.{sum_of, noughts}
 use Rattle.spans.specs.Filled.{fills}
 use Rattle.spans.specs.Inner.{wholes, remainders}
 use Rattle.spans.proofs.Rounds.{rounds-outline}
-use Rattle.outline.specs.declared.Drawn.TheVariants as drawn
 use Rattle.outline.specs.Outline as outline
 use Rattle.outline.specs.Outline.{draws}
 use Rattle.outline.proofs.Exactly.{none-drawn}
@@ -30,7 +30,6 @@ use Rattle.pieces.specs.Values.{numbers, exact_of}
 use Rattle.pieces.proofs.Even.{sums_at}
 use Rattle.pieces.proofs.Starts.{cuts-most}
 use Rattle.pieces.proofs.Stepped.{itself, steps_all}
-use Rattle.tolerance.specs.declared.Chosen.TheVariants.{Done}
 use Rattle.tolerance.specs.declared.Steps.{Steps}
 use Rattle.tolerance.specs.Reading.{controls_of, tree_of, values_of, cuts_of, tolerance_row, last_rows, plan_rows, chooses}
 use Rattle.tolerance.specs.Steps.{steps_from, steps_along, finest_shape, finest_plan}
@@ -86,7 +85,7 @@ module _ (p : Plan) (tolerance : ℕ) (controls : List ℤ) where
 
 -- ---- the even outline
 
-module _ (s : Shape) (tolerance most : ℕ) (controls lent : List ℤ) (fs : Steps) (held : List ℤ) (done : chooses s tolerance most controls lent ≡ outcome (Done fs) held) (full : fs.cuts ≡ most_cuts * (plan_of s).spans) where
+module _ (s : Shape) (tolerance most : ℕ) (controls lent : List ℤ) (fs : Steps) (held : List ℤ) (done : chooses s tolerance most controls lent ≡ outcome (Ok fs) held) (full : fs.cuts ≡ most_cuts * (plan_of s).spans) where
   abbrev p : Plan
   p = plan_of s
 
@@ -133,12 +132,12 @@ module _ (s : Shape) (tolerance most : ℕ) (controls lent : List ℤ) (fs : Ste
       (none-at s finest (omega arith) mine)
       (none_both (control_rows s.count s.count controls) (point_rows (outline.points q) (length lent)) lists (le-ltb (length lent) (2 * outline.points q) (subst (λ (n : ℕ). 2 * n ≤ length lent) points-full (answered-room s tolerance most controls lent fs held done)), tt))
 
-  pub even-outline : draws (finest_shape s) controls lent ≡ outcome (drawn.Done (record { points = fs.points; exact = fs.exact })) held
+  pub even-outline : draws (finest_shape s) controls lent ≡ outcome (Ok (record { points = fs.points; exact = fs.exact })) held
   even-outline =
       let steps = done-steps s tolerance most controls lent fs held done in
       none-drawn (finest_shape s) controls lent not-refused
       ∙ ap (λ r. outline.accepts r controls lent) finest-plan
       ∙ sym
       (λ i.
-      outcome (drawn.Done (record { points = points-full i; exact = (sym (ap (λ (g : Steps). g.exact) steps) ∙ ap (λ o. o.answer) same_outcome) i }))
+      outcome (Ok (record { points = points-full i; exact = (sym (ap (λ (g : Steps). g.exact) steps) ∙ ap (λ o. o.answer) same_outcome) i }))
       ((sym (done_held s tolerance most controls lent fs held done) ∙ ap (λ o. o.held) same_outcome) i))

@@ -1,4 +1,5 @@
 -- Edges of the call, computed: Bezier spans on the x axis, as the even outlines' cases are, and a loop. Answer and lent list, which held -1.
+use Rattle.std.specs.Prelude.{Err, Ok, Result}
 use mathlib.Core.Path.{◌≡◌, refl}
 use mathlib.Core.List.{List, [], ◌∷◌, ◌++◌}
 use Prim.Native.Nat.{ℕ, ◌*◌, ◌-◌}
@@ -18,19 +19,19 @@ use Rattle.outline.specs.Cases.{on_x}
 use Rattle.pieces.specs.Tree.{is_flat, tree, cuts, all_cuts}
 use Rattle.pieces.specs.Walk.{walk, walk_all}
 use Rattle.pieces.specs.Values.{starts, all_starts}
-use Rattle.tolerance.specs.declared.Chosen.{Chosen}
-use Rattle.tolerance.specs.declared.Chosen.TheVariants.{Done, Refused}
 use Rattle.tolerance.specs.Reading.{tree_of, chooses}
+use Rattle.shape.specs.declared.Refusal.{Refusal}
+use Rattle.tolerance.specs.declared.Steps.{Steps}
 
 -- One span of depth 0 at a tolerance, with a most, and room for three points.
-abbrev span_at : ℕ → ℕ → List ℤ → Outcome Chosen (List ℤ)
+abbrev span_at : ℕ → ℕ → List ℤ → Outcome (Result Steps Refusal) (List ℤ)
 span_at tolerance most xs = chooses (record { basis = 1; depth = 0; count = 4; parameter = 0 }) tolerance most (on_x xs) (replicate 6 (neg 1))
 
-abbrev done : ℕ → ℕ → ℕ → List ℤ → Outcome Chosen (List ℤ)
-done points cuts exact xs = outcome (Done (record { points = points; cuts = cuts; exact = exact })) (on_x xs ++ replicate (6 - 2 * points) (neg 1))
+abbrev done : ℕ → ℕ → ℕ → List ℤ → Outcome (Result Steps Refusal) (List ℤ)
+done points cuts exact xs = outcome (Ok (record { points = points; cuts = cuts; exact = exact })) (on_x xs ++ replicate (6 - 2 * points) (neg 1))
 
-abbrev refused : ℕ → Outcome Chosen (List ℤ)
-refused number = outcome (Refused (record { number = number; place = 0 })) (replicate 6 (neg 1))
+abbrev refused : ℕ → Outcome (Result Steps Refusal) (List ℤ)
+refused number = outcome (Err (record { number = number; place = 0 })) (replicate 6 (neg 1))
 
 pub edges :
     -- at tolerance 0 a straight span with equal steps is flat, and A, A, B, B is not
@@ -55,6 +56,6 @@ square = pos 0 ∷ pos 0 ∷ pos 12 ∷ pos 0 ∷ pos 12 ∷ pos 12 ∷ pos 0 �
 
 pub loop-closed :
     chooses (record { basis = 5; depth = 0; count = 4; parameter = 0 }) 2 0 square (replicate 12 (neg 1))
-    ≡ outcome (Done (record { points = 5; cuts = 0; exact = 10 })) (pos 10 ∷ pos 2 ∷ pos 10 ∷ pos 10 ∷ pos 2 ∷ pos 10 ∷ pos 2 ∷ pos 2 ∷ pos 10 ∷ pos 2 ∷ neg 1 ∷ neg 1 ∷ [])
+    ≡ outcome (Ok (record { points = 5; cuts = 0; exact = 10 })) (pos 10 ∷ pos 2 ∷ pos 10 ∷ pos 10 ∷ pos 2 ∷ pos 10 ∷ pos 2 ∷ pos 2 ∷ pos 10 ∷ pos 2 ∷ neg 1 ∷ neg 1 ∷ [])
 unfolding chooses judge plan_of sixty_fourths basis_of spans_of records_of allowed outside seek coordinate on_x tree_of tab tree is_flat bend left_half right_half cuts all_cuts starts all_starts walk walk_all first_record round_end records_from whole_controls nearest half_up remainder noughts
 loop-closed = refl

@@ -1,4 +1,5 @@
 -- A plan's spans, one after another: each can be walked from its controls, and what a loop still has to walk or to write, after what it has, makes the whole.
+use Rattle.std.specs.Prelude.{Ok}
 use mathlib.Core.Path.{◌≡◌, refl, sym, ap, ◌∙◌, subst}
 use mathlib.Core.List.{List, [], ◌∷◌, ◌++◌, append_assoc}
 use Prim.Native.Nat.{ℕ, zero, suc, ◌+◌, ◌*◌, ◌-◌, ◌^◌, ◌≤◌, ◌<◌}
@@ -18,7 +19,6 @@ use Rattle.shape.specs.Depth.{plan_at}
 use Rattle.spans.specs.Inner.{Ready}
 use Rattle.spans.proofs.Drawables.{span-ready}
 use Rattle.spans.proofs.Halves.{ready-cuttable}
-use Rattle.pieces.specs.declared.Walked.TheVariants.{Cuts}
 use Rattle.pieces.specs.Tree.{finest, piece, Tree, cuts, most_cuts, all_cuts}
 use Rattle.pieces.specs.Walk.{and_then, walk, walk_all}
 use Rattle.pieces.specs.Values.{Value, starts, all_starts, end}
@@ -77,7 +77,7 @@ module _ (f : ℕ → Tree) where
   unfolding walk_all
   walk-next most made s m h = ap (walk_all most made) (next s m h)
 
-  pub walk-done : (most made s m : ℕ) → m ≤ s → walk_all most made (tab f s (m - s)) ≡ Cuts made
+  pub walk-done : (most made s m : ℕ) → m ≤ s → walk_all most made (tab f s (m - s)) ≡ Ok made
   unfolding walk_all
   walk-done most made s m h = ap (walk_all most made) (none s m h)
 

@@ -1,4 +1,5 @@
 -- More tolerance, within the most that there may be, is accepted wherever less is, and never takes more cuts.
+use Rattle.std.specs.Prelude.{Ok, Result}
 use mathlib.Core.Path.{◌≡◌, refl, sym, subst}
 use mathlib.Core.List.{List, ◌∷◌}
 use Prim.Native.Nat.{ℕ, zero, suc, ◌+◌, ◌*◌, ◌≤◌}
@@ -12,14 +13,12 @@ use Rattle.shape.specs.declared.Shape.{Shape}
 use Rattle.shape.specs.declared.Plan.{Plan}
 use Rattle.shape.specs.Refusals.{NoRow, shape_rows, control_rows, point_rows, plan_of}
 use Rattle.shape.proofs.Refusals.{none-earlier, none-later, none_both}
-use Rattle.pieces.specs.declared.Walked.{Walked}
-use Rattle.pieces.specs.declared.Walked.TheVariants.{Cuts}
 use Rattle.pieces.specs.Tree.{finest, most_tolerance, piece, cuts, all_cuts, Sound}
 use Rattle.pieces.proofs.Tolerant.{stays-sound, fewer-cuts}
 use Rattle.pieces.proofs.Walks.{counted-walk-all}
-use Rattle.tolerance.specs.declared.Chosen.TheVariants.{Done}
 use Rattle.tolerance.specs.declared.Steps.{Steps}
 use Rattle.tolerance.specs.Reading.{controls_of, tree_of, walk_of, cuts_of, points_for, tolerance_row, walk_rows, last_rows, plan_rows, choose_rows, steps_of, chosen, chooses}
+use Rattle.pieces.specs.declared.Uncut.{Uncut}
 use Rattle.tolerance.proofs.Exactly.{none-chosen, done_none}
 use Rattle.tolerance.proofs.Answered.{answered-cuts, answered-points, answered-most, answered-room, answered-sound}
 
@@ -39,17 +38,17 @@ module _ (p : Plan) (tolerance more : ℕ) (controls : List ℤ) (h : tolerance 
   sound-of t s = stays-sound p.basis tolerance more h finest (piece 0 (controls_of p controls t 0) (controls_of p controls t 1)) s
 
 -- a walk that counted is not refused
-counts : (w : Walked) (n : ℕ) → w ≡ Cuts n → NoRow (walk_rows w)
+counts : (w : Result ℕ Uncut) (n : ℕ) → w ≡ Ok n → NoRow (walk_rows w)
 counts w n e = subst (λ v. NoRow (walk_rows v)) (sym e) (refl, (refl, tt))
 
-module _ (s : Shape) (tolerance most : ℕ) (controls lent : List ℤ) (f : Steps) (held : List ℤ) (done : chooses s tolerance most controls lent ≡ outcome (Done f) held) (more : ℕ) (h : tolerance ≤ more) (near : more ≤ most_tolerance) where
+module _ (s : Shape) (tolerance most : ℕ) (controls lent : List ℤ) (f : Steps) (held : List ℤ) (done : chooses s tolerance most controls lent ≡ outcome (Ok f) held) (more : ℕ) (h : tolerance ≤ more) (near : more ≤ most_tolerance) where
   abbrev p : Plan
   p = plan_of s
 
   fewer : cuts_of p more controls ≤ f.cuts
   fewer = subst (λ (n : ℕ). cuts_of p more controls ≤ n) (sym (answered-cuts s tolerance most controls lent f held done)) (fewer-of p tolerance more controls h)
 
-  walked : walk_of p more most controls ≡ Cuts (0 + cuts_of p more controls)
+  walked : walk_of p more most controls ≡ Ok (0 + cuts_of p more controls)
   walked =
       counted-walk-all (tree_of p more controls) most 0 0 p.spans (λ t low high. sound-of p tolerance more controls h t (answered-sound s tolerance most controls lent f held done t (omega arith)))
       (omega (arith, fewer, answered-most s tolerance most controls lent f held done))
@@ -66,5 +65,5 @@ module _ (s : Shape) (tolerance most : ℕ) (controls lent : List ℤ) (f : Step
       (none_both (control_rows s.count s.count controls) (tolerance_row more ∷ last_rows p more most controls (length lent)) lists (le-ltb most_tolerance more near, last))
 
   -- so it is done, by no more cuts
-  pub more-tolerant : (g : Steps) × (now : List ℤ) × (chooses s more most controls lent ≡ outcome (Done g) now) × (g.cuts ≤ f.cuts)
+  pub more-tolerant : (g : Steps) × (now : List ℤ) × (chooses s more most controls lent ≡ outcome (Ok g) now) × (g.cuts ≤ f.cuts)
   more-tolerant = (steps_of p more controls, chosen p more controls lent, none-chosen s more most controls lent not-refused, fewer)

@@ -1,5 +1,5 @@
 -- What drawing by tolerance comes to (document 02, request 3): the refusals in their order, or the points that were chosen in the lent list and everything past them kept. Definitions only.
-use Rattle.std.specs.Prelude.{Bool, true, false, List, [], ◌∷◌, ◌++◌, ℕ, ◌+◌, ◌-◌, ltb, ℤ, pos, length}
+use Rattle.std.specs.Prelude.{Bool, true, false, List, [], ◌∷◌, ◌++◌, ℕ, ◌+◌, ◌-◌, ltb, ℤ, pos, length, Err, Ok, Result}
 use Rattle.std.proofs.lemmas.List.Edits.{sets}
 use Rattle.whole.specs.Outcome.{Outcome, outcome, refuses}
 use Rattle.curve.specs.declared.Four.{Four}
@@ -9,14 +9,13 @@ use Rattle.shape.specs.declared.Shape.{Shape}
 use Rattle.shape.specs.declared.Plan.{Plan}
 use Rattle.shape.specs.Exactly.{Told, Refuses, Accepts}
 use Rattle.shape.specs.Refusals.{Row, row, judge, shape_rows, control_rows, point_rows, plan_of}
-use Rattle.pieces.specs.declared.Walked.{Walked}
-use Rattle.pieces.specs.declared.Walked.TheVariants.{Cuts, TooDeep, TooMany}
 use Rattle.pieces.specs.Tree.{Tree, most_tolerance, span_tree, all_cuts}
 use Rattle.pieces.specs.Walk.{walk_all}
 use Rattle.pieces.specs.Values.{Value, all_starts, end, numbers, exact_of}
 use Rattle.tolerance.specs.declared.Steps.{Steps}
-use Rattle.tolerance.specs.declared.Chosen.{Chosen}
-use Rattle.tolerance.specs.declared.Chosen.TheVariants.{Done, Refused}
+use Rattle.pieces.specs.declared.Uncut.{Uncut}
+use Rattle.pieces.specs.declared.Uncut.TheVariants.{TooDeep, TooMany}
+use Rattle.shape.specs.declared.Refusal.{Refusal}
 
 -- ---- the trees of a plan's spans
 
@@ -31,7 +30,7 @@ abbrev pub trees_of : Plan → ℕ → List ℤ → List Tree
 trees_of p tolerance controls = tab (tree_of p tolerance controls) 0 p.spans
 
 -- How the walk over all of them, from the left, ends.
-abbrev pub walk_of : Plan → ℕ → ℕ → List ℤ → Walked
+abbrev pub walk_of : Plan → ℕ → ℕ → List ℤ → Result ℕ Uncut
 walk_of p tolerance most controls = walk_all most 0 (trees_of p tolerance controls)
 
 -- ---- the points that they choose
@@ -56,17 +55,17 @@ abbrev pub tolerance_row : ℕ → Row
 tolerance_row tolerance = row (ltb most_tolerance tolerance) 20 0
 
 -- 21 or 22, whichever the walk meets first.
-abbrev pub is_too_deep : Walked → Bool
-is_too_deep (Cuts n) = false
-is_too_deep TooDeep = true
-is_too_deep TooMany = false
+abbrev pub is_too_deep : Result ℕ Uncut → Bool
+is_too_deep (Ok n) = false
+is_too_deep (Err TooDeep) = true
+is_too_deep (Err TooMany) = false
 
-abbrev pub is_too_many : Walked → Bool
-is_too_many (Cuts n) = false
-is_too_many TooDeep = false
-is_too_many TooMany = true
+abbrev pub is_too_many : Result ℕ Uncut → Bool
+is_too_many (Ok n) = false
+is_too_many (Err TooDeep) = false
+is_too_many (Err TooMany) = true
 
-abbrev pub walk_rows : Walked → List Row
+abbrev pub walk_rows : Result ℕ Uncut → List Row
 walk_rows w = row (is_too_deep w) 21 0 ∷ row (is_too_many w) 22 0 ∷ []
 
 -- 7, 8, 20, then 21 or 22, then 9, over n records; and 1, 2, 24, 3 before them.
@@ -82,9 +81,9 @@ choose_rows s tolerance most controls lent = shape_rows s ++ plan_rows s.count (
 -- ---- the answer
 
 -- What it tells: the number of points, the number of cuts made and how many of the points' coordinates are exact, or the refusal.
-abbrev pub told : Chosen → Told
-told (Done s) = Accepts (pos s.points ∷ pos s.cuts ∷ pos s.exact ∷ [])
-told (Refused r) = Refuses r
+abbrev pub told : Result Steps Refusal → Told
+told (Ok s) = Accepts (pos s.points ∷ pos s.cuts ∷ pos s.exact ∷ [])
+told (Err r) = Refuses r
 
 abbrev pub steps_of : Plan → ℕ → List ℤ → Steps
 steps_of p tolerance controls =
@@ -95,15 +94,15 @@ steps_of p tolerance controls =
 abbrev pub chosen : Plan → ℕ → List ℤ → List ℤ → List ℤ
 chosen p tolerance controls lent = sets lent 0 (numbers (values_of p tolerance controls))
 
-abbrev pub accepts : Plan → ℕ → List ℤ → List ℤ → Outcome Chosen (List ℤ)
-accepts p tolerance controls lent = outcome (Done (steps_of p tolerance controls)) (chosen p tolerance controls lent)
+abbrev pub accepts : Plan → ℕ → List ℤ → List ℤ → Outcome (Result Steps Refusal) (List ℤ)
+accepts p tolerance controls lent = outcome (Ok (steps_of p tolerance controls)) (chosen p tolerance controls lent)
 
 -- Row 9 alone is left, and then the call in the order of its rows.
-unfoldable pub chooses_last : Plan → ℕ → List ℤ → List ℤ → Outcome Chosen (List ℤ)
-chooses_last p tolerance controls lent = judge (point_rows (points_for p (cuts_of p tolerance controls)) (length lent)) (refuses Refused lent) (accepts p tolerance controls lent)
+unfoldable pub chooses_last : Plan → ℕ → List ℤ → List ℤ → Outcome (Result Steps Refusal) (List ℤ)
+chooses_last p tolerance controls lent = judge (point_rows (points_for p (cuts_of p tolerance controls)) (length lent)) (refuses Err lent) (accepts p tolerance controls lent)
 
-unfoldable pub chooses_plan : ℕ → Plan → ℕ → ℕ → List ℤ → List ℤ → Outcome Chosen (List ℤ)
-chooses_plan n p tolerance most controls lent = judge (plan_rows n p tolerance most controls lent) (refuses Refused lent) (accepts p tolerance controls lent)
+unfoldable pub chooses_plan : ℕ → Plan → ℕ → ℕ → List ℤ → List ℤ → Outcome (Result Steps Refusal) (List ℤ)
+chooses_plan n p tolerance most controls lent = judge (plan_rows n p tolerance most controls lent) (refuses Err lent) (accepts p tolerance controls lent)
 
-unfoldable pub chooses : Shape → ℕ → ℕ → List ℤ → List ℤ → Outcome Chosen (List ℤ)
-chooses s tolerance most controls lent = judge (choose_rows s tolerance most controls lent) (refuses Refused lent) (accepts (plan_of s) tolerance controls lent)
+unfoldable pub chooses : Shape → ℕ → ℕ → List ℤ → List ℤ → Outcome (Result Steps Refusal) (List ℤ)
+chooses s tolerance most controls lent = judge (choose_rows s tolerance most controls lent) (refuses Err lent) (accepts (plan_of s) tolerance controls lent)

@@ -1,4 +1,5 @@
 -- Only a NaN differs from itself, and any other double is that of its own bit pattern.
+use Rattle.std.specs.Prelude.{Err}
 use mathlib.Core.Path.{◌≡◌, refl, sym, ap, ◌∙◌, subst}
 use mathlib.Core.Bool.{true, false, not}
 use Prim.Native.Nat.{ℕ}
@@ -9,11 +10,11 @@ use lib.Ieee.{Float, nan, inf, fin, binary64, fits, is_nan, ne}
 use lib.Ieee.Bits.{of_bits-to_bits}
 use lib.Ieee.Compare.{differs_from_itself, nan_differs}
 use Rattle.doubles.specs.Number.{measure}
-use Rattle.doubles.specs.declared.Measure.TheVariants.{NotFinite}
+use Rattle.doubles.specs.declared.Unmeasured.TheVariants.{NotFinite}
 use Rattle.doubles.proofs.micrometres.Statement.{statement}
 use Rattle.doubles.proofs.micrometres.Tie as tie
 
-nan-measure : measure nan ≡ NotFinite
+nan-measure : measure nan ≡ Err NotFinite
 unfolding measure
 nan-measure = refl
 

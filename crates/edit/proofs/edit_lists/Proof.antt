@@ -1,4 +1,5 @@
 -- The controls are those asked for, and the points are worked from them.
+use Rattle.std.specs.Prelude.{Ok}
 use mathlib.Core.Path.{sym, ap, ◌∙◌, subst}
 use mathlib.Core.List.{List}
 use Prim.Native.Nat.{ℕ, ◌+◌, ◌*◌}
@@ -10,7 +11,6 @@ use Rattle.spans.specs.Filled.{filled}
 use Rattle.spans.specs.Inner.{Drawable}
 use Rattle.outline.proofs.Draws.{all-numbers}
 use Rattle.asked.specs.Edits.{exact_fresh, point_at, run_of}
-use Rattle.edit.specs.declared.Edited.TheVariants.{Done}
 use Rattle.edit.specs.Reading.{change, controls_after}
 use Rattle.edit.proofs.edit_lists.Statement.{statement}
 use Rattle.edit.proofs.edit_lists.Tie as tie
@@ -46,7 +46,7 @@ returns c =
     let exact = r.work-exact.ensures.0 ∙ ap (exact_fresh (run_of a.edit q a.place) q) t.ask.ensures in
     let answer = c.change_of.ensures ∙ ap (change a.edit a.shape q a.place) exact in
     let points = r.work-exact.ensures.1 ∙ ap (λ l. worked l all) t.ask.ensures ∙ ap (worked (controls_after a.edit a.shape a.place a.controls.now)) (sym (all-numbers q.depth q.spans)) in
-    λ i. outcome (Done (answer i)) (t.ask.ensures i, points i)
+    λ i. outcome (Ok (answer i)) (t.ask.ensures i, points i)
 
 pub edit_lists_spec : {M : Type 1} → statement M
 edit_lists_spec =

@@ -1,8 +1,10 @@
 -- What the checks found decides the edit.
+use Rattle.std.specs.Prelude.{Result}
 use mathlib.Core.Path.{◌≡◌, sym, ◌∙◌, subst}
 use borrow.Author.Rules.{rules}
-use Rattle.shape.specs.declared.Judged.{Judged}
 use Rattle.edit.specs.Inner.{Vetted}
+use Rattle.shape.specs.declared.Plan.{Plan}
+use Rattle.shape.specs.declared.Refusal.{Refusal}
 use Rattle.edit.proofs.edit_shape.Statement.{statement}
 use Rattle.edit.proofs.edit_shape.Tie as tie
 
@@ -16,7 +18,7 @@ enum-known-plan : tie.Need-enum_known-plan
 enum-known-plan c = search rules
 
 -- for the answer that an arm has told
-found : (k : tie.After-check_edit) (r : Judged) → k.check_edit.result ≡ r
+found : (k : tie.After-check_edit) (r : Result Plan Refusal) → k.check_edit.result ≡ r
     → Vetted k.args.edit k.args.shape k.args.place k.args.controls.now k.args.points.now r
 found k r is = let a = k.args in subst (Vetted a.edit a.shape a.place a.controls.now a.points.now) is k.check_edit.ensures
 

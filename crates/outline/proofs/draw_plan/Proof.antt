@@ -1,4 +1,5 @@
 -- Each check that passes drops its rows from the reading; where none is left the run from span 0 to the last is the outline.
+use Rattle.std.specs.Prelude.{Ok}
 use mathlib.Core.Path.{◌≡◌, sym, ap, ◌∙◌, subst}
 use mathlib.Core.List.{List}
 use Prim.Native.Nat.{ℕ, ◌+◌, ◌*◌, ◌-◌, ◌≤◌}
@@ -9,7 +10,6 @@ use lib.IntN.{ℤ}
 use lib.ListN.{length}
 use Rattle.whole.specs.Outcome.{outcome}
 use Rattle.shape.specs.declared.Plan.{Plan}
-use Rattle.shape.specs.declared.Checked.TheVariants.{Fine}
 use Rattle.shape.specs.Shape.{most_points}
 use Rattle.shape.specs.Refusals.{judge_lists}
 use Rattle.shape.specs.Inner.{Lent}
@@ -19,7 +19,6 @@ use Rattle.spans.specs.Numbers.{per_span}
 use Rattle.spans.specs.Filled.{fills, fills_run}
 use Rattle.spans.specs.Inner.{Drawable}
 use Rattle.spans.proofs.Drawables.{drawable}
-use Rattle.outline.specs.declared.Drawn.TheVariants.{Done}
 use Rattle.outline.specs.Outline.{points}
 use Rattle.outline.proofs.Draws.{all-numbers, plan-bad, plan-drawn}
 use Rattle.outline.proofs.draw_plan.Statement.{statement}
@@ -53,7 +52,7 @@ enum_told : tie.Need-enum_told-1
 enum_told c = search rules
 
 -- the lists are fine
-is-fine : (c : tie.In_default) → judge_lists c.args.shape.count c.args.controls.now (points c.args.plan) (length c.args.points.now) ≡ Fine
+is-fine : (c : tie.In_default) → judge_lists c.args.shape.count c.args.controls.now (points c.args.plan) (length c.args.points.now) ≡ Ok tt
 is-fine c = sym (listed c.before) ∙ c.in_default.is
 
 lent : (c : tie.In_default) → Lent c.args.shape.count c.args.controls.now (points c.args.plan) (length c.args.points.now)
@@ -93,7 +92,7 @@ returns-2 c =
     let p = a.plan in
     let count = t.points-count.ensures in
     let filled = c.fill_spans-exact.ensures ∙ whole_run p a.controls.now a.points.now in
-    (λ i. outcome (Done (record { points = count i; exact = (filled i).answer })) (filled i).held)
+    (λ i. outcome (Ok (record { points = count i; exact = (filled i).answer })) (filled i).held)
     ∙ sym (plan-drawn a.shape.count p a.controls.now a.points.now (is-fine t))
 
 pub draw_plan_spec : {M : Type 1} → statement M

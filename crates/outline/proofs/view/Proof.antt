@@ -1,4 +1,5 @@
 -- Each way out is one case of which part the view is; the part that is handed back starts where the span does, four bytes a number.
+use Rattle.std.specs.Prelude.{Err, Ok}
 use mathlib.Core.Path.{◌≡◌, sym, ap, ◌∙◌, subst}
 use mathlib.Core.List.{List, []}
 use Prim.Native.Nat.{ℕ, ◌+◌, ◌*◌, ◌-◌, ◌≤◌, ◌<◌}
@@ -8,7 +9,6 @@ use borrow.Author.Rules.{rules}
 use lib.IntN.{ℤ}
 use lib.ListN.{length, take, drop}
 use Rattle.shape.specs.declared.Plan.{Plan}
-use Rattle.shape.specs.declared.Judged.TheVariants.{Sound, Unsound}
 use Rattle.shape.specs.Inner.{Good}
 use Rattle.shape.specs.Refusals.{judge_shape}
 use Rattle.shape.specs.Shape.{points_of, most_points}
@@ -47,7 +47,7 @@ returns : tie.Need-returns-in_default
 returns c =
     let s = c.before.before.before in
     let a = s.args in
-    let e : judge_shape a.shape ≡ Unsound c.in_default.field-0 = sym c.check_shape.ensures ∙ c.in_default.is in
+    let e : judge_shape a.shape ≡ Err c.in_default.field-0 = sym c.check_shape.ensures ∙ c.in_default.is in
     empty-part (part_of a.shape a.span a.points.now) a.points.now a.points.ref_ptr.0 a.points.ref_ptr.1 (part-unsound a.shape c.in_default.field-0 a.span a.points.now e)
 
 sub-result-2 : tie.Need-slice_bounds-result-count-then-plan-span
@@ -63,7 +63,7 @@ part-result-end-2 c = search rules
 plan : tie.In-Sound → Plan
 plan c = c.in-Sound.plan
 
-is-sound : (c : tie.In-Sound) → judge_shape c.args.shape ≡ Sound (plan c)
+is-sound : (c : tie.In-Sound) → judge_shape c.args.shape ≡ Ok (plan c)
 unfolding plan
 is-sound c = sym c.check_shape.ensures ∙ c.in-Sound.is
 

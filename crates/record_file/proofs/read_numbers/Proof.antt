@@ -1,4 +1,5 @@
 -- Each return is where row 7 or 8 is the first that holds, or where neither does and the numbers are written.
+use Rattle.std.specs.Prelude.{Err, Ok, Result}
 use mathlib.Core.Path.{◌≡◌, refl, sym, ap, ◌∙◌, subst}
 use mathlib.Core.Bool.{false}
 use mathlib.Core.List.{List}
@@ -15,17 +16,16 @@ use Rattle.curve.proofs.Tab.{length-tab}
 use Rattle.shape.specs.declared.Shape.{Shape}
 use Rattle.shape.specs.Refusals.{first_outside}
 use Rattle.shape.proofs.Refusals.{judge-first, judge-none}
-use Rattle.record_file.specs.declared.Reading.{Reading}
-use Rattle.record_file.specs.declared.Reading.TheVariants.{Read, Refused}
 use Rattle.record_file.specs.Format.{number, numbers}
 use Rattle.record_file.proofs.Outside.{outside-written}
 use borrow.Author.Rules.{rules}
 use Rattle.record_file.proofs.read_numbers.Statement.{statement}
 use Rattle.record_file.proofs.read_numbers.Tie as tie
 use Rattle.record_file.specs.Rows.{list_rows}
+use Rattle.shape.specs.declared.Refusal.{Refusal}
 
-abbrev accepted : List ℕ → Shape → List ℤ → Outcome Reading (List ℤ)
-accepted file s controls = outcome (Read s) (sets controls 0 (numbers file s.count))
+abbrev accepted : List ℕ → Shape → List ℤ → Outcome (Result Shape Refusal) (List ℤ)
+accepted file s controls = outcome (Ok s) (sets controls 0 (numbers file s.count))
 
 -- row 7 did not hold
 room : (c : tie.Else-controls-count) → ltb (length c.args.controls.now) (2 * c.args.shape.count) ≡ false
@@ -47,7 +47,7 @@ returns : tie.Need-returns-then-controls-count
 returns c =
     let a = c.args in
     let n = a.shape.count in
-    sym (judge-first (list_rows a.file.now n a.controls.now) (refuses Refused a.controls.now) (accepted a.file.now a.shape a.controls.now) (record { number = 7; place = 0 }) (inl (lt-ltb (length a.controls.now) (2 * n) c.if-controls-count.true, refl)))
+    sym (judge-first (list_rows a.file.now n a.controls.now) (refuses Err a.controls.now) (accepted a.file.now a.shape a.controls.now) (record { number = 7; place = 0 }) (inl (lt-ltb (length a.controls.now) (2 * n) c.if-controls-count.true, refl)))
 
 slice-aggregate-write-numbers : tie.Need-slice_bounds-write_numbers-end
 slice-aggregate-write-numbers c = search rules
@@ -68,7 +68,7 @@ returns-2 c =
     let e = found c.before in
     let at = first_outside (numbers a.file.now n) n in
     sym
-    (judge-first (list_rows a.file.now n a.controls.now) (refuses Refused a.controls.now) (accepted a.file.now a.shape a.controls.now) (record { number = 8; place = c.first_outside-at.result })
+    (judge-first (list_rows a.file.now n a.controls.now) (refuses Err a.controls.now) (accepted a.file.now a.shape a.controls.now) (record { number = 8; place = c.first_outside-at.result })
     (inr (room c.before.before.before.before.before.before, inl (lt-ltb at n (subst (λ m. m < n) e c.if-at-count.true), (λ k. record { number = 8; place = sym e k })))))
 
 write-numbers-requires-2 : tie.Need-write_numbers-requires-2
@@ -83,9 +83,9 @@ returns-3 c =
     let n = a.shape.count in
     let e = found c.before.before.before.before in
     let at = first_outside (numbers a.file.now n) n in
-    ap (outcome (Read a.shape)) c.write_numbers-2.ensures
+    ap (outcome (Ok a.shape)) c.write_numbers-2.ensures
     ∙ sym
-    (judge-none (list_rows a.file.now n a.controls.now) (refuses Refused a.controls.now) (accepted a.file.now a.shape a.controls.now)
+    (judge-none (list_rows a.file.now n a.controls.now) (refuses Err a.controls.now) (accepted a.file.now a.shape a.controls.now)
     (room c.before.before.before.before.before.before.before.before.before, (le-ltb at n (subst (λ m. n ≤ m) e c.if-at-count.false), tt)))
 
 pub read_numbers_spec : {M : Type 1} → statement M

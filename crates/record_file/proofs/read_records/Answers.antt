@@ -1,9 +1,9 @@
 -- The shape's rows decide, or leave the rest of the table to the callee.
+use Rattle.std.specs.Prelude.{Err}
 use mathlib.Core.Path.{sym, ◌∙◌}
 use native.Mathlib.Omega.{arith}
 use Rattle.whole.specs.Outcome.{refuses}
 use Rattle.shape.proofs.Refusals.{sound, unsound}
-use Rattle.record_file.specs.declared.Reading.TheVariants.{Refused}
 use borrow.Author.Rules.{rules}
 use Rattle.record_file.proofs.read_records.Goals as goal
 use Rattle.record_file.specs.Rows.{shape_of, list_rows, accepts}
@@ -13,7 +13,7 @@ returns-in-Unsound c =
     let a = c.args in
     sym
     (unsound (shape_of a.file.now a.count) c.in-Unsound.refusal (sym c.check_shape.ensures ∙ c.in-Unsound.is)
-    (list_rows a.file.now a.count a.controls.now) (refuses Refused a.controls.now) (accepts a.file.now a.count a.controls.now))
+    (list_rows a.file.now a.count a.controls.now) (refuses Err a.controls.now) (accepts a.file.now a.count a.controls.now))
 
 pub returns-in-Sound : goal.returns-in-Sound
 returns-in-Sound c =
@@ -21,4 +21,4 @@ returns-in-Sound c =
     c.read_numbers.ensures
     ∙ sym
     (sound (shape_of a.file.now a.count) c.in-Sound.field-0 (sym c.check_shape.ensures ∙ c.in-Sound.is)
-    (list_rows a.file.now a.count a.controls.now) (refuses Refused a.controls.now) (accepts a.file.now a.count a.controls.now))
+    (list_rows a.file.now a.count a.controls.now) (refuses Err a.controls.now) (accepts a.file.now a.count a.controls.now))

@@ -1,7 +1,6 @@
 -- Fewer than four and more than 64 are never allowed; else a count is allowed that is the records of its spans.
 use mathlib.Core.Path.{◌≡◌, sym, ap, ◌∙◌}
 use native.Mathlib.Omega.{arith}
-use borrow.Author.Rules.{rules}
 use Rattle.shape.specs.Shape.{spans_of, records_of}
 use Rattle.shape.proofs.Spans.{spans-at-most, spans-refused, spans-counted}
 use Rattle.shape.proofs.allowed_spans.Goals as goal

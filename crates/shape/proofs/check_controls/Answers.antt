@@ -1,13 +1,12 @@
 -- Each return is where a row of the table is the first that holds, or where none does; the place of row 8 is what the search found.
-use mathlib.Core.Path.{◌≡◌, refl, sym, subst}
+use Rattle.std.specs.Prelude.{Err, Ok}
+use mathlib.Core.Path.{◌≡◌, refl, sym, ap, ◌∙◌, subst}
 use mathlib.Core.Bool.{false}
 use mathlib.Core.Logic.{inl, inr}
 use Prim.Native.Nat.{◌*◌, ◌≤◌, ◌<◌}
-use borrow.Author.Rules.{rules}
 use borrow.Author.Tests.{lt-ltb, le-ltb}
 use lib.Dec.{ltb}
 use lib.ListN.{length}
-use Rattle.shape.specs.declared.Checked.TheVariants.{Fine, Bad}
 use Rattle.shape.specs.Refusals.{control_rows, first_outside, judge_controls}
 use Rattle.shape.proofs.Refusals.{judge-first, judge-none}
 use Rattle.shape.proofs.check_controls.Goals as goal
@@ -17,7 +16,7 @@ pub returns-then-controls-count : goal.returns-then-controls-count
 unfolding judge_controls
 returns-then-controls-count c =
     let a = c.args in
-    sym (judge-first (control_rows a.count a.count a.controls.now) Bad Fine (record { number = 7; place = 0 }) (inl (lt-ltb (length a.controls.now) (2 * a.count) c.if-controls-count.true, refl)))
+    ap Err c.into.ensures ∙ sym (judge-first (control_rows a.count a.count a.controls.now) Err (Ok tt) (record { number = 7; place = 0 }) (inl (lt-ltb (length a.controls.now) (2 * a.count) c.if-controls-count.true, refl)))
 
 -- the test of row 7 that did not hold
 room : (c : Else-controls-count) → ltb (length c.args.controls.now) (2 * c.args.count) ≡ false
@@ -30,11 +29,11 @@ returns-then-at-count c =
     let at = c.first_outside-at.result in
     let found = c.first_outside-at.ensures in
     let holds = lt-ltb (first_outside a.controls.now a.count) a.count (subst (λ n. n < a.count) found c.if-at-count.true) in
-    sym (judge-first (control_rows a.count a.count a.controls.now) Bad Fine (record { number = 8; place = at }) (inr (room c.before.before, inl (holds, (λ k. record { number = 8; place = sym found k })))))
+    ap Err c.at.ensures ∙ sym (judge-first (control_rows a.count a.count a.controls.now) Err (Ok tt) (record { number = 8; place = at }) (inr (room c.before.before.before, inl (holds, (λ k. record { number = 8; place = sym found k })))))
 
 pub returns : goal.returns
 unfolding judge_controls
 returns c =
     let a = c.args in
     let inside = le-ltb (first_outside a.controls.now a.count) a.count (subst (λ n. a.count ≤ n) c.first_outside-at.ensures c.if-at-count.false) in
-    sym (judge-none (control_rows a.count a.count a.controls.now) Bad Fine (room c.before.before, (inside, tt)))
+    sym (judge-none (control_rows a.count a.count a.controls.now) Err (Ok tt) (room c.before.before, (inside, tt)))

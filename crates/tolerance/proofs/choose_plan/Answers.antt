@@ -1,11 +1,11 @@
 -- Each check that passes drops its rows from the reading; a walk that counted its cuts leaves every piece flat or cut.
+use Rattle.std.specs.Prelude.{Ok}
 use mathlib.Core.Path.{◌≡◌, sym, ap, ◌∙◌}
 use Prim.Native.Nat.{ℕ, ◌+◌, ◌<◌, ◌≤◌}
 use native.Mathlib.Nat.{zero-add}
 use native.Mathlib.Omega.{arith}
 use borrow.Author.Rules.{rules}
 use Rattle.whole.specs.Outcome.{outcome}
-use Rattle.shape.specs.declared.Checked.TheVariants.{Fine}
 use Rattle.shape.specs.Refusals.{judge_controls}
 use Rattle.shape.proofs.Refusals.{controls-none, controls-facts}
 use Rattle.spans.proofs.Drawables.{drawable}
@@ -24,7 +24,7 @@ returns-in-Bad c =
     sym (plan-bad a.shape.count a.plan a.tolerance a.most a.controls.now a.points.now c.in-Bad.refusal (sym k.check_controls.ensures ∙ c.in-Bad.is))
 
 -- the controls are fine
-fine : (c : In_default) → judge_controls c.args.shape.count c.args.controls.now ≡ Fine
+fine : (c : In_default) → judge_controls c.args.shape.count c.args.controls.now ≡ Ok tt
 fine c = sym c.check_controls.ensures ∙ c.in_default.is
 
 pub returns-then-tolerance-gt-MOST_TOLERANCE : goal.returns-then-tolerance-gt-MOST_TOLERANCE

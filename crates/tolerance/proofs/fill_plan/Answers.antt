@@ -1,4 +1,5 @@
 -- Row 9, or all chosen points.
+use Rattle.std.specs.Prelude.{Ok}
 use mathlib.Core.Path.{◌≡◌, sym, ap, ◌∙◌, subst}
 use Prim.Native.Nat.{ℕ, ◌+◌, ◌*◌, ◌^◌, ◌≤◌, ◌<◌}
 use native.Mathlib.Omega.{arith}
@@ -7,7 +8,6 @@ use lib.ListN.{length}
 use Rattle.whole.specs.Outcome.{outcome}
 use Rattle.shape.specs.Shape.{most_records}
 use Rattle.pieces.specs.Tree.{finest}
-use Rattle.tolerance.specs.declared.Chosen.TheVariants.{Done}
 use Rattle.tolerance.specs.Reading.{cuts_of, points_for}
 use Rattle.tolerance.proofs.Left.{values_length, cuts-below}
 use Rattle.tolerance.proofs.Chooses.{last-short, last-room}
@@ -55,5 +55,5 @@ returns c =
     let a = s.args in
     let made = s.requires.cuts_value in
     let all = c.fill_all-exact.ensures in
-    (λ i. outcome (Done (record { points = counted s i; cuts = made i; exact = (all i).answer })) (all i).held)
+    (λ i. outcome (Ok (record { points = counted s i; cuts = made i; exact = (all i).answer })) (all i).held)
     ∙ sym (last-room a.plan a.tolerance a.controls.now a.points.now (subst (λ (n : ℕ). 2 * n ≤ length a.points.now) (counted s) c.if-points-count.false))

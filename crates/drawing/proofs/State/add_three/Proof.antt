@@ -1,8 +1,8 @@
 -- The rows 6 and 7 are tested in their order; where neither holds, the three records are written.
+use Rattle.std.specs.Prelude.{Ok}
 use mathlib.Core.Path.{sym, ap, ◌∙◌}
 use mathlib.Core.List.{[], ◌∷◌}
 use Rattle.whole.specs.Outcome.{outcome}
-use Rattle.drawing.specs.declared.Stepped.TheVariants.{Next}
 use Rattle.drawing.proofs.Tables.{too_many, too_short, roomy}
 use borrow.Author.Rules.{rules}
 use Rattle.drawing.proofs.State.add_three.Statement.{statement}
@@ -37,7 +37,7 @@ returns-3 : tie.Need-returns
 returns-3 c =
     let e = c.before.before.before in
     let t = e.args in
-    ap (outcome (Next _)) c.put_three.ensures
+    ap (outcome (Ok _)) c.put_three.ensures
     ∙ sym (roomy t.self (t.a ∷ t.b ∷ t.c ∷ []) t.self.start t.closed t.controls.now e.if-next-gt-MOST_RECORDS.false e.if-controls-next.false)
 
 pub add_three_spec : {M : Type 1} → statement M

@@ -1,4 +1,5 @@
 -- Where current is not start a line to it is added; where it is, nothing is, and only closed changes.
+use Rattle.std.specs.Prelude.{Err, Ok}
 use mathlib.Core.Path.{◌≡◌, sym, ap, ◌∙◌}
 use mathlib.Core.Bool.{true, false}
 use mathlib.Core.List.{List, []}
@@ -11,8 +12,6 @@ use Rattle.drawing.specs.declared.State.{State}
 use native.Mathlib.Omega.{arith}
 use borrow.Author.Tests.{not-true, not-false}
 use Rattle.drawing.specs.declared.Step.TheVariants.{Close}
-use Rattle.shape.specs.declared.Checked.TheVariants.{Fine}
-use Rattle.drawing.specs.declared.Stepped.TheVariants.{Next, Refused}
 use Rattle.drawing.specs.Drawing.{same, line, added}
 use Rattle.drawing.specs.Inner.{judge_state, extends, goes_on}
 use Rattle.drawing.proofs.Tables.{reached-most, fine-reached, numbers-good, too_short, roomy}
@@ -20,7 +19,7 @@ use borrow.Author.Rules.{rules}
 use Rattle.drawing.proofs.State.close.Statement.{statement}
 use Rattle.drawing.proofs.State.close.Tie as tie
 
-few : (s : State) → judge_state s false ≡ Fine → s.count ≤ most_records
+few : (s : State) → judge_state s false ≡ Ok tt → s.count ≤ most_records
 few s e = reached-most s.count (fine-reached s false e)
 
 lined : (s : State) (l : List ℤ) → same s.current s.start ≡ false → goes_on s Close l ≡ extends s (line s.current s.start) s.start true l
@@ -32,13 +31,13 @@ unfolding added
 nothing s l e = numbers-good s Close l tt ∙ ap (λ cs. extends s cs s.start true l) (rw e)
 
 module _ (s : State) (l : List ℤ) (e : same s.current s.start ≡ true) (h : s.count ≤ most_records) where
-  no_room : length l < 2 * s.count → goes_on s Close l ≡ refuses Refused l (record { number = 7; place = 0 })
+  no_room : length l < 2 * s.count → goes_on s Close l ≡ refuses Err l (record { number = 7; place = 0 })
   no_room short = nothing s l e ∙ too_short s [] s.start true l (omega arith) (omega arith)
 
-  stays : 2 * s.count ≤ length l → goes_on s Close l ≡ outcome (Next (record { count = s.count; start = s.start; current = s.current; closed = true })) l
+  stays : 2 * s.count ≤ length l → goes_on s Close l ≡ outcome (Ok (record { count = s.count; start = s.start; current = s.current; closed = true })) l
   stays long =
       let as_many : s.count + 0 ≡ s.count = omega arith in
-      nothing s l e ∙ roomy s [] s.start true l (omega arith) (omega arith) ∙ (λ k. outcome (Next (record { count = as_many k; start = s.start; current = s.current; closed = true })) l)
+      nothing s l e ∙ roomy s [] s.start true l (omega arith) (omega arith) ∙ (λ k. outcome (Ok (record { count = as_many k; start = s.start; current = s.current; closed = true })) l)
 
 is-same-requires : tie.Need-is_same-requires
 is-same-requires c κs = search rules

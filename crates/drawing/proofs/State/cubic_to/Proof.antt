@@ -1,4 +1,5 @@
 -- Its six numbers are three controls, converted in order: the first bad number refuses, and where none is bad the three are added.
+use Rattle.std.specs.Prelude.{Err, Ok, Result}
 use mathlib.Core.Path.{◌≡◌, sym, ◌∙◌}
 use mathlib.Core.Bool.{false}
 use mathlib.Core.List.{List, [], ◌∷◌, ◌++◌}
@@ -12,9 +13,6 @@ use Rattle.drawing.specs.declared.Control.{Control}
 use Rattle.drawing.specs.declared.State.{State}
 use Rattle.shape.specs.Refusals.{Row}
 use Rattle.drawing.specs.declared.Step.TheVariants.{Cubic}
-use Rattle.drawing.specs.declared.Placed.TheVariants.{At, Amiss}
-use Rattle.drawing.specs.declared.Stepped.{Stepped}
-use Rattle.drawing.specs.declared.Stepped.TheVariants.{Refused}
 use Rattle.drawing.specs.Drawing.{added}
 use Rattle.drawing.proofs.Tables.{reached-most, fine-reached, placed-none, placed-is, placed, amiss, numbers-good}
 use borrow.Author.Rules.{rules}
@@ -28,29 +26,29 @@ module _ (s : State) (x0 y0 x1 y1 x2 y2 : Float) (l : List ℤ) where
   space : List Row
   space = space_rows s.count (s.count + length (added s (Cubic x0 y0 x1 y1 x2 y2))) l
 
-  done : Outcome Stepped (List ℤ)
+  done : Outcome (Result State Refusal) (List ℤ)
   done = accepts s (Cubic x0 y0 x1 y1 x2 y2) l
 
-  first-wrong : (r : Refusal) → judge_control 0 x0 y0 ≡ Amiss r → goes_on s (Cubic x0 y0 x1 y1 x2 y2) l ≡ refuses Refused l r
+  first-wrong : (r : Refusal) → judge_control 0 x0 y0 ≡ Err r → goes_on s (Cubic x0 y0 x1 y1 x2 y2) l ≡ refuses Err l r
   unfolding goes_on space done
-  first-wrong r e = amiss 0 x0 y0 r e (number_rows 2 (x1 ∷ y1 ∷ x2 ∷ y2 ∷ []) ++ space) (refuses Refused l) done
+  first-wrong r e = amiss 0 x0 y0 r e (number_rows 2 (x1 ∷ y1 ∷ x2 ∷ y2 ∷ []) ++ space) (refuses Err l) done
 
-  module _ (first : Control) (is-first : judge_control 0 x0 y0 ≡ At first) where
-    second-wrong : (r : Refusal) → judge_control 2 x1 y1 ≡ Amiss r → goes_on s (Cubic x0 y0 x1 y1 x2 y2) l ≡ refuses Refused l r
+  module _ (first : Control) (is-first : judge_control 0 x0 y0 ≡ Ok first) where
+    second-wrong : (r : Refusal) → judge_control 2 x1 y1 ≡ Err r → goes_on s (Cubic x0 y0 x1 y1 x2 y2) l ≡ refuses Err l r
     unfolding goes_on space done
     second-wrong r e =
-        placed 0 x0 y0 first is-first (number_rows 2 (x1 ∷ y1 ∷ x2 ∷ y2 ∷ []) ++ space) (refuses Refused l) done
-        ∙ amiss 2 x1 y1 r e (number_rows 4 (x2 ∷ y2 ∷ []) ++ space) (refuses Refused l) done
+        placed 0 x0 y0 first is-first (number_rows 2 (x1 ∷ y1 ∷ x2 ∷ y2 ∷ []) ++ space) (refuses Err l) done
+        ∙ amiss 2 x1 y1 r e (number_rows 4 (x2 ∷ y2 ∷ []) ++ space) (refuses Err l) done
 
-    module _ (second : Control) (is-second : judge_control 2 x1 y1 ≡ At second) where
-      third-wrong : (r : Refusal) → judge_control 4 x2 y2 ≡ Amiss r → goes_on s (Cubic x0 y0 x1 y1 x2 y2) l ≡ refuses Refused l r
+    module _ (second : Control) (is-second : judge_control 2 x1 y1 ≡ Ok second) where
+      third-wrong : (r : Refusal) → judge_control 4 x2 y2 ≡ Err r → goes_on s (Cubic x0 y0 x1 y1 x2 y2) l ≡ refuses Err l r
       unfolding goes_on space done
       third-wrong r e =
-          placed 0 x0 y0 first is-first (number_rows 2 (x1 ∷ y1 ∷ x2 ∷ y2 ∷ []) ++ space) (refuses Refused l) done
-          ∙ placed 2 x1 y1 second is-second (number_rows 4 (x2 ∷ y2 ∷ []) ++ space) (refuses Refused l) done
-          ∙ amiss 4 x2 y2 r e space (refuses Refused l) done
+          placed 0 x0 y0 first is-first (number_rows 2 (x1 ∷ y1 ∷ x2 ∷ y2 ∷ []) ++ space) (refuses Err l) done
+          ∙ placed 2 x1 y1 second is-second (number_rows 4 (x2 ∷ y2 ∷ []) ++ space) (refuses Err l) done
+          ∙ amiss 4 x2 y2 r e space (refuses Err l) done
 
-      drawn : (third : Control) → judge_control 4 x2 y2 ≡ At third → goes_on s (Cubic x0 y0 x1 y1 x2 y2) l ≡ extends s (first ∷ second ∷ third ∷ []) s.start s.closed l
+      drawn : (third : Control) → judge_control 4 x2 y2 ≡ Ok third → goes_on s (Cubic x0 y0 x1 y1 x2 y2) l ≡ extends s (first ∷ second ∷ third ∷ []) s.start s.closed l
       unfolding added
       drawn third is-third =
           let a = placed-none 0 x0 y0 first is-first in

@@ -1,4 +1,5 @@
 -- Its two numbers are the far end of the line, and three records follow.
+use Rattle.std.specs.Prelude.{Err, Ok}
 use mathlib.Core.Path.{◌≡◌, sym, ap, ◌∙◌}
 use mathlib.Core.Bool.{false}
 use mathlib.Core.List.{List}
@@ -11,8 +12,6 @@ use Rattle.shape.specs.declared.Refusal.{Refusal}
 use Rattle.drawing.specs.declared.Control.{Control}
 use Rattle.drawing.specs.declared.State.{State}
 use Rattle.drawing.specs.declared.Step.TheVariants.{Line}
-use Rattle.drawing.specs.declared.Placed.TheVariants.{At, Amiss}
-use Rattle.drawing.specs.declared.Stepped.TheVariants.{Refused}
 use Rattle.drawing.specs.Drawing.{line, added}
 use Rattle.drawing.specs.Reading.{space_rows, accepts}
 use Rattle.drawing.proofs.Tables.{reached-most, fine-reached, placed-none, placed-is, amiss, numbers-good}
@@ -21,11 +20,11 @@ use Rattle.drawing.proofs.State.line_to.Statement.{statement}
 use Rattle.drawing.proofs.State.line_to.Tie as tie
 use Rattle.drawing.specs.Inner.{judge_control, extends, goes_on}
 
-wrong : (s : State) (x y : Float) (l : List ℤ) (r : Refusal) → judge_control 0 x y ≡ Amiss r → goes_on s (Line x y) l ≡ refuses Refused l r
+wrong : (s : State) (x y : Float) (l : List ℤ) (r : Refusal) → judge_control 0 x y ≡ Err r → goes_on s (Line x y) l ≡ refuses Err l r
 unfolding goes_on
-wrong s x y l r e = amiss 0 x y r e (space_rows s.count (s.count + length (added s (Line x y))) l) (refuses Refused l) (accepts s (Line x y) l)
+wrong s x y l r e = amiss 0 x y r e (space_rows s.count (s.count + length (added s (Line x y))) l) (refuses Err l) (accepts s (Line x y) l)
 
-drawn : (s : State) (x y : Float) (l : List ℤ) (end : Control) → judge_control 0 x y ≡ At end → goes_on s (Line x y) l ≡ extends s (line s.current end) s.start s.closed l
+drawn : (s : State) (x y : Float) (l : List ℤ) (end : Control) → judge_control 0 x y ≡ Ok end → goes_on s (Line x y) l ≡ extends s (line s.current end) s.start s.closed l
 unfolding added
 drawn s x y l end e =
     numbers-good s (Line x y) l (placed-none 0 x y end e) ∙ ap (λ p. extends s (line s.current p) s.start s.closed l) (sym (placed-is 0 x y end e))

@@ -1,4 +1,5 @@
 -- A fit state that takes Move is empty and not closed, so the control is record 0 and the only one.
+use Rattle.std.specs.Prelude.{Err, Ok}
 use mathlib.Core.Path.{◌≡◌, sym, ◌∙◌}
 use mathlib.Core.Bool.{true, false}
 use mathlib.Core.List.{List, [], ◌∷◌}
@@ -13,9 +14,6 @@ use Rattle.shape.specs.declared.Refusal.{Refusal}
 use Rattle.drawing.specs.declared.Control.{Control}
 use Rattle.drawing.specs.declared.State.{State}
 use Rattle.drawing.specs.declared.Step.TheVariants.{Move}
-use Rattle.shape.specs.declared.Checked.TheVariants.{Fine}
-use Rattle.drawing.specs.declared.Placed.TheVariants.{At, Amiss}
-use Rattle.drawing.specs.declared.Stepped.TheVariants.{Next, Refused}
 use Rattle.drawing.specs.Drawing.{at, added, flat}
 use Rattle.drawing.specs.Reading.{space_rows, accepts}
 use Rattle.drawing.specs.Inner.{judge_state, judge_control, goes_on}
@@ -24,18 +22,18 @@ use borrow.Author.Rules.{rules}
 use Rattle.drawing.proofs.State.move_to.Statement.{statement}
 use Rattle.drawing.proofs.State.move_to.Tie as tie
 
-wrong : (s : State) (x y : Float) (l : List ℤ) (r : Refusal) → judge_control 0 x y ≡ Amiss r → goes_on s (Move x y) l ≡ refuses Refused l r
+wrong : (s : State) (x y : Float) (l : List ℤ) (r : Refusal) → judge_control 0 x y ≡ Err r → goes_on s (Move x y) l ≡ refuses Err l r
 unfolding goes_on
-wrong s x y l r e = amiss 0 x y r e (space_rows s.count (s.count + length (added s (Move x y))) l) (refuses Refused l) (accepts s (Move x y) l)
+wrong s x y l r e = amiss 0 x y r e (space_rows s.count (s.count + length (added s (Move x y))) l) (refuses Err l) (accepts s (Move x y) l)
 
-module _ (s : State) (x y : Float) (l : List ℤ) (fine : judge_state s true ≡ Fine) (first : Control) (is : judge_control 0 x y ≡ At first) where
-  no_room : length l < 2 → goes_on s (Move x y) l ≡ refuses Refused l (record { number = 7; place = 0 })
+module _ (s : State) (x y : Float) (l : List ℤ) (fine : judge_state s true ≡ Ok tt) (first : Control) (is : judge_control 0 x y ≡ Ok first) where
+  no_room : length l < 2 → goes_on s (Move x y) l ≡ refuses Err l (record { number = 7; place = 0 })
   unfolding added
   no_room h =
       let empty = fine-empty s fine in
       numbers-good s (Move x y) l (placed-none 0 x y first is) ∙ too_short s (at x y ∷ []) (at x y) s.closed l (omega arith) (omega arith)
 
-  written : 2 ≤ length l → (m : List ℤ) → m ≡ sets l 0 (flat (first ∷ [])) → goes_on s (Move x y) l ≡ outcome (Next (record { count = 1; start = first; current = first; closed = false })) m
+  written : 2 ≤ length l → (m : List ℤ) → m ≡ sets l 0 (flat (first ∷ [])) → goes_on s (Move x y) l ≡ outcome (Ok (record { count = 1; start = first; current = first; closed = false })) m
   unfolding added
   written h m e =
       let empty = fine-empty s fine in
@@ -45,7 +43,7 @@ module _ (s : State) (x y : Float) (l : List ℤ) (fine : judge_state s true ≡
       let list = (λ k. sets l (from k) (flat (control k ∷ []))) ∙ sym e in
       numbers-good s (Move x y) l (placed-none 0 x y first is)
       ∙ roomy s (at x y ∷ []) (at x y) s.closed l (omega arith) (omega arith)
-      ∙ (λ k. outcome (Next (record { count = one k; start = control k; current = control k; closed = fine-open s true fine k })) (list k))
+      ∙ (λ k. outcome (Ok (record { count = one k; start = control k; current = control k; closed = fine-open s true fine k })) (list k))
 
 control-of-requires : tie.Need-control_of-requires
 control-of-requires c κs = search rules

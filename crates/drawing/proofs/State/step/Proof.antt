@@ -1,11 +1,10 @@
 -- The state is checked first; where it is fit, the kind of step decides, and each kind does what is left of the call.
+use Rattle.std.specs.Prelude.{Ok, Result}
 use mathlib.Core.Path.{◌≡◌, sym, ap, ◌∙◌}
 use mathlib.Core.List.{List}
 use lib.IntN.{ℤ}
 use Rattle.whole.specs.Outcome.{Outcome}
 use Rattle.drawing.specs.declared.Step.{Step}
-use Rattle.shape.specs.declared.Checked.TheVariants.{Fine}
-use Rattle.drawing.specs.declared.Stepped.{Stepped}
 use Rattle.drawing.specs.Drawing.{opens}
 use Rattle.drawing.specs.Reading.{stepped}
 use Rattle.drawing.proofs.Tables.{fit, unfit}
@@ -13,10 +12,12 @@ use borrow.Author.Rules.{rules}
 use Rattle.drawing.proofs.State.step.Statement.{statement}
 use Rattle.drawing.proofs.State.step.Tie as tie
 use Rattle.drawing.specs.Inner.{judge_state, goes_on}
+use Rattle.drawing.specs.declared.State.{State}
+use Rattle.shape.specs.declared.Refusal.{Refusal}
 
 -- where the check found the state fit, it is fit for the kind that the step is
 fit-for :
-    (c : tie.In-Fine) (kind : Step) → c.args.step ≡ kind → judge_state c.args.self (opens kind) ≡ Fine
+    (c : tie.In-Fine) (kind : Step) → c.args.step ≡ kind → judge_state c.args.self (opens kind) ≡ Ok tt
 fit-for c kind e =
     let s = c.args.self in
     sym (c.check.ensures ∙ ap (judge_state s) (c.opens.ensures ∙ ap opens e)) ∙ c.in-Fine.is
@@ -24,7 +25,7 @@ fit-for c kind e =
 -- what the kind's method ensures is what the call does
 went_on :
     (c : tie.In-Fine) (kind : Step) → c.args.step ≡ kind
-    → (out : Outcome Stepped (List ℤ)) → out ≡ goes_on c.args.self kind c.args.controls.now
+    → (out : Outcome (Result State Refusal) (List ℤ)) → out ≡ goes_on c.args.self kind c.args.controls.now
     → out ≡ stepped c.args.self c.args.step c.args.controls.now
 went_on c kind e out g =
     let t = c.args in

@@ -1,9 +1,9 @@
 -- The first number decides, or leaves it to the second; where both are coordinates, they are the control's.
+use Rattle.std.specs.Prelude.{Ok}
 use mathlib.Core.Path.{sym, ◌∙◌}
 use Prim.Native.Nat.{◌+◌}
 use mir.Syntax.{w32}
 use Rattle.whole.proofs.Fit.{kept-is}
-use Rattle.drawing.specs.declared.Placed.TheVariants.{At}
 use Rattle.drawing.proofs.Tables.{wrong_first, good_none, good-is, first-amiss, then-amiss, then-placed}
 use borrow.Author.Rules.{rules}
 use Rattle.drawing.proofs.numbers.control_of.Statement.{statement}
@@ -51,7 +51,7 @@ returns-3 c =
     let ey = sym c.number-in-Good.ensures ∙ c.in-Good-number.is in
     let is_x = kept-is w32 p.in-Good.x (record { sfits = p.in-Good.known_told-in-Good-1-own.given.0.1 }) ∙ good-is t.place t.x p.in-Good.x ex in
     let is_y = kept-is w32 c.in-Good-number.y (record { sfits = c.in-Good-number.known_told-in-Good-number-2-1-own.given.0.1 }) ∙ good-is (t.place + 1) t.y c.in-Good-number.y ey in
-    (λ k. At (record { x = is_x k; y = is_y k })) ∙ sym (then-placed t.place t.x t.y (good_none t.place t.x p.in-Good.x ex) (good_none (t.place + 1) t.y c.in-Good-number.y ey))
+    (λ k. Ok (record { x = is_x k; y = is_y k })) ∙ sym (then-placed t.place t.x t.y (good_none t.place t.x p.in-Good.x ex) (good_none (t.place + 1) t.y c.in-Good-number.y ey))
 
 pub control_of_spec : {M : Type 1} → statement M
 control_of_spec =

@@ -1,4 +1,5 @@
 -- Each answer of the conversion gives its own number of the paper, or none.
+use Rattle.std.specs.Prelude.{Err, Ok}
 use mathlib.Core.Path.{◌≡◌, sym, ap, ◌∙◌}
 use Prim.Native.Nat.{ℕ}
 use borrow.Author.Rules.{rules}
@@ -8,21 +9,20 @@ use mir.Syntax.{w32}
 use Rattle.whole.proofs.Fit.{kept-is}
 use Rattle.shape.specs.Refusals.{judge}
 use Rattle.doubles.specs.Number.{measure}
-use Rattle.doubles.specs.declared.Measure.TheVariants.{NotFinite, Outside, Micrometres}
-use Rattle.drawing.specs.declared.Numbered.TheVariants.{Good, Wrong}
 use Rattle.drawing.specs.Inner.{judge_number}
+use Rattle.doubles.specs.declared.Unmeasured.TheVariants.{NotFinite, Outside}
 use Rattle.drawing.proofs.numbers.number.Statement.{statement}
 use Rattle.drawing.proofs.numbers.number.Tie as tie
 
-not_finite : (i : ℕ) (x : Float) → measure x ≡ NotFinite → Wrong (record { number = 10; place = i }) ≡ judge_number i x
+not_finite : (i : ℕ) (x : Float) → measure x ≡ Err NotFinite → Err (record { number = 10; place = i }) ≡ judge_number i x
 unfolding judge_number judge
 not_finite i x e = rw e
 
-outside : (i : ℕ) (x : Float) → measure x ≡ Outside → Wrong (record { number = 11; place = i }) ≡ judge_number i x
+outside : (i : ℕ) (x : Float) → measure x ≡ Err Outside → Err (record { number = 11; place = i }) ≡ judge_number i x
 unfolding judge_number judge
 outside i x e = rw e
 
-good : (i : ℕ) (x : Float) (n : ℤ) → measure x ≡ Micrometres n → Good n ≡ judge_number i x
+good : (i : ℕ) (x : Float) (n : ℤ) → measure x ≡ Ok n → Ok n ≡ judge_number i x
 unfolding judge_number judge
 good i x n e = rw e
 
@@ -51,7 +51,7 @@ returns-2 c =
 returns-3 : tie.Need-returns-in-Micrometres
 returns-3 c =
     let a = c.args in
-    ap Good (kept-is w32 c.in-Micrometres.n (record { sfits = c.in-Micrometres.known_told-1-own.given.0.1 }))
+    ap Ok (kept-is w32 c.in-Micrometres.n (record { sfits = c.in-Micrometres.known_told-1-own.given.0.1 }))
     ∙ good a.place a.mm c.in-Micrometres.n (sym c.micrometres.ensures ∙ c.in-Micrometres.is)
 
 pub number_spec : {M : Type 1} → statement M

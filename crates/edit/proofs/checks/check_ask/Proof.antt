@@ -1,8 +1,8 @@
 -- The tests made so far are the rows passed, and the one that holds is the row given.
+use Rattle.std.specs.Prelude.{Err, Ok}
 use mathlib.Core.Path.{◌≡◌, refl, sym, ap, ◌∙◌}
 use mathlib.Core.Bool.{false, not}
 use mathlib.Core.Logic.{inl, inr}
-use Rattle.shape.specs.declared.Checked.TheVariants.{Fine, Bad}
 use Rattle.shape.proofs.Refusals.{judge-first, judge-none}
 use Rattle.asked.specs.Edits.{offered, in_range}
 use Rattle.edit.specs.Reading.{ask_rows, judge_ask}
@@ -21,7 +21,7 @@ unfolding judge_ask
 returns c =
     let a = c.args in
     c.refused.ensures
-    ∙ sym (judge-first (ask_rows a.edit a.basis a.place a.count) Bad Fine _ (inl (ap not (sym c.is_offered.ensures ∙ c.if-not-is_offered.true), refl)))
+    ∙ sym (judge-first (ask_rows a.edit a.basis a.place a.count) Err (Ok tt) _ (inl (ap not (sym c.is_offered.ensures ∙ c.if-not-is_offered.true), refl)))
 
 -- row 4 did not hold
 fourth : (t : tie.Else-not-is_offered) → not (offered t.args.edit t.args.basis) ≡ false
@@ -39,7 +39,7 @@ returns-2 c =
     let t = c.before.before.before in
     let a = t.args in
     let here = ap not (sym c.is_in_range.ensures ∙ c.if-not-is_in_range.true) in
-    c.refused-then-not-is_in_range.ensures ∙ sym (judge-first (ask_rows a.edit a.basis a.place a.count) Bad Fine _ (inr (fourth t, inl (here, refl))))
+    c.refused-then-not-is_in_range.ensures ∙ sym (judge-first (ask_rows a.edit a.basis a.place a.count) Err (Ok tt) _ (inr (fourth t, inl (here, refl))))
 
 -- row 5 did not hold
 fifth : (u : tie.Else-not-is_in_range) → not (in_range u.args.edit u.args.place u.args.count) ≡ false
@@ -58,7 +58,7 @@ returns-3 c =
     let t = u.before.before in
     let a = t.args in
     let here = sym c.is_at_the_end.ensures ∙ c.if-is_at_the_end.true in
-    c.refused-then-is_at_the_end.ensures ∙ sym (judge-first (ask_rows a.edit a.basis a.place a.count) Bad Fine _ (inr (fourth t, inr (fifth u, inl (here, refl)))))
+    c.refused-then-is_at_the_end.ensures ∙ sym (judge-first (ask_rows a.edit a.basis a.place a.count) Err (Ok tt) _ (inr (fourth t, inr (fifth u, inl (here, refl)))))
 
 returns-4 : tie.Need-returns
 unfolding judge_ask
@@ -67,7 +67,7 @@ returns-4 c =
     let t = u.before.before in
     let a = t.args in
     let sixth = sym c.is_at_the_end.ensures ∙ c.if-is_at_the_end.false in
-    sym (judge-none (ask_rows a.edit a.basis a.place a.count) Bad Fine (fourth t, (fifth u, (sixth, tt))))
+    sym (judge-none (ask_rows a.edit a.basis a.place a.count) Err (Ok tt) (fourth t, (fifth u, (sixth, tt))))
 
 pub check_ask_spec : {M : Type 1} → statement M
 check_ask_spec =

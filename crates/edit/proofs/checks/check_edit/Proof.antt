@@ -1,4 +1,5 @@
 -- Each of the three checks answers its own rows, the last over the greater of the two numbers of points.
+use Rattle.std.specs.Prelude.{Ok}
 use mathlib.Core.Path.{◌≡◌, sym, ap, ◌∙◌, subst}
 use Prim.Native.Nat.{ℕ, ◌≤◌, max}
 use native.Mathlib.Nat.{max-le}
@@ -7,8 +8,6 @@ use borrow.Author.Rules.{rules}
 use lib.ListN.{length}
 use Rattle.curve.specs.Span.{recount}
 use Rattle.shape.specs.declared.Plan.{Plan}
-use Rattle.shape.specs.declared.Judged.TheVariants.{Sound}
-use Rattle.shape.specs.declared.Checked.TheVariants.{Fine}
 use Rattle.shape.specs.Inner.{Good}
 use Rattle.shape.specs.Refusals.{judge_shape}
 use Rattle.shape.specs.Shape.{most_points, most_records, points_of}
@@ -51,7 +50,7 @@ module _ (k : tie.In-Sound) where
   abbrev p : Plan
   p = k.in-Sound.plan
 
-  is-sound : judge_shape s.args.shape ≡ Sound p
+  is-sound : judge_shape s.args.shape ≡ Ok p
   is-sound = sym k.check_shape.ensures ∙ k.in-Sound.is
 
   good : Good s.args.shape p
@@ -81,7 +80,7 @@ module _ (u : tie.In-Fine) where
   abbrev k : tie.In-Sound
   k = u.before.before
 
-  fine : judge_ask (s k).args.edit (p k).basis (s k).args.place (s k).args.shape.count ≡ Fine
+  fine : judge_ask (s k).args.edit (p k).basis (s k).args.place (s k).args.shape.count ≡ Ok tt
   fine = sym u.check_ask.ensures ∙ u.in-Fine.is
 
   -- the new shape has at most as many spans as records
@@ -152,7 +151,7 @@ returns-4 c =
     let r = t.before.before.before.before in
     let spans = r.spans_after-spans.ensures in
     let basis = r.recounted.ensures ∙ ap (λ (m : ℕ). recount m plan.basis) spans in
-    subst (λ (q : Plan). Vetted a.edit a.shape a.place a.controls.now a.points.now (Sound q))
+    subst (λ (q : Plan). Vetted a.edit a.shape a.place a.controls.now a.points.now (Ok q))
     (sym (λ i. record { basis = basis i; depth = plan.depth; spans = spans i }))
     (room-fine a.edit a.shape a.place a.controls.now a.points.now plan (is-sound (k (u t))) (fine (u t)) (sym (found t) ∙ c.in-Fine-check_room.is))
 

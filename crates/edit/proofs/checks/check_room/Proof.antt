@@ -1,4 +1,5 @@
 -- The tests made so far are the rows passed, and the one that holds is the row given.
+use Rattle.std.specs.Prelude.{Err, Ok}
 use mathlib.Core.Path.{◌≡◌, refl, sym, ap, ◌∙◌}
 use mathlib.Core.Logic.{inl, inr}
 use Prim.Native.Nat.{ℕ, ◌*◌, max}
@@ -7,7 +8,6 @@ use borrow.Author.Tests.{lt-ltb, le-ltb}
 use mathlib.Core.Bool.{false}
 use lib.Dec.{ltb}
 use lib.ListN.{length}
-use Rattle.shape.specs.declared.Checked.TheVariants.{Fine, Bad}
 use Rattle.shape.specs.Refusals.{first_outside}
 use Rattle.shape.proofs.Refusals.{judge-first, judge-none}
 use Rattle.asked.specs.Edits.{count_after}
@@ -51,7 +51,7 @@ returns c =
     let g = c.before.before in
     let a = g.args in
     c.refused.ensures
-    ∙ sym (judge-first (room_rows a.edit a.count a.controls.now a.most a.len) Bad Fine _ (inl (lt-ltb (length a.controls.now) (2 * max a.count (count_after a.edit a.count)) (omega (arith, room_of g, c.if-controls-greatest.true)), refl)))
+    ∙ sym (judge-first (room_rows a.edit a.count a.controls.now a.most a.len) Err (Ok tt) _ (inl (lt-ltb (length a.controls.now) (2 * max a.count (count_after a.edit a.count)) (omega (arith, room_of g, c.if-controls-greatest.true)), refl)))
 
 first-outside-requires : tie.Need-first_outside-outside-requires
 first-outside-requires c κs = search rules
@@ -66,8 +66,8 @@ returns-2 c =
     let t = f.before in
     let a = t.args in
     c.refused-then-outside-count.ensures
-    ∙ ap (λ (n : ℕ). Bad (record { number = 8; place = n })) f.first_outside-outside.ensures
-    ∙ sym (judge-first (room_rows a.edit a.count a.controls.now a.most a.len) Bad Fine _ (inr (roomy t, inl (lt-ltb (first_outside a.controls.now a.count) a.count (omega (arith, f.first_outside-outside.ensures, c.if-outside-count.true)), refl))))
+    ∙ ap (λ (n : ℕ). Err (record { number = 8; place = n })) f.first_outside-outside.ensures
+    ∙ sym (judge-first (room_rows a.edit a.count a.controls.now a.most a.len) Err (Ok tt) _ (inr (roomy t, inl (lt-ltb (first_outside a.controls.now a.count) a.count (omega (arith, f.first_outside-outside.ensures, c.if-outside-count.true)), refl))))
 
 is-new-outside-requires : tie.Need-is_new_outside-requires
 is-new-outside-requires c κs = search rules
@@ -82,7 +82,7 @@ returns-3 c =
     let t = u.before.before in
     let a = t.args in
     c.refused-then-is_new_outside.ensures
-    ∙ sym (judge-first (room_rows a.edit a.count a.controls.now a.most a.len) Bad Fine _ (inr (roomy t, inr (all-inside u, inl (sym c.is_new_outside.ensures ∙ c.if-is_new_outside.true, refl)))))
+    ∙ sym (judge-first (room_rows a.edit a.count a.controls.now a.most a.len) Err (Ok tt) _ (inr (roomy t, inr (all-inside u, inl (sym c.is_new_outside.ensures ∙ c.if-is_new_outside.true, refl)))))
 
 mul-if4 : tie.Need-overflow_mul-most
 mul-if4 c = search rules
@@ -98,7 +98,7 @@ returns-4 c =
     let t = u.before.before in
     let a = t.args in
     c.refused-then-len-most.ensures
-    ∙ sym (judge-first (room_rows a.edit a.count a.controls.now a.most a.len) Bad Fine _ (inr (roomy t, inr (all-inside u, inr (sym v.is_new_outside.ensures ∙ v.if-is_new_outside.false, inl (lt-ltb a.len (2 * a.most) c.if-len-most.true, refl))))))
+    ∙ sym (judge-first (room_rows a.edit a.count a.controls.now a.most a.len) Err (Ok tt) _ (inr (roomy t, inr (all-inside u, inr (sym v.is_new_outside.ensures ∙ v.if-is_new_outside.false, inl (lt-ltb a.len (2 * a.most) c.if-len-most.true, refl))))))
 
 returns-5 : tie.Need-returns
 unfolding judge_room
@@ -107,7 +107,7 @@ returns-5 c =
     let u = v.before.before in
     let t = u.before.before in
     let a = t.args in
-    sym (judge-none (room_rows a.edit a.count a.controls.now a.most a.len) Bad Fine (roomy t, (all-inside u, (sym v.is_new_outside.ensures ∙ v.if-is_new_outside.false, (le-ltb a.len (2 * a.most) c.if-len-most.false, tt)))))
+    sym (judge-none (room_rows a.edit a.count a.controls.now a.most a.len) Err (Ok tt) (roomy t, (all-inside u, (sym v.is_new_outside.ensures ∙ v.if-is_new_outside.false, (le-ltb a.len (2 * a.most) c.if-len-most.false, tt)))))
 
 pub check_room_spec : {M : Type 1} → statement M
 check_room_spec =

@@ -1,8 +1,8 @@
 -- The text is that of what choosing answered: the refusal's, or the listing of the points, which are all there.
+use Rattle.std.specs.Prelude.{Err}
 use mathlib.Core.Path.{sym, ap, ◌∙◌}
 use Prim.Native.Nat.{ℕ}
 use Rattle.whole.specs.Outcome.{outcome}
-use Rattle.tolerance.specs.declared.Chosen.TheVariants as chosen
 use Rattle.listing.specs.Listing.{listed_chosen}
 use Rattle.listing.specs.Written.{written}
 use Rattle.file_list.proofs.Texts.{cut-then, listed-cut}
@@ -40,7 +40,7 @@ returns c =
     let chose = c.by_tolerance in
     c.put_refusal.ensures
     ∙ ap (written a.text.now 0)
-    (sym (cut-then a.tolerance a.most a.shape a.controls.now (outcome (chosen.Refused c.in-Refused.refusal) chose.new.points) (sym chose.ensures ∙ ap (λ r. outcome r chose.new.points) c.in-Refused.is)))
+    (sym (cut-then a.tolerance a.most a.shape a.controls.now (outcome (Err c.in-Refused.refusal) chose.new.points) (sym chose.ensures ∙ ap (λ r. outcome r chose.new.points) c.in-Refused.is)))
 
 same-length-2 : tie.Need-shape_of-text-in-Done
 same-length-2 c = search rules

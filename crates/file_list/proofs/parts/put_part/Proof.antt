@@ -1,8 +1,10 @@
 -- By what reading the file came to.
+use Rattle.std.specs.Prelude.{Result}
 use mathlib.Core.Path.{sym, ap, ◌∙◌}
-use Rattle.record_file.specs.declared.Reading.{Reading}
 use Rattle.listing.specs.Written.{written}
 use Rattle.file_list.specs.Parts.{part_text}
+use Rattle.shape.specs.declared.Refusal.{Refusal}
+use Rattle.shape.specs.declared.Shape.{Shape}
 use borrow.Author.Rules.{rules}
 use Rattle.file_list.proofs.parts.put_part.Statement.{statement}
 use Rattle.file_list.proofs.parts.put_part.Tie as tie
@@ -26,7 +28,7 @@ returns : tie.Need-returns-in-Refused
 returns c =
     let a = c.args in
     c.put_only.ensures
-    ∙ ap (λ (r : Reading). written a.text.now 0 (part_text r a.controls.now a.part)) (sym c.in-Refused.is)
+    ∙ ap (λ (r : Result Shape Refusal). written a.text.now 0 (part_text r a.controls.now a.part)) (sym c.in-Refused.is)
 
 same-length-2 : tie.Need-shape_of-text-in-Read
 same-length-2 c = search rules
@@ -35,7 +37,7 @@ returns-2 : tie.Need-returns-in-Read
 returns-2 c =
     let a = c.args in
     c.put_shape_part.ensures
-    ∙ ap (λ (r : Reading). written a.text.now 0 (part_text r a.controls.now a.part)) (sym c.in-Read.is)
+    ∙ ap (λ (r : Result Shape Refusal). written a.text.now 0 (part_text r a.controls.now a.part)) (sym c.in-Read.is)
 
 pub put_part_spec : {M : Type 1} → statement M
 put_part_spec =

@@ -1,9 +1,11 @@
 -- By what the checks of the shape found.
+use Rattle.std.specs.Prelude.{Result}
 use mathlib.Core.Path.{sym, ap, ◌∙◌}
 use Rattle.shape.proofs.Refusals.{sound-facts}
-use Rattle.shape.specs.declared.Judged.{Judged}
 use Rattle.listing.specs.Written.{written}
 use Rattle.file_list.specs.Parts.{shape_part}
+use Rattle.shape.specs.declared.Plan.{Plan}
+use Rattle.shape.specs.declared.Refusal.{Refusal}
 use borrow.Author.Rules.{rules}
 use Rattle.file_list.proofs.parts.put_shape_part.Statement.{statement}
 use Rattle.file_list.proofs.parts.put_shape_part.Tie as tie
@@ -33,7 +35,7 @@ returns c =
     let a = c.args in
     let checked = c.check_shape in
     c.put_only.ensures
-    ∙ ap (λ (j : Judged). written a.text.now 0 (shape_part a.shape a.controls.now j a.part)) (sym (sym checked.ensures ∙ c.in-Unsound.is))
+    ∙ ap (λ (j : Result Plan Refusal). written a.text.now 0 (shape_part a.shape a.controls.now j a.part)) (sym (sym checked.ensures ∙ c.in-Unsound.is))
 
 same-length-2 : tie.Need-shape_of-text-in-Sound
 same-length-2 c = search rules
@@ -43,7 +45,7 @@ returns-2 c =
     let a = c.args in
     let checked = c.check_shape in
     c.put_outline_part.ensures
-    ∙ ap (λ (j : Judged). written a.text.now 0 (shape_part a.shape a.controls.now j a.part)) (sym (sym checked.ensures ∙ c.in-Sound.is))
+    ∙ ap (λ (j : Result Plan Refusal). written a.text.now 0 (shape_part a.shape a.controls.now j a.part)) (sym (sym checked.ensures ∙ c.in-Sound.is))
 
 pub put_shape_part_spec : {M : Type 1} → statement M
 put_shape_part_spec =

@@ -1,4 +1,5 @@
 -- An induction on the levels left: each return is what the walk of the piece's tree comes to (`Trees`, `Walks`).
+use Rattle.std.specs.Prelude.{Result}
 use mathlib.Core.Path.{◌≡◌, sym, ap, ◌∙◌}
 use Prim.Native.Nat.{ℕ, ◌+◌, ◌-◌, ◌<◌}
 use native.Mathlib.Omega.{arith}
@@ -9,9 +10,9 @@ use Rattle.curve.specs.Ways.{left_half, right_half}
 use Rattle.curve.proofs.Four.left_half.Reads as left-half-reads
 use Rattle.curve.proofs.Four.right_half.Reads as right-half-reads
 use Rattle.pieces.specs.Tree.{finest, Cut}
-use Rattle.pieces.specs.declared.Walked.{Walked}
 use Rattle.pieces.specs.Walk.{and_then, walk}
 use Rattle.pieces.specs.Inner.{tree_at}
+use Rattle.pieces.specs.declared.Uncut.{Uncut}
 use Rattle.pieces.proofs.Trees.{walkable-small, walkable-same, walkable-left, walkable-right, at-flat, at-finest, at_cut}
 use Rattle.pieces.proofs.Walks.{ended, walk-flat, walk-rough, walk-too-many, walk-cut}
 use Rattle.pieces.proofs.flat.is_flat.Reads as is-flat-reads
@@ -104,7 +105,7 @@ cut-walked t c =
     let a = e.args in
     let x = c.left_half.ensures in
     let y = c.left_half-2.ensures in
-    let rest : ℕ → Walked = λ n. walk a.most n (tree_at a.basis a.tolerance (a.level + 1) (right_half a.x) (right_half a.y)) in
+    let rest : ℕ → (Result ℕ Uncut) = λ n. walk a.most n (tree_at a.basis a.tolerance (a.level + 1) (right_half a.x) (right_half a.y)) in
     walk-cut a.most a.made _ _ _ (is_cut t e) c.if-most-made.false
     ∙ ap (λ w. and_then w rest) (sym (c.count_cuts-on_left.ensures ∙ (λ i. walk a.most (a.made + 1) (tree_at a.basis a.tolerance (a.level + 1) (x i) (y i)))))
 
@@ -136,7 +137,7 @@ returns-5 t c =
     let a = (whole l).args in
     let x = c.right_half.ensures in
     let y = c.right_half-2.ensures in
-    let rest : ℕ → Walked = λ n. walk a.most n (tree_at a.basis a.tolerance (a.level + 1) (right_half a.x) (right_half a.y)) in
+    let rest : ℕ → (Result ℕ Uncut) = λ n. walk a.most n (tree_at a.basis a.tolerance (a.level + 1) (right_half a.x) (right_half a.y)) in
     c.count_cuts.ensures
     ∙ (λ i. walk a.most k.in-Cuts.so_far (tree_at a.basis a.tolerance (a.level + 1) (x i) (y i)))
     ∙ sym (cut-walked t l ∙ ap (λ w. and_then w rest) k.in-Cuts.is)

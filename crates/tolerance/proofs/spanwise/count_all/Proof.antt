@@ -1,15 +1,16 @@
 -- What is left to walk, from the cuts made so far, is the whole walk; a turn takes the next span's tree off.
+use Rattle.std.specs.Prelude.{Result}
 use mathlib.Core.Path.{◌≡◌, sym, ap, ◌∙◌}
 use Prim.Native.Nat.{ℕ, ◌+◌, ◌-◌, ◌≤◌, ◌<◌}
 use native.Mathlib.Omega.{arith}
 use borrow.Author.Rules.{rules}
 use lib.Dec.{lit<}
 use Rattle.curve.specs.Tab.{tab}
-use Rattle.pieces.specs.declared.Walked.{Walked}
 use Rattle.pieces.specs.Walk.{and_then, walk, walk_all}
 use Rattle.pieces.proofs.Trees.{walkable-same}
 use Rattle.pieces.proofs.Walks.{ended}
 use Rattle.tolerance.specs.Reading.{tree_of, walk_of}
+use Rattle.pieces.specs.declared.Uncut.{Uncut}
 use Rattle.tolerance.proofs.Left.{span-walkable, same_span, walk-next, walk-done}
 use Rattle.tolerance.proofs.spanwise.count_all.Statement.{statement}
 use Rattle.tolerance.proofs.spanwise.count_all.Tie as tie
@@ -54,7 +55,7 @@ walked_on c =
     let a = t.args in
     let l = t.loop-span in
     let f = tree_of a.plan a.tolerance a.controls.now in
-    let rest : ℕ → Walked = λ n. walk_all a.most n (tab f (l.span + 1) (a.plan.spans - (l.span + 1))) in
+    let rest : ℕ → (Result ℕ Uncut) = λ n. walk_all a.most n (tab f (l.span + 1) (a.plan.spans - (l.span + 1))) in
     ap (λ w. and_then w rest)
     (c.count_cuts-walked.ensures ∙ ap (walk a.most l.made) (same_span a.plan a.tolerance a.controls.now l.span c.span_controls-x.ensures c.span_controls-y.ensures))
     ∙ sym (walk-next f a.most l.made l.span a.plan.spans c.loop-span-test.true)
@@ -76,7 +77,7 @@ loop-again : tie.Need-loop-span-preserved invariant-loop decreases-loop
 loop-again c =
     let k = c.before in
     let a = (turn k).args in
-    let rest : ℕ → Walked = λ n. walk_all a.most n (tab (tree_of a.plan a.tolerance a.controls.now) ((turn k).loop-span.span + 1) (a.plan.spans - ((turn k).loop-span.span + 1))) in
+    let rest : ℕ → (Result ℕ Uncut) = λ n. walk_all a.most n (tab (tree_of a.plan a.tolerance a.controls.now) ((turn k).loop-span.span + 1) (a.plan.spans - ((turn k).loop-span.span + 1))) in
     (omega arith, ap (λ w. and_then w rest) (sym c.in-Cuts.is) ∙ walked_on k)
 
 returns-2 : tie.Need-returns invariant-loop decreases-loop
