@@ -19,12 +19,11 @@ pub struct Pair {
     pub y: f64,
 }
 
-// What a drawing number means: a coordinate, or the reason why it is none.
-#[derive(Clone, Copy)]
-pub enum Measure {
+// Why a drawing number is no coordinate.
+#[derive(Clone, Copy, Debug, PartialEq, Eq)]
+pub enum Unmeasured {
     NotFinite,
     Outside,
-    Micrometres(i32),
 }
 
 // The limit of a coordinate either way, among the sizes that are rounded.
@@ -79,22 +78,22 @@ pub fn midpoint_pair(a: Pair, b: Pair) -> Pair
 }
 
 // A rounded size with its sign put back, if it is within limits.
-fn coordinate(negative: bool, size: u64) -> Measure
+fn coordinate(negative: bool, size: u64) -> Result<i32, Unmeasured>
     ensures { result ≡ within (signed negative size) }
 {
     if FARTHEST < size {
-        return Measure::Outside;
+        return Err(Unmeasured::Outside);
     }
     let n = size as i32;
     if negative {
-        Measure::Micrometres(-n)
+        Ok(-n)
     } else {
-        Measure::Micrometres(n)
+        Ok(n)
     }
 }
 
 // The millimetres digits / (4 · 2^bits), negative where it is said, as micrometres.
-fn scaled(negative: bool, digits: u64, bits: u32) -> Measure
+fn scaled(negative: bool, digits: u64, bits: u32) -> Result<i32, Unmeasured>
     requires { (digits < 2 ^ 53) × (bits < 64) }
     ensures { result ≡ within (nearest (signed negative (digits * thousand)) (4 * 2 ^ bits)) }
 {
@@ -102,29 +101,29 @@ fn scaled(negative: bool, digits: u64, bits: u32) -> Measure
 }
 
 // What the double of a bit pattern means, by its fields alone.
-fn of_pattern(bits: u64) -> Measure
+fn of_pattern(bits: u64) -> Result<i32, Unmeasured>
     ensures { result ≡ measure (of_bits binary64 bits) }
 {
     let field = bits % SIGN / LEADING;
     let digits = bits % LEADING;
     if field < SMALL {
-        return Measure::Micrometres(0);
+        return Ok(0);
     }
     if field == ONES {
-        return Measure::NotFinite;
+        return Err(Unmeasured::NotFinite);
     }
     if LARGE < field {
-        return Measure::Outside;
+        return Err(Unmeasured::Outside);
     }
     scaled(SIGN <= bits, LEADING + digits, (QUARTERS - field) as u32)
 }
 
 // What a drawing number means, for every double: a NaN is the one that differs from itself, and any other has a bit pattern.
-pub fn micrometres(mm: f64) -> Measure
+pub fn micrometres(mm: f64) -> Result<i32, Unmeasured>
     ensures { result ≡ measure mm }
 {
     if mm != mm {
-        Measure::NotFinite
+        Err(Unmeasured::NotFinite)
     } else {
         of_pattern(f64::to_bits(mm))
     }

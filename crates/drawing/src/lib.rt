@@ -5,10 +5,9 @@
 mod controls;
 mod numbers;
 
-ghost use Rattle.std.specs.Prelude.{◌≡◌, [], ◌∷◌, ◌≤◌};
+ghost use Rattle.std.specs.Prelude.{Ok, ◌≡◌, [], ◌∷◌, ◌≤◌};
 ghost use Rattle.whole.specs.Outcome.{outcome};
 ghost use Rattle.shape.specs.Shape.{most_records};
-ghost use Rattle.shape.specs.declared.Checked.TheVariants.{Fine};
 ghost use Rattle.drawing.specs.declared.Step.TheVariants.{Move, Line, Cubic, Close};
 ghost use Rattle.drawing.specs.Drawing.{empty, opens};
 ghost use Rattle.drawing.specs.Reading.{miscounted, astray, out_of_turn, stepped};
@@ -16,7 +15,7 @@ ghost use Rattle.drawing.specs.Inner.{judge_state, extends, goes_on};
 
 use controls::{is_same, put, put_three};
 use numbers::control_of;
-use shape::{Checked, MOST_RECORDS, Refusal, first_outside};
+use shape::{MOST_RECORDS, Reason, Refusal, first_outside};
 
 // A control: a record of the lent list, in micrometres.
 #[derive(Clone, Copy)]
@@ -43,38 +42,12 @@ pub enum Step {
     Close,
 }
 
-// What a step answers: the next state, or the refusal.
-#[derive(Clone, Copy)]
-pub enum Stepped {
-    Next(State),
-    Refused(Refusal),
-}
-
-// What a number of a step is (rows 10, 11).
-#[derive(Clone, Copy)]
-enum Numbered {
-    Good(i32),
-    Wrong(Refusal),
-}
-
-// What two numbers of a step are (rows 10, 11).
-#[derive(Clone, Copy)]
-enum Placed {
-    At(Control),
-    Amiss(Refusal),
-}
-
 impl Step {
     // Move alone opens a drawing.
     fn opens(self) -> bool
         ensures { result ≡ opens self }
     {
-        match self {
-            Step::Move(_, _) => true,
-            Step::Line(_, _) => false,
-            Step::Cubic(_, _, _, _, _, _) => false,
-            Step::Close => false,
-        }
+        matches!(self, Step::Move(_, _))
     }
 }
 
@@ -134,28 +107,19 @@ impl State {
     }
 
     // The checks of the state in the paper's order: 3, 8, 12.
-    fn check(self, opening: bool) -> Checked
+    fn check(self, opening: bool) -> Result<(), Refusal>
         ensures { result ≡ judge_state self opening }
     {
         if self.is_miscounted() {
-            return Checked::Bad(Refusal {
-                number: 3,
-                place: 0,
-            });
+            return Err(Reason::WrongCount.into());
         }
         if self.is_astray() {
-            return Checked::Bad(Refusal {
-                number: 8,
-                place: 0,
-            });
+            return Err(Reason::OutsideLimits.into());
         }
         if self.is_out_of_turn(opening) {
-            return Checked::Bad(Refusal {
-                number: 12,
-                place: 0,
-            });
+            return Err(Reason::OutOfTurn.into());
         }
-        Checked::Fine
+        Ok(())
     }
 
     // Three records more: the checks 6 and 7, the writing, and the next state.
@@ -166,7 +130,7 @@ impl State {
         c: Control,
         closed: bool,
         controls: &mut [i32],
-    ) -> Stepped
+    ) -> Result<State, Refusal>
         requires { self.count ≤ most_records }
         ensures { outcome result controls.new ≡ extends self (a ∷ b ∷ c ∷ []) self.start closed controls.old }
     {
@@ -174,19 +138,13 @@ impl State {
         let start = self.start;
         let next = count + 3;
         if MOST_RECORDS < next {
-            return Stepped::Refused(Refusal {
-                number: 6,
-                place: 0,
-            });
+            return Err(Reason::CountAtItsLimit.into());
         }
         if controls.len() < 2 * next {
-            return Stepped::Refused(Refusal {
-                number: 7,
-                place: 0,
-            });
+            return Err(Reason::ShortControls.into());
         }
         put_three(controls, 2 * count, a, b, c);
-        Stepped::Next(State {
+        Ok(State {
             count: next,
             start,
             current: c,
@@ -195,41 +153,32 @@ impl State {
     }
 
     // Move gives the first control, and is start and current from then on.
-    fn move_to(self, x: f64, y: f64, controls: &mut [i32]) -> Stepped
-        requires { judge_state self (opens (Move x y)) ≡ Fine }
+    fn move_to(self, x: f64, y: f64, controls: &mut [i32]) -> Result<State, Refusal>
+        requires { judge_state self (opens (Move x y)) ≡ Ok tt }
         ensures { outcome result controls.new ≡ goes_on self (Move x y) controls.old }
     {
-        match control_of(x, y, 0) {
-            Placed::Amiss(refusal) => Stepped::Refused(refusal),
-            Placed::At(first) => {
-                if controls.len() < 2 {
-                    return Stepped::Refused(Refusal {
-                        number: 7,
-                        place: 0,
-                    });
-                }
-                put(controls, 0, first);
-                Stepped::Next(State {
-                    count: 1,
-                    start: first,
-                    current: first,
-                    closed: false,
-                })
-            }
+        let first = control_of(x, y, 0)?;
+        if controls.len() < 2 {
+            return Err(Reason::ShortControls.into());
         }
+        put(controls, 0, first);
+        Ok(State {
+            count: 1,
+            start: first,
+            current: first,
+            closed: false,
+        })
     }
 
     // Line from A to B adds A, B, B.
-    fn line_to(self, x: f64, y: f64, controls: &mut [i32]) -> Stepped
-        requires { judge_state self (opens (Line x y)) ≡ Fine }
+    fn line_to(self, x: f64, y: f64, controls: &mut [i32]) -> Result<State, Refusal>
+        requires { judge_state self (opens (Line x y)) ≡ Ok tt }
         ensures { outcome result controls.new ≡ goes_on self (Line x y) controls.old }
     {
         let current = self.current;
         let closed = self.closed;
-        match control_of(x, y, 0) {
-            Placed::Amiss(refusal) => Stepped::Refused(refusal),
-            Placed::At(end) => self.add_three(current, end, end, closed, controls),
-        }
+        let end = control_of(x, y, 0)?;
+        self.add_three(current, end, end, closed, controls)
     }
 
     // Cubic adds its three controls.
@@ -242,26 +191,20 @@ impl State {
         e: f64,
         f: f64,
         controls: &mut [i32],
-    ) -> Stepped
-        requires { judge_state self (opens (Cubic a b c d e f)) ≡ Fine }
+    ) -> Result<State, Refusal>
+        requires { judge_state self (opens (Cubic a b c d e f)) ≡ Ok tt }
         ensures { outcome result controls.new ≡ goes_on self (Cubic a b c d e f) controls.old }
     {
         let closed = self.closed;
-        match control_of(a, b, 0) {
-            Placed::Amiss(refusal) => Stepped::Refused(refusal),
-            Placed::At(first) => match control_of(c, d, 2) {
-                Placed::Amiss(refusal) => Stepped::Refused(refusal),
-                Placed::At(second) => match control_of(e, f, 4) {
-                    Placed::Amiss(refusal) => Stepped::Refused(refusal),
-                    Placed::At(third) => self.add_three(first, second, third, closed, controls),
-                },
-            },
-        }
+        let first = control_of(a, b, 0)?;
+        let second = control_of(c, d, 2)?;
+        let third = control_of(e, f, 4)?;
+        self.add_three(first, second, third, closed, controls)
     }
 
     // Close adds a Line to the start, or nothing where current is there already, and closes.
-    fn close(self, controls: &mut [i32]) -> Stepped
-        requires { judge_state self (opens Close) ≡ Fine }
+    fn close(self, controls: &mut [i32]) -> Result<State, Refusal>
+        requires { judge_state self (opens Close) ≡ Ok tt }
         ensures { outcome result controls.new ≡ goes_on self Close controls.old }
     {
         let count = self.count;
@@ -271,12 +214,9 @@ impl State {
             return self.add_three(current, start, start, true, controls);
         }
         if controls.len() < 2 * count {
-            return Stepped::Refused(Refusal {
-                number: 7,
-                place: 0,
-            });
+            return Err(Reason::ShortControls.into());
         }
-        Stepped::Next(State {
+        Ok(State {
             count,
             start,
             current,
@@ -286,17 +226,15 @@ impl State {
 
     // One step of a drawing. It is refused by the first check that fails, 3, 8, 12, then its numbers in order, 6, 7, and then no lent number changes and no state.
     // Else the records that it adds are written from record number count on, every other lent number stays, and the next state comes back.
-    pub fn step(self, step: Step, controls: &mut [i32]) -> Stepped
+    pub fn step(self, step: Step, controls: &mut [i32]) -> Result<State, Refusal>
         ensures { outcome result controls.new ≡ stepped self step controls.old }
     {
-        match self.check(step.opens()) {
-            Checked::Bad(refusal) => Stepped::Refused(refusal),
-            Checked::Fine => match step {
-                Step::Move(x, y) => self.move_to(x, y, controls),
-                Step::Line(x, y) => self.line_to(x, y, controls),
-                Step::Cubic(a, b, c, d, e, f) => self.cubic_to(a, b, c, d, e, f, controls),
-                Step::Close => self.close(controls),
-            },
+        self.check(step.opens())?;
+        match step {
+            Step::Move(x, y) => self.move_to(x, y, controls),
+            Step::Line(x, y) => self.line_to(x, y, controls),
+            Step::Cubic(a, b, c, d, e, f) => self.cubic_to(a, b, c, d, e, f, controls),
+            Step::Close => self.close(controls),
         }
     }
 }

@@ -10,50 +10,43 @@ use asked::counts::{
 };
 use curve::Basis;
 use curve::records::recounted;
-use shape::{Checked, Judged, Plan, Refusal, Shape, check_shape, first_outside};
-
-// A refusal, as the checks find it.
-fn refused(number: usize, place: usize) -> Checked
-    ensures { result ≡ Checked.Bad (record { number = number; place = place }) }
-{
-    Checked::Bad(Refusal { number, place })
-}
+use shape::{Plan, Reason, Refusal, Shape, check_shape, first_outside};
 
 // The checks of what is asked in the paper's order, 4, 5, 6.
-fn check_ask(edit: Edit, basis: Basis, place: usize, count: usize) -> Checked
+fn check_ask(edit: Edit, basis: Basis, place: usize, count: usize) -> Result<(), Refusal>
     ensures { result ≡ judge_ask edit basis place count }
 {
     if !is_offered(edit, basis) {
-        return refused(4, 0);
+        return Err(Reason::NotOffered.into());
     }
     if !is_in_range(edit, place, count) {
-        return refused(5, place);
+        return Err(Reason::NoSuchRecord.at(place));
     }
     if is_at_the_end(edit, count) {
-        return refused(6, 0);
+        return Err(Reason::CountAtItsLimit.into());
     }
-    Checked::Fine
+    Ok(())
 }
 
 // The checks of the lent lists in the paper's order, 7, 8, 8 for the new record, 9.
-fn check_room(edit: Edit, count: usize, controls: &[i32], most: usize, len: usize) -> Checked
+fn check_room(edit: Edit, count: usize, controls: &[i32], most: usize, len: usize) -> Result<(), Refusal>
     requires { (1 ≤ count) × (count ≤ most_records) × (most ≤ most_points) }
     ensures { result ≡ judge_room edit count controls.now most len }
 {
     if controls.len() < 2 * greatest(count, count_after(edit, count)) {
-        return refused(7, 0);
+        return Err(Reason::ShortControls.into());
     }
     let outside = first_outside(controls, count);
     if outside < count {
-        return refused(8, outside);
+        return Err(Reason::OutsideLimits.at(outside));
     }
     if is_new_outside(edit) {
-        return refused(8, count);
+        return Err(Reason::OutsideLimits.at(count));
     }
     if len < 2 * most {
-        return refused(9, 0);
+        return Err(Reason::ShortPoints.into());
     }
-    Checked::Fine
+    Ok(())
 }
 
 // All checks of an edit in the paper's order, 1 to 9 with 24 after 2: a refusal, or the plan of the new shape.
@@ -63,18 +56,12 @@ pub(crate) fn check_edit(
     place: usize,
     controls: &[i32],
     points: &[i32],
-) -> Judged
+) -> Result<Plan, Refusal>
     ensures { Vetted edit shape place controls.now points.now result }
 {
-    let plan = match check_shape(shape) {
-        Judged::Unsound(refusal) => return Judged::Unsound(refusal),
-        Judged::Sound(plan) => plan,
-    };
+    let plan = check_shape(shape)?;
     let basis = plan.basis;
-    match check_ask(edit, basis, place, shape.count) {
-        Checked::Bad(refusal) => return Judged::Unsound(refusal),
-        Checked::Fine => {}
-    }
+    check_ask(edit, basis, place, shape.count)?;
     let spans = spans_after(edit, plan.spans);
     let next = Plan {
         basis: recounted(spans, basis),
@@ -82,8 +69,6 @@ pub(crate) fn check_edit(
         spans,
     };
     let most = greatest(plan.points(), next.points());
-    match check_room(edit, shape.count, controls, most, points.len()) {
-        Checked::Bad(refusal) => Judged::Unsound(refusal),
-        Checked::Fine => Judged::Sound(next),
-    }
+    check_room(edit, shape.count, controls, most, points.len())?;
+    Ok(next)
 }

@@ -6,7 +6,7 @@ mod carrying;
 mod checks;
 mod working;
 
-ghost use Rattle.std.specs.Prelude.{◌≡◌, ◌≤◌, length};
+ghost use Rattle.std.specs.Prelude.{Ok, ◌≡◌, ◌≤◌, length};
 ghost use Rattle.whole.specs.Outcome.{outcome};
 ghost use Rattle.shape.specs.Inner.{RunsRound};
 ghost use Rattle.shape.specs.Shape.{most_records};
@@ -17,7 +17,7 @@ pub use asked::Edit;
 use asked::asking::ask;
 use asked::counts::{count_after, run_of};
 use checks::check_edit;
-use shape::{Judged, Plan, Refusal, Shape};
+use shape::{Plan, Refusal, Shape};
 use working::work;
 
 // What an accepted edit answers: the new shape, the first span worked afresh, how many, and how many coordinates of their points are exact. Kept and carried points are not counted.
@@ -29,12 +29,6 @@ pub struct Change {
     pub exact: usize,
 }
 
-#[derive(Clone, Copy)]
-pub enum Edited {
-    Done(Change),
-    Refused(Refusal),
-}
-
 // Record `place` becomes (x, y), for every basis. The controls and all points of the outline stand in the lent lists, and the new ones do afterwards: the spans that use
 // the record are worked afresh, every other number keeps its value. A refusal changes nothing.
 pub fn move_record(
@@ -44,7 +38,7 @@ pub fn move_record(
     y: i32,
     controls: &mut [i32],
     points: &mut [i32],
-) -> Edited
+) -> Result<Change, Refusal>
     ensures { outcome result (controls.new, points.new) ≡ edits (Edit.Move x y) shape place controls.old points.old }
 {
     edit_shape(Edit::Move(x, y), shape, place, controls, points)
@@ -58,14 +52,14 @@ pub fn insert_record(
     y: i32,
     controls: &mut [i32],
     points: &mut [i32],
-) -> Edited
+) -> Result<Change, Refusal>
     ensures { outcome result (controls.new, points.new) ≡ edits (Edit.Insert x y) shape place controls.old points.old }
 {
     edit_shape(Edit::Insert(x, y), shape, place, controls, points)
 }
 
 // Record `place` is taken out, for bases 2, 3 and 5. The spans after the fresh ones are carried back by one span.
-pub fn remove_record(shape: Shape, place: usize, controls: &mut [i32], points: &mut [i32]) -> Edited
+pub fn remove_record(shape: Shape, place: usize, controls: &mut [i32], points: &mut [i32]) -> Result<Change, Refusal>
     ensures { outcome result (controls.new, points.new) ≡ edits Edit.Remove shape place controls.old points.old }
 {
     edit_shape(Edit::Remove, shape, place, controls, points)
@@ -78,13 +72,11 @@ fn edit_shape(
     place: usize,
     controls: &mut [i32],
     points: &mut [i32],
-) -> Edited
+) -> Result<Change, Refusal>
     ensures { outcome result (controls.new, points.new) ≡ edits edit shape place controls.old points.old }
 {
-    match check_edit(edit, shape, place, controls, points) {
-        Judged::Unsound(refusal) => Edited::Refused(refusal),
-        Judged::Sound(plan) => edit_lists(edit, shape, plan, place, controls, points),
-    }
+    let plan = check_edit(edit, shape, place, controls, points)?;
+    Ok(edit_lists(edit, shape, plan, place, controls, points))
 }
 
 // The new controls and the new points, in the lent lists themselves, and the answer: nothing is refused any more.
@@ -95,13 +87,13 @@ fn edit_lists(
     place: usize,
     controls: &mut [i32],
     points: &mut [i32],
-) -> Edited
+) -> Change
     requires { Workable edit shape plan place controls.old (length points.old) }
-    ensures { outcome result (controls.new, points.new) ≡ accepts edit shape plan place controls.old points.old }
+    ensures { outcome (Ok result) (controls.new, points.new) ≡ accepts edit shape plan place controls.old points.old }
 {
     ask(edit, place, shape.count, controls);
     let exact = work(edit, plan, place, controls, points);
-    Edited::Done(change_of(edit, shape, plan, place, exact))
+    change_of(edit, shape, plan, place, exact)
 }
 
 // The answer of an accepted edit: `plan` is that of the new shape, and `exact` what working it counted.

@@ -8,9 +8,9 @@ ghost use Rattle.file_list.specs.Files.{by_tolerance, cut_file_text, writes};
 use crate::{LINE, MOST_SPANS, count_of, put_refusal};
 use listing::{Put, list_chosen};
 use pieces::FINEST;
-use record_file::{MOST_CONTROLS, Reading, read};
-use shape::{Judged, Shape, check_shape};
-use tolerance::{Chosen, by_tolerance};
+use record_file::{MOST_CONTROLS, read};
+use shape::{Shape, check_shape};
+use tolerance::by_tolerance;
 
 // The most points that can be chosen, and their numbers.
 const MOST_CHOSEN: usize = MOST_SPANS * (1 << FINEST) + 1;
@@ -38,8 +38,8 @@ fn put_file(file: &[u8], tolerance: usize, most: usize, text: &mut [u8]) -> Put
 {
     let mut controls = [0i32; MOST_CONTROLS];
     match read(file, &mut controls) {
-        Reading::Refused(refusal) => put_refusal(refusal, text),
-        Reading::Read(shape) => put_shape(shape, tolerance, most, &controls, text),
+        Err(refusal) => put_refusal(refusal, text),
+        Ok(shape) => put_shape(shape, tolerance, most, &controls, text),
     }
 }
 
@@ -48,8 +48,8 @@ fn put_shape(shape: Shape, tolerance: usize, most: usize, controls: &[i32], text
     ensures { outcome result text.new ≡ written text.old 0 (by_tolerance tolerance most shape controls.now) }
 {
     match check_shape(shape) {
-        Judged::Unsound(refusal) => put_refusal(refusal, text),
-        Judged::Sound(plan) => put_chosen(shape, plan.spans, tolerance, most, controls, text),
+        Err(refusal) => put_refusal(refusal, text),
+        Ok(plan) => put_chosen(shape, plan.spans, tolerance, most, controls, text),
     }
 }
 
@@ -67,8 +67,8 @@ fn put_chosen(
 {
     let mut points = [0i32; MOST_NUMBERS];
     match by_tolerance(shape, tolerance, most, controls, &mut points) {
-        Chosen::Refused(refusal) => put_refusal(refusal, text),
-        Chosen::Done(steps) => list_chosen(
+        Err(refusal) => put_refusal(refusal, text),
+        Ok(steps) => list_chosen(
             text,
             shape.basis,
             tolerance,

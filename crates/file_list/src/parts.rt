@@ -14,9 +14,8 @@ use crate::{LINE, count_of, put_refusal};
 use curve::records::{first_record, record_at};
 use curve::{Basis, MOST_STEPS};
 use listing::{Put, list_heading, list_points};
-use outline::{Drawn, by_differences};
-use record_file::Reading;
-use shape::{B_SPLINE, Judged, LEAST_RECORDS, LOOP, Plan, Refusal, Shape, check_shape};
+use outline::by_differences;
+use shape::{B_SPLINE, LEAST_RECORDS, LOOP, Plan, Refusal, Shape, check_shape};
 
 // The points of a span at the deepest, its start and its end among them, and their numbers.
 const SPAN_POINTS: usize = MOST_STEPS + 1;
@@ -30,21 +29,21 @@ const OWN_NUMBERS: usize = 2 * LEAST_RECORDS;
 pub const MOST_PART: usize = LINE * SPAN_POINTS;
 
 // How many parts the listing of a file has, by what reading it came to.
-pub fn parts_of(reading: Reading) -> usize
+pub fn parts_of(reading: Result<Shape, Refusal>) -> usize
     ensures { result ≡ parts_of reading }
 {
-    let Reading::Read(shape) = reading else {
+    let Ok(shape) = reading else {
         return 1;
     };
     match check_shape(shape) {
-        Judged::Unsound(_) => 1,
-        Judged::Sound(plan) => plan.spans + 1,
+        Err(_) => 1,
+        Ok(plan) => plan.spans + 1,
     }
 }
 
 // Writes one part of the listing from the start of `text`, and answers how many characters it has: 0 where they do not fit, and where there is no such part. The controls are those that
 // reading the file left.
-pub fn list_part(reading: Reading, part: usize, controls: &[i32], text: &mut [u8]) -> usize
+pub fn list_part(reading: Result<Shape, Refusal>, part: usize, controls: &[i32], text: &mut [u8]) -> usize
     ensures within { Within result text.new }
     ensures text_after { outcome result text.new ≡ writes (part_text reading controls.now part) text.old }
 {
@@ -52,12 +51,12 @@ pub fn list_part(reading: Reading, part: usize, controls: &[i32], text: &mut [u8
 }
 
 // The part itself, by what reading the file came to.
-fn put_part(reading: Reading, part: usize, controls: &[i32], text: &mut [u8]) -> Put
+fn put_part(reading: Result<Shape, Refusal>, part: usize, controls: &[i32], text: &mut [u8]) -> Put
     ensures { outcome result text.new ≡ written text.old 0 (part_text reading controls.now part) }
 {
     match reading {
-        Reading::Refused(refusal) => put_only(refusal, part, text),
-        Reading::Read(shape) => put_shape_part(shape, part, controls, text),
+        Err(refusal) => put_only(refusal, part, text),
+        Ok(shape) => put_shape_part(shape, part, controls, text),
     }
 }
 
@@ -77,8 +76,8 @@ fn put_shape_part(shape: Shape, part: usize, controls: &[i32], text: &mut [u8]) 
     ensures { outcome result text.new ≡ written text.old 0 (shape_part shape controls.now (judge_shape shape) part) }
 {
     match check_shape(shape) {
-        Judged::Unsound(refusal) => put_only(refusal, part, text),
-        Judged::Sound(plan) => put_outline_part(shape, plan, part, controls, text),
+        Err(refusal) => put_only(refusal, part, text),
+        Ok(plan) => put_outline_part(shape, plan, part, controls, text),
     }
 }
 
@@ -151,7 +150,7 @@ fn put_lines(shape: Shape, plan: Plan, span: usize, records: &[i32], text: &mut 
         count: LEAST_RECORDS,
         parameter: shape.parameter,
     };
-    let Drawn::Done(_) = by_differences(one, records, &mut points) else {
+    let Ok(_) = by_differences(one, records, &mut points) else {
         return Put::End(0);
     };
     let first = span * plan.steps();

@@ -7,7 +7,7 @@ ghost use Rattle.shape.specs.Inner.{Good};
 ghost use Rattle.outline.specs.Outline.{draws, draws_plan};
 ghost use Rattle.outline.specs.View.{part_of, viewed};
 
-use shape::{Checked, Judged, Plan, Refusal, Shape, check_lists, check_shape};
+use shape::{Plan, Refusal, Shape, check_lists, check_shape};
 use spans::run::{Way, fill_spans};
 
 // How many points stand in the list now, and how many of their coordinates are exact: the curve itself is there at a whole number. x and y are counted each by itself.
@@ -17,56 +17,45 @@ pub struct Figures {
     pub exact: usize,
 }
 
-// What a drawing call answers: its figures, or the refusal.
-#[derive(Clone, Copy)]
-pub enum Drawn {
-    Done(Figures),
-    Refused(Refusal),
-}
-
 // The outline of a shape: its controls are only read, all its points stand in the list from its start, and every number past them keeps what it held. A refusal
 // changes nothing. This one by weights: each point by a row of the table.
-pub fn by_weights(shape: Shape, controls: &[i32], points: &mut [i32]) -> Drawn
+pub fn by_weights(shape: Shape, controls: &[i32], points: &mut [i32]) -> Result<Figures, Refusal>
     ensures { outcome result points.new ≡ draws shape controls.now points.old }
 {
     draw(Way::Weights, shape, controls, points)
 }
 
 // The same by halving: each span cut at its middle again and again.
-pub fn by_halving(shape: Shape, controls: &[i32], points: &mut [i32]) -> Drawn
+pub fn by_halving(shape: Shape, controls: &[i32], points: &mut [i32]) -> Result<Figures, Refusal>
     ensures { outcome result points.new ≡ draws shape controls.now points.old }
 {
     draw(Way::Halving, shape, controls, points)
 }
 
 // The same by differences: three additions from point to point.
-pub fn by_differences(shape: Shape, controls: &[i32], points: &mut [i32]) -> Drawn
+pub fn by_differences(shape: Shape, controls: &[i32], points: &mut [i32]) -> Result<Figures, Refusal>
     ensures { outcome result points.new ≡ draws shape controls.now points.old }
 {
     draw(Way::Differences, shape, controls, points)
 }
 
 // The checks of the shape, rows 1, 2, 24, 3, and the rest where they pass.
-fn draw(way: Way, shape: Shape, controls: &[i32], points: &mut [i32]) -> Drawn
+fn draw(way: Way, shape: Shape, controls: &[i32], points: &mut [i32]) -> Result<Figures, Refusal>
     ensures { outcome result points.new ≡ draws shape controls.now points.old }
 {
-    match check_shape(shape) {
-        Judged::Unsound(refusal) => Drawn::Refused(refusal),
-        Judged::Sound(plan) => draw_plan(way, shape, plan, controls, points),
-    }
+    let plan = check_shape(shape)?;
+    draw_plan(way, shape, plan, controls, points)
 }
 
 // The checks of the lists, rows 7 to 9, and the points where they pass.
-fn draw_plan(way: Way, shape: Shape, plan: Plan, controls: &[i32], points: &mut [i32]) -> Drawn
+fn draw_plan(way: Way, shape: Shape, plan: Plan, controls: &[i32], points: &mut [i32]) -> Result<Figures, Refusal>
     requires { Good shape plan }
     ensures { outcome result points.new ≡ draws_plan shape.count plan controls.now points.old }
 {
     let count = plan.points();
-    if let Checked::Bad(refusal) = check_lists(shape.count, controls, count, points.len()) {
-        return Drawn::Refused(refusal);
-    }
+    check_lists(shape.count, controls, count, points.len())?;
     let exact = fill_spans(way, points, controls, plan, 0, plan.spans);
-    Drawn::Done(Figures {
+    Ok(Figures {
         points: count,
         exact,
     })
@@ -78,7 +67,7 @@ pub fn view(shape: Shape, span: usize, points: &[i32]) -> &[i32]
     ensures result_value { result.now ≡ viewed (part_of shape span points.now) points.now }
     ensures ref_ptr_value { result.ref_ptr ≡ (points.entry.ref_ptr.0, (part_of shape span points.now).start * 4 + points.entry.ref_ptr.1) }
 {
-    let Judged::Sound(plan) = check_shape(shape) else {
+    let Ok(plan) = check_shape(shape) else {
         return &points[0..0];
     };
     if plan.spans <= span {

@@ -12,10 +12,9 @@ pub const FINEST: usize = 6;
 // A tolerance is at most this, in micrometres.
 pub const MOST_TOLERANCE: usize = 10_000;
 
-// How a walk ended: all its pieces were met, with so many cuts made by then; at a piece at the finest level that is not flat; or at a cut past the caller's most.
-#[derive(Clone, Copy)]
-pub enum Walked {
-    Cuts(usize),
+// Why a walk ended before all its pieces were met: at a piece at the finest level that is not flat, or at a cut past the caller's most.
+#[derive(Clone, Copy, Debug, PartialEq, Eq)]
+pub enum Uncut {
     TooDeep,
     TooMany,
 }

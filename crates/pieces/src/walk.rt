@@ -5,10 +5,10 @@ ghost use Rattle.pieces.specs.Walk.{walk};
 ghost use Rattle.pieces.specs.Inner.{tree_at, Walkable};
 
 use crate::flat::is_flat;
-use crate::{FINEST, Walked};
+use crate::{FINEST, Uncut};
 use curve::{Basis, Four};
 
-// The walk of a piece and all below it, where `made` cuts were made before.
+// The walk of a piece and all below it, where `made` cuts were made before: how many were made by its end.
 pub fn count_cuts(
     basis: Basis,
     level: usize,
@@ -17,21 +17,21 @@ pub fn count_cuts(
     tolerance: usize,
     most: usize,
     made: usize,
-) -> Walked
+) -> Result<usize, Uncut>
     requires walkable { Walkable basis level x y }
     requires tolerance_le_most_tolerance { tolerance ≤ most_tolerance }
     ensures { result ≡ walk most made (tree_at basis tolerance level x y) }
 {
     if is_flat(basis, x, y, level, tolerance) {
-        return Walked::Cuts(made);
+        return Ok(made);
     }
     if level == FINEST {
-        return Walked::TooDeep;
+        return Err(Uncut::TooDeep);
     }
     if most <= made {
-        return Walked::TooMany;
+        return Err(Uncut::TooMany);
     }
-    let on_left = count_cuts(
+    let so_far = count_cuts(
         basis,
         level + 1,
         x.left_half(),
@@ -39,10 +39,7 @@ pub fn count_cuts(
         tolerance,
         most,
         made + 1,
-    );
-    let Walked::Cuts(so_far) = on_left else {
-        return on_left;
-    };
+    )?;
     count_cuts(
         basis,
         level + 1,

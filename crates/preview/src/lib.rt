@@ -1,7 +1,7 @@
 // The preview of document 01: the outline of basis 1 in doubles, by halving at midpoints. The one public call, `preview`, has no `requires`.
 #![tactic(auto)]
 
-ghost use Rattle.std.specs.Prelude.{◌≡◌, ◌+◌, ◌*◌, ◌^◌, ◌≤◌, ◌<◌, length, set};
+ghost use Rattle.std.specs.Prelude.{Err, ◌≡◌, ◌+◌, ◌*◌, ◌^◌, ◌≤◌, ◌<◌, length, set};
 ghost use Rattle.std.proofs.lemmas.List.Edits.{sets};
 ghost use Rattle.whole.specs.Outcome.{outcome, refuses};
 ghost use Rattle.curve.specs.Span.{first_record};
@@ -15,14 +15,7 @@ ghost use Rattle.preview.specs.Preview.{later_rows, accepts, previewing};
 use curve::Basis;
 use curve::records::first_record;
 use doubles::{Pair, double_of, midpoint_pair};
-use shape::{Checked, Judged, Plan, Refusal, Shape, check_lists, check_shape};
-
-// What a preview answers: how many points were drawn, or the refusal.
-#[derive(Clone, Copy)]
-pub enum Previewed {
-    Drawn(usize),
-    Refused(Refusal),
-}
+use shape::{Plan, Reason, Refusal, Shape, check_lists, check_shape};
 
 // The basis that the preview is offered for.
 const BEZIER: usize = 1;
@@ -100,35 +93,26 @@ fn fill_spans(controls: &[i32], spans: usize, depth: usize, points: &mut [f64])
 }
 
 // Rows 4, 7, 8, 9 for a shape that was found sound, and then the points.
-fn preview_plan(shape: Shape, plan: Plan, controls: &[i32], points: &mut [f64]) -> Previewed
+fn preview_plan(shape: Shape, plan: Plan, controls: &[i32], points: &mut [f64]) -> Result<usize, Refusal>
     requires { Good shape plan }
-    ensures { outcome result points.new ≡ judge (later_rows shape plan controls.now (length points.old)) (refuses Previewed.Refused points.old) (accepts plan controls.now points.old) }
+    ensures { outcome result points.new ≡ judge (later_rows shape plan controls.now (length points.old)) (refuses Err points.old) (accepts plan controls.now points.old) }
 {
     let basis = shape.basis;
     if basis != BEZIER {
-        return Previewed::Refused(Refusal {
-            number: 4,
-            place: 0,
-        });
+        return Err(Reason::NotOffered.into());
     }
     let count = plan.points();
-    match check_lists(shape.count, controls, count, points.len()) {
-        Checked::Bad(refusal) => Previewed::Refused(refusal),
-        Checked::Fine => {
-            fill_spans(controls, plan.spans, plan.depth, points);
-            Previewed::Drawn(count)
-        }
-    }
+    check_lists(shape.count, controls, count, points.len())?;
+    fill_spans(controls, plan.spans, plan.depth, points);
+    Ok(count)
 }
 
 // Draws the outline of a shape of basis 1 in doubles: the checks of document 01 in its order, 1, 2, 24, 3, 4, 7, 8, 9. An accepted preview writes two numbers for each point
 // from the start of the points on, x then y, in micrometres, exact and with zero as positive zero, keeps all past them, and answers how many points there are. A refusal
 // answers its number and place and writes nothing.
-pub fn preview(shape: Shape, controls: &[i32], points: &mut [f64]) -> Previewed
+pub fn preview(shape: Shape, controls: &[i32], points: &mut [f64]) -> Result<usize, Refusal>
     ensures { outcome result points.new ≡ previewing shape controls.now points.old }
 {
-    match check_shape(shape) {
-        Judged::Unsound(refusal) => Previewed::Refused(refusal),
-        Judged::Sound(plan) => preview_plan(shape, plan, controls, points),
-    }
+    let plan = check_shape(shape)?;
+    preview_plan(shape, plan, controls, points)
 }

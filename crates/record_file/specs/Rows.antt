@@ -40,10 +40,6 @@ unfoldable pub record_rows : List ℕ → ℕ → ℕ → List Row
 record_rows file r zero = []
 record_rows file r (suc n) = zeros_row file r ∷ alike_row file r ∷ record_rows file (suc r) n
 
--- What is wrong with record r: the number of its first row that holds, or 0.
-unfoldable pub fault : List ℕ → ℕ → ℕ
-fault file r = cond (zeros_row file r).holds 14 (cond (alike_row file r).holds 15 0)
-
 -- ---- rows 1, 2, 24, 3 for the shape of the first record, then 7 for the lent controls and 8 for the file's own records
 
 -- The shape of a file of n records.

@@ -1,22 +1,15 @@
 // The house record file of document 01: records of 12 bytes, read into a lent list of controls. The one public call, `read`, has no `requires`: it is total on any bytes.
 #![tactic(auto)]
 
-ghost use Rattle.std.specs.Prelude.{◌≡◌, ◌+◌, ◌*◌, ◌≤◌, length};
+ghost use Rattle.std.specs.Prelude.{Ok, Err, ◌≡◌, ◌+◌, ◌*◌, ◌≤◌, length};
 ghost use Rattle.std.proofs.lemmas.List.Edits.{sets};
 ghost use Rattle.whole.specs.Outcome.{outcome, refuses};
 ghost use Rattle.shape.specs.Refusals.{judge};
 ghost use Rattle.shape.specs.Shape.{most_records};
 ghost use Rattle.record_file.specs.Format.{record_bytes, word, signed, numbers};
-ghost use Rattle.record_file.specs.Rows.{reading, zeros_row, alike_row, fault, record_rows, later_rows, list_rows, accepts};
+ghost use Rattle.record_file.specs.Rows.{reading, zeros_row, alike_row, record_rows, later_rows, list_rows, accepts};
 
-use shape::{Checked, Judged, MOST_RECORDS, Refusal, Shape, check_shape, first_outside};
-
-// What reading a file answers: the shape that its records give, or the refusal.
-#[derive(Clone, Copy)]
-pub enum Reading {
-    Read(Shape),
-    Refused(Refusal),
-}
+use shape::{MOST_RECORDS, Reason, Refusal, Shape, check_shape, first_outside};
 
 // The bytes of a record, and of the longest file.
 const RECORD: usize = 12;
@@ -28,11 +21,6 @@ pub const MOST_CONTROLS: usize = 2 * MOST_RECORDS;
 
 // A record's x stands from byte 4 on, and its y four bytes further.
 const COORDINATES: usize = 4;
-
-// The numbers for what is wrong with a record: byte 3 not zero, or byte 2 where its own basis has no parameter; basis, depth or parameter unlike record 0.
-const NOT_ZERO: usize = 14;
-
-const UNLIKE: usize = 15;
 
 // The basis that has a parameter, as a byte.
 const CARDINAL: u8 = 3;
@@ -107,65 +95,54 @@ fn is_unlike(file: &[u8], i: usize) -> bool
     file[at + 2] != file[2]
 }
 
-// The number of what is wrong with record i, or 0.
-fn fault_of(file: &[u8], i: usize) -> usize
+// The checks of record i: 14 and 15.
+fn check_record(file: &[u8], i: usize) -> Result<(), Refusal>
     requires { record_bytes * i + record_bytes ≤ length file.now }
-    ensures { result ≡ fault file.now i }
+    ensures { result ≡ judge (record_rows file.now i 1) Err (Ok tt) }
 {
     if has_spare_byte(file, i) {
-        return NOT_ZERO;
+        return Err(Reason::SpareByte.at(i));
     }
     if is_unlike(file, i) {
-        return UNLIKE;
+        return Err(Reason::UnlikeFirst.at(i));
     }
-    0
+    Ok(())
 }
 
 // The checks of `count` records, one after the other: 14 and 15.
-fn check_records(file: &[u8], count: usize) -> Checked
+fn check_records(file: &[u8], count: usize) -> Result<(), Refusal>
     requires { record_bytes * count ≤ length file.now }
-    ensures { result ≡ judge (record_rows file.now 0 count) Checked.Bad Checked.Fine }
+    ensures { result ≡ judge (record_rows file.now 0 count) Err (Ok tt) }
 {
-    let mut i = 0;
-    while i < count {
-        let number = fault_of(file, i);
-        if number != 0 {
-            return Checked::Bad(Refusal { number, place: i });
-        }
-        i += 1;
+    for i in 0..count {
+        check_record(file, i)?;
     }
-    Checked::Fine
+    Ok(())
 }
 
 // Rows 7 and 8, and then the controls. The records are looked at in a list of our own first, so that a refusal writes nothing.
-fn read_numbers(file: &[u8], shape: Shape, controls: &mut [i32]) -> Reading
+fn read_numbers(file: &[u8], shape: Shape, controls: &mut [i32]) -> Result<Shape, Refusal>
     requires { (shape.count ≤ most_records) × (record_bytes * shape.count ≤ length file.now) }
-    ensures { outcome result controls.new ≡ judge (list_rows file.now shape.count controls.old) (refuses Reading.Refused controls.old) (outcome (Reading.Read shape) (sets controls.old 0 (numbers file.now shape.count))) }
+    ensures { outcome result controls.new ≡ judge (list_rows file.now shape.count controls.old) (refuses Err controls.old) (outcome (Ok shape) (sets controls.old 0 (numbers file.now shape.count))) }
 {
     let count = shape.count;
     if controls.len() < 2 * count {
-        return Reading::Refused(Refusal {
-            number: 7,
-            place: 0,
-        });
+        return Err(Reason::ShortControls.into());
     }
     let mut own = [0i32; MOST_CONTROLS];
     write_numbers(file, count, &mut own);
     let at = first_outside(&own, count);
     if at < count {
-        return Reading::Refused(Refusal {
-            number: 8,
-            place: at,
-        });
+        return Err(Reason::OutsideLimits.at(at));
     }
     write_numbers(file, count, controls);
-    Reading::Read(shape)
+    Ok(shape)
 }
 
 // Rows 1, 2, 24, 3 for the shape of the first record, and on.
-fn read_records(file: &[u8], count: usize, controls: &mut [i32]) -> Reading
+fn read_records(file: &[u8], count: usize, controls: &mut [i32]) -> Result<Shape, Refusal>
     requires { (1 ≤ count) × (count ≤ most_records) × (record_bytes * count ≤ length file.now) }
-    ensures { outcome result controls.new ≡ judge (later_rows file.now count controls.old) (refuses Reading.Refused controls.old) (accepts file.now count controls.old) }
+    ensures { outcome result controls.new ≡ judge (later_rows file.now count controls.old) (refuses Err controls.old) (accepts file.now count controls.old) }
 {
     let shape = Shape {
         basis: file[0] as usize,
@@ -173,39 +150,26 @@ fn read_records(file: &[u8], count: usize, controls: &mut [i32]) -> Reading
         count,
         parameter: file[2] as usize,
     };
-    match check_shape(shape) {
-        Judged::Unsound(refusal) => Reading::Refused(refusal),
-        Judged::Sound(_) => read_numbers(file, shape, controls),
-    }
+    check_shape(shape)?;
+    read_numbers(file, shape, controls)
 }
 
 // Reads a record file: the checks of document 01 in its order, 3 for the length, 13, then record by record 14 and 15, then 1, 2, 24, 3, 7, 8. An accepted file writes two
 // numbers for each record from the start of the controls on, x then y, keeps all past them, and answers the shape. A refusal answers its number and place and writes nothing.
-pub fn read(file: &[u8], controls: &mut [i32]) -> Reading
+pub fn read(file: &[u8], controls: &mut [i32]) -> Result<Shape, Refusal>
     ensures { outcome result controls.new ≡ reading file.now controls.old }
 {
     let length = file.len();
     if length == 0 {
-        return Reading::Refused(Refusal {
-            number: 3,
-            place: 0,
-        });
+        return Err(Reason::WrongCount.into());
     }
     if MOST_BYTES < length {
-        return Reading::Refused(Refusal {
-            number: 3,
-            place: 0,
-        });
+        return Err(Reason::WrongCount.into());
     }
     if length % RECORD != 0 {
-        return Reading::Refused(Refusal {
-            number: 13,
-            place: 0,
-        });
+        return Err(Reason::BrokenRecord.into());
     }
     let count = length / RECORD;
-    match check_records(file, count) {
-        Checked::Bad(refusal) => Reading::Refused(refusal),
-        Checked::Fine => read_records(file, count, controls),
-    }
+    check_records(file, count)?;
+    read_records(file, count, controls)
 }

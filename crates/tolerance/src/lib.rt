@@ -10,8 +10,8 @@ ghost use Rattle.tolerance.specs.Inner.{Choosable};
 
 mod spanwise;
 
-use pieces::{MOST_TOLERANCE, Walked};
-use shape::{Checked, Judged, Plan, Refusal, Shape, check_controls, check_shape};
+use pieces::{MOST_TOLERANCE, Uncut};
+use shape::{Plan, Reason, Refusal, Shape, check_controls, check_shape};
 use spanwise::{count_all, fill_all};
 
 // How many points stand in the list now, how many cuts chose them, and how many of their coordinates are exact.
@@ -22,13 +22,6 @@ pub struct Steps {
     pub exact: usize,
 }
 
-// What the call answers: its figures, or the refusal.
-#[derive(Clone, Copy)]
-pub enum Chosen {
-    Done(Steps),
-    Refused(Refusal),
-}
-
 // The outline of a shape within a tolerance, a whole number of micrometres, by at most `most` cuts: its controls are only read, the chosen points stand in the list from its start, and every number
 // past them keeps what it held. A refusal changes nothing: the cuts are counted before a number is written. The shape's depth is checked and has no other effect.
 pub fn by_tolerance(
@@ -37,20 +30,11 @@ pub fn by_tolerance(
     most: usize,
     controls: &[i32],
     points: &mut [i32],
-) -> Chosen
+) -> Result<Steps, Refusal>
     ensures { outcome result points.new ≡ chooses shape tolerance most controls.now points.old }
 {
-    match check_shape(shape) {
-        Judged::Unsound(refusal) => Chosen::Refused(refusal),
-        Judged::Sound(plan) => choose_plan(shape, plan, tolerance, most, controls, points),
-    }
-}
-
-// A refusal whose place is 0.
-fn refused(number: usize) -> Chosen
-    ensures { result ≡ Chosen.Refused (record { number = number; place = 0 }) }
-{
-    Chosen::Refused(Refusal { number, place: 0 })
+    let plan = check_shape(shape)?;
+    choose_plan(shape, plan, tolerance, most, controls, points)
 }
 
 // The checks of the controls and of the tolerance, rows 7, 8 and 20, the walk, rows 21 and 22, and the rest where they pass.
@@ -61,20 +45,18 @@ fn choose_plan(
     most: usize,
     controls: &[i32],
     points: &mut [i32],
-) -> Chosen
+) -> Result<Steps, Refusal>
     requires { Good shape plan }
     ensures { outcome result points.new ≡ chooses_plan shape.count plan tolerance most controls.now points.old }
 {
-    if let Checked::Bad(refusal) = check_controls(shape.count, controls) {
-        return Chosen::Refused(refusal);
-    }
+    check_controls(shape.count, controls)?;
     if MOST_TOLERANCE < tolerance {
-        return refused(20);
+        return Err(Reason::TooCoarse.into());
     }
     match count_all(controls, plan, tolerance, most) {
-        Walked::TooDeep => refused(21),
-        Walked::TooMany => refused(22),
-        Walked::Cuts(cuts) => fill_plan(plan, tolerance, cuts, controls, points),
+        Err(Uncut::TooDeep) => Err(Reason::NotFlat.into()),
+        Err(Uncut::TooMany) => Err(Reason::TooManyCuts.into()),
+        Ok(cuts) => fill_plan(plan, tolerance, cuts, controls, points),
     }
 }
 
@@ -85,17 +67,17 @@ fn fill_plan(
     cuts: usize,
     controls: &[i32],
     points: &mut [i32],
-) -> Chosen
+) -> Result<Steps, Refusal>
     requires choosable { Choosable plan tolerance controls.now }
     requires cuts_value { cuts ≡ cuts_of plan tolerance controls.now }
     ensures { outcome result points.new ≡ chooses_last plan tolerance controls.now points.old }
 {
     let count = plan.spans + cuts + 1;
     if points.len() < 2 * count {
-        return refused(9);
+        return Err(Reason::ShortPoints.into());
     }
     let exact = fill_all(points, controls, plan, tolerance);
-    Chosen::Done(Steps {
+    Ok(Steps {
         points: count,
         cuts,
         exact,

@@ -9,30 +9,24 @@ ghost use Rattle.tolerance.specs.Inner.{Choosable, Walkable};
 use curve::rounding::divisor_bits;
 use pieces::fill::fill_starts;
 use pieces::walk::count_cuts;
-use pieces::{Filled, Walked};
+use pieces::{Filled, Uncut};
 use shape::Plan;
 use spans::point::put_point;
 use spans::run::span_controls;
 
 // The walk over a plan's spans from the left.
-pub(crate) fn count_all(controls: &[i32], plan: Plan, tolerance: usize, most: usize) -> Walked
+pub(crate) fn count_all(controls: &[i32], plan: Plan, tolerance: usize, most: usize) -> Result<usize, Uncut>
     requires { Walkable plan tolerance controls.now }
     ensures { result ≡ walk_of plan tolerance most controls.now }
 {
     let basis = plan.basis;
     let mut made = 0;
-    let mut span = 0;
-    while span < plan.spans {
+    for span in 0..plan.spans {
         let x = span_controls(controls, plan, span, 0);
         let y = span_controls(controls, plan, span, 1);
-        let walked = count_cuts(basis, 0, x, y, tolerance, most, made);
-        let Walked::Cuts(now) = walked else {
-            return walked;
-        };
-        made = now;
-        span += 1;
+        made = count_cuts(basis, 0, x, y, tolerance, most, made)?;
     }
-    Walked::Cuts(made)
+    Ok(made)
 }
 
 // The starts of the flat pieces of all spans, and the last end. It answers how many of their numbers are exact.

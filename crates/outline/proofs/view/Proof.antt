@@ -61,11 +61,11 @@ part-result-end-2 c = search rules
 
 -- the plan that was found, and that it is the shape's
 plan : tie.In-Sound → Plan
-plan c = c.in-Sound.plan
+plan c = c.in-Ok.plan
 
 is-sound : (c : tie.In-Sound) → judge_shape c.args.shape ≡ Ok (plan c)
 unfolding plan
-is-sound c = sym c.check_shape.ensures ∙ c.in-Sound.is
+is-sound c = sym c.check_shape.ensures ∙ c.in-Ok.is
 
 good : (c : tie.In-Sound) → Good c.args.shape (plan c)
 good c = sound-facts c.args.shape (plan c) (is-sound c)

@@ -1,0 +1,19 @@
+-- A shape that is not sound is refused at once; of a sound one the rest is the plan's.
+use mathlib.Core.Path.{◌≡◌, sym, ◌∙◌, ap}
+use borrow.Author.Rules.{rules}
+use Rattle.std.specs.Prelude.{Result, Ok, Err}
+use Rattle.whole.specs.Outcome.{outcome}
+use Rattle.shape.proofs.Refusals.{sound-facts}
+use Rattle.outline.proofs.Draws.{draws-sound, draws-unsound}
+use Rattle.outline.proofs.draw.Goals as goal
+
+pub draw_plan-requires : goal.draw_plan-requires
+draw_plan-requires c = sound-facts c.args.shape c.in_ok-plan.plan (sym c.check_shape-plan.ensures ∙ c.in_ok-plan.was)
+
+pub returns-in_err-plan : goal.returns-in_err-plan
+returns-in_err-plan c = ?
+
+pub returns : goal.returns
+returns c =
+    let a = c.args in
+    c.draw_plan.ensures ∙ sym (draws-sound a.shape c.in_ok-plan.plan (sym c.check_shape-plan.ensures ∙ c.in_ok-plan.was) a.controls.now a.points.old)
