@@ -21,7 +21,7 @@ use shape::{Plan, Refusal, Shape};
 use working::work;
 
 // What an accepted edit answers: the new shape, the first span worked afresh, how many, and how many coordinates of their points are exact. Kept and carried points are not counted.
-#[derive(Clone, Copy)]
+#[derive(Clone, Copy, Debug, PartialEq, Eq)]
 pub struct Change {
     pub shape: Shape,
     pub first: usize,

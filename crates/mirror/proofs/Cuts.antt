@@ -26,7 +26,8 @@ use Rattle.shape.specs.declared.Shape.{Shape}
 use Rattle.shape.specs.declared.Plan.{Plan}
 use Rattle.shape.specs.Refusals.{judge, shape_rows, point_rows, plan_of}
 use Rattle.spans.specs.Numbers.{nought, noughts}
-use Rattle.pieces.specs.Tree.{finest, Piece, piece, left_piece, right_piece, is_flat, Tree, Flat, Rough, Cut, tree, cuts, all_cuts}
+use Rattle.pieces.specs.declared.Piece.{Piece}
+use Rattle.pieces.specs.Tree.{finest, piece, left_piece, right_piece, is_flat, Tree, Flat, Rough, Cut, tree, cuts, all_cuts}
 use Rattle.pieces.specs.Walk.{and_then, walk, walk_all}
 use Rattle.pieces.specs.Values.{Value, both, starts, all_starts, end, numbers, exact_of}
 use Rattle.tolerance.specs.Reading.{controls_of, tree_of, walk_of, cuts_of, values_of, points_for, steps_of, tolerance_row, walk_rows, choose_rows, chosen, accepts, chooses}

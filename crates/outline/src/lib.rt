@@ -11,7 +11,7 @@ use shape::{Plan, Refusal, Shape, check_lists, check_shape};
 use spans::run::{Way, fill_spans};
 
 // How many points stand in the list now, and how many of their coordinates are exact: the curve itself is there at a whole number. x and y are counted each by itself.
-#[derive(Clone, Copy)]
+#[derive(Clone, Copy, Debug, PartialEq, Eq)]
 pub struct Figures {
     pub points: usize,
     pub exact: usize,
@@ -33,7 +33,11 @@ pub fn by_halving(shape: Shape, controls: &[i32], points: &mut [i32]) -> Result<
 }
 
 // The same by differences: three additions from point to point.
-pub fn by_differences(shape: Shape, controls: &[i32], points: &mut [i32]) -> Result<Figures, Refusal>
+pub fn by_differences(
+    shape: Shape,
+    controls: &[i32],
+    points: &mut [i32],
+) -> Result<Figures, Refusal>
     ensures { outcome result points.new ≡ draws shape controls.now points.old }
 {
     draw(Way::Differences, shape, controls, points)
@@ -48,7 +52,13 @@ fn draw(way: Way, shape: Shape, controls: &[i32], points: &mut [i32]) -> Result<
 }
 
 // The checks of the lists, rows 7 to 9, and the points where they pass.
-fn draw_plan(way: Way, shape: Shape, plan: Plan, controls: &[i32], points: &mut [i32]) -> Result<Figures, Refusal>
+fn draw_plan(
+    way: Way,
+    shape: Shape,
+    plan: Plan,
+    controls: &[i32],
+    points: &mut [i32],
+) -> Result<Figures, Refusal>
     requires { Good shape plan }
     ensures { outcome result points.new ≡ draws_plan shape.count plan controls.now points.old }
 {

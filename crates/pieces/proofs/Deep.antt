@@ -21,7 +21,8 @@ use Rattle.curve.specs.Ways.{left_half, right_half}
 use Rattle.curve.proofs.Bits.{divisor-again}
 use Rattle.curve.proofs.Reflect.{p, num, first_bendᵉ, last_bendᵉ, leftᵉ, rightᵉ}
 use Rattle.shape.proofs.Tests.{passes, and-true}
-use Rattle.pieces.specs.Tree.{Piece, left_piece, right_piece, flat_on, is_flat, tree, Sound}
+use Rattle.pieces.specs.declared.Piece.{Piece}
+use Rattle.pieces.specs.Tree.{left_piece, right_piece, flat_on, is_flat, tree, Sound}
 use Rattle.pieces.proofs.Trees.{tree-flat, tree-rough, tree-cut}
 
 -- ---- the second differences of the halves

@@ -23,7 +23,8 @@ use Rattle.shape.proofs.Tests.{passes}
 use Rattle.spans.specs.Numbers.{nought, noughts}
 use Rattle.spans.specs.Inner.{wholes, remainders}
 use Rattle.spans.proofs.Rounds.{noughts-append}
-use Rattle.pieces.specs.Tree.{finest, Piece, left_piece, right_piece, is_flat, Tree, tree}
+use Rattle.pieces.specs.declared.Piece.{Piece}
+use Rattle.pieces.specs.Tree.{finest, left_piece, right_piece, is_flat, Tree, tree}
 use Rattle.pieces.specs.Values.{Value, both, start, starts, numbers, exact_of}
 use Rattle.pieces.specs.Steps.{steps_in}
 use Rattle.pieces.proofs.Trees.{tree-flat, tree-rough, tree-cut}

@@ -4,7 +4,7 @@ use mathlib.Core.Path.{◌≡◌, sym, ap, ◌∙◌, subst}
 use Prim.Native.Nat.{ℕ, ◌+◌, ◌*◌, ◌-◌, ◌^◌, ◌≤◌}
 use native.Mathlib.Nat.{mul_assoc, le_of_mul-le-mul_left}
 use native.Mathlib.Omega.{arith}
-use lib.IntN.{ℤ, pos, nat_abs, ◌*ℤ◌}
+use lib.IntN.{pos, nat_abs, ◌*ℤ◌}
 use lib.Pow.{pow_pos}
 use Rattle.whole.proofs.Fit.{nat_abs_mul}
 use Rattle.curve.specs.declared.Four.{Four}

@@ -12,7 +12,8 @@ use Rattle.curve.specs.declared.Basis.{Basis}
 use Rattle.curve.specs.Span.{divisor}
 use Rattle.curve.proofs.Powers.{doubled}
 use Rattle.shape.proofs.Tests.{either, passes}
-use Rattle.pieces.specs.Tree.{finest, Piece, piece, left_piece, right_piece, is_flat, Tree, Flat, Rough, Cut, tree, cuts, Sound}
+use Rattle.pieces.specs.declared.Piece.{Piece}
+use Rattle.pieces.specs.Tree.{finest, piece, left_piece, right_piece, is_flat, Tree, Flat, Rough, Cut, tree, cuts, Sound}
 use Rattle.pieces.specs.Values.{start, starts}
 use Rattle.pieces.specs.Inner.{tree_at}
 use Rattle.pieces.proofs.Trees.{tree-flat, tree-rough, tree-cut, at-finest}

@@ -12,7 +12,8 @@ use Rattle.curve.specs.Tab.{tab}
 use Rattle.curve.proofs.Powers.{doubled}
 use Rattle.curve.proofs.Tab.{tab-append}
 use Rattle.shape.proofs.Tests.{passes}
-use Rattle.pieces.specs.Tree.{Piece, left_piece, right_piece, is_flat, Tree, Flat, Rough, Cut, tree, cuts}
+use Rattle.pieces.specs.declared.Piece.{Piece}
+use Rattle.pieces.specs.Tree.{left_piece, right_piece, is_flat, Tree, Flat, Rough, Cut, tree, cuts}
 use Rattle.pieces.specs.Steps.{steps_in, Rises}
 use Rattle.pieces.proofs.Trees.{tree-flat, tree-rough, tree-cut}
 use Rattle.pieces.proofs.Starts.{cuts-most}

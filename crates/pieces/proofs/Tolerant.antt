@@ -8,7 +8,8 @@ use native.Mathlib.Omega.{arith}
 use Rattle.curve.specs.declared.Basis.{Basis}
 use Rattle.curve.specs.Span.{divisor}
 use Rattle.shape.proofs.Tests.{passes, true-is-not-false}
-use Rattle.pieces.specs.Tree.{Piece, left_piece, right_piece, is_flat, tree, cuts, Sound}
+use Rattle.pieces.specs.declared.Piece.{Piece}
+use Rattle.pieces.specs.Tree.{left_piece, right_piece, is_flat, tree, cuts, Sound}
 use Rattle.pieces.proofs.Trees.{tree-flat, tree-rough, tree-cut}
 use Rattle.pieces.proofs.Deep.{Within, flat-within, within-flat, sound-within, within-sound}
 

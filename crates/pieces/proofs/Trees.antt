@@ -10,8 +10,9 @@ use Rattle.curve.specs.Span.{divisor}
 use Rattle.curve.specs.Ways.{left_half, right_half}
 use Rattle.spans.specs.Inner.{Cuttable}
 use Rattle.spans.proofs.Halves.{cut_on, cuttable-small}
-use Rattle.pieces.specs.Tree.{finest, Piece, piece, left_piece, right_piece, is_flat, Flat, Rough, Cut, tree}
-use Rattle.pieces.specs.Inner.{tree_at, Walkable}
+use Rattle.pieces.specs.declared.Piece.{Piece}
+use Rattle.pieces.specs.Tree.{finest, piece, left_piece, right_piece, is_flat, Flat, Rough, Cut, tree}
+use Rattle.pieces.specs.Inner.{tree_at, Walkable, Halvable}
 
 -- ---- what can be cut on
 
@@ -19,6 +20,10 @@ module _ (b : Basis) where
   -- the controls of both axes are far inside 64 bits
   pub walkable-small : (level : ℕ) (x y : Four) → Walkable b level x y → Inside (2 ^ 59) x × Inside (2 ^ 59) y
   walkable-small level x y w = (cuttable-small (finest - level) (divisor b finest) x w.on-x, cuttable-small (finest - level) (divisor b finest) y w.on-y)
+
+  -- so that the piece has halves
+  pub halvable : (p : Piece) → Walkable b p.level p.x p.y → Halvable p
+  halvable p w = let (x, y) = walkable-small p.level p.x p.y w in (w.shallow, x, y)
 
   -- the halves of an axis
   halves : (level : ℕ) (q : Four) → level < finest → Cuttable (finest - level) (divisor b finest) q → Cuttable (finest - (level + 1)) (divisor b finest) (left_half q) × Cuttable (finest - (level + 1)) (divisor b finest) (right_half q)

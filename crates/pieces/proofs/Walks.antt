@@ -2,39 +2,30 @@
 use Rattle.std.specs.Prelude.{Err, Ok, Result}
 use mathlib.Core.Path.{◌≡◌, refl, sym, ap, ◌∙◌, subst}
 use mathlib.Core.Bool.{cond}
-use mathlib.Core.List.{[], ◌∷◌}
 use mathlib.Core.Logic.{⊎_elim}
 use Prim.Native.Nat.{ℕ, zero, suc, ◌+◌, ◌≤◌, ◌<◌}
 use native.Mathlib.Omega.{arith}
 use borrow.Author.Tests.{le-leb, lt-leb}
-use denote.Enum.Declared.{tag_of}
-use types.Run.{OneOf}
 use Rattle.curve.specs.Tab.{tab}
 use Rattle.shape.proofs.Tests.{either}
-use Rattle.pieces.specs.Tree.{Piece, Tree, Flat, Rough, Cut, cuts, all_cuts, Sound}
+use Rattle.pieces.specs.declared.Piece.{Piece}
+use Rattle.pieces.specs.Tree.{Tree, Flat, Rough, Cut, cuts, all_cuts, Sound}
 use Rattle.pieces.specs.Walk.{and_then, walk, walk_all}
-use Rattle.pieces.specs.contracts.Walked as walked
 use Rattle.pieces.specs.declared.Uncut.{Uncut}
 use Rattle.pieces.specs.declared.Uncut.TheVariants.{TooDeep, TooMany}
 
 -- ---- what the code does at a piece
-
--- a walk that has ended stays so
-pub ended : (w : Result ℕ Uncut) (next : ℕ → Result ℕ Uncut) → OneOf (1 ∷ 2 ∷ []) (tag_of walked.the_type w) → and_then w next ≡ w
-ended (Ok n) next k = absurd (⊎_elim (λ e. omega (arith, e)) (λ e. omega (arith, e)) k)
-ended (Err TooDeep) next k = refl
-ended (Err TooMany) next k = refl
 
 module _ (most made : ℕ) where
   pub walk-flat : (p : Piece) (t : Tree) → t ≡ Flat p → Ok made ≡ walk most made t
   unfolding walk
   walk-flat p t e = sym (ap (walk most made) e)
 
-  pub walk-rough : (p : Piece) (t : Tree) → t ≡ Rough p → (Err TooDeep) ≡ walk most made t
+  pub walk-rough : (p : Piece) (t : Tree) → t ≡ Rough p → Err TooDeep ≡ walk most made t
   unfolding walk
   walk-rough p t e = sym (ap (walk most made) e)
 
-  pub walk-too-many : (l r t : Tree) → t ≡ Cut l r → most ≤ made → (Err TooMany) ≡ walk most made t
+  pub walk-too-many : (l r t : Tree) → t ≡ Cut l r → most ≤ made → Err TooMany ≡ walk most made t
   unfolding walk
   walk-too-many l r t e h = sym (ap (walk most made) e ∙ ap (λ b. cond b (Err TooMany) (and_then (walk most (made + 1) l) (λ n. walk most n r))) (le-leb most made h))
 
@@ -50,32 +41,28 @@ pub record Counted (most made : ℕ) (sound : Type 0) (made-here n : ℕ) : Type
   pub count : n ≡ made + made-here
   pub within : made ≤ most → n ≤ most
 
-same-cuts : (m n : ℕ) → Ok m ≡ Ok n → m ≡ n
+same-cuts : (m n : ℕ) → ◌≡◌ {A = Result ℕ Uncut} (Ok m) (Ok n) → m ≡ n
 same-cuts m n e = cc
 
-not-deep : (n : ℕ) → (Err TooDeep) ≡ Ok n → ⊥
-not-deep n e = let z : ◌≡◌ {A = ℕ} 0 1 = cc in omega arith
-
-not-many : (n : ℕ) → (Err TooMany) ≡ Ok n → ⊥
-not-many n e = let z : ◌≡◌ {A = ℕ} 0 1 = cc in omega arith
+not-ended : (why : Uncut) (n : ℕ) → ◌≡◌ {A = Result ℕ Uncut} (Err why) (Ok n) → ⊥
+not-ended why n e = let z : ◌≡◌ {A = ℕ} 0 1 = cc in omega arith
 
 -- a walk in two parts counted n cuts: the first part counted some, and the second went on from there
 in_parts : (w : Result ℕ Uncut) (next : ℕ → Result ℕ Uncut) (n : ℕ) → and_then w next ≡ Ok n → (m : ℕ) × (w ≡ Ok m) × (next m ≡ Ok n)
 in_parts (Ok m) next n e = (m, refl, e)
-in_parts (Err TooDeep) next n e = absurd (not-deep n e)
-in_parts (Err TooMany) next n e = absurd (not-many n e)
+in_parts (Err why) next n e = absurd (not-ended why n e)
 
 pub walk-counted : (most made n : ℕ) (t : Tree) → walk most made t ≡ Ok n → Counted most made (Sound t) (cuts t) n
 unfolding walk cuts Sound
 walk-counted most made n (Flat p) e = record { all_sound = tt; count = omega (arith, same-cuts made n e); within = λ h. omega (arith, same-cuts made n e) }
-walk-counted most made n (Rough p) e = absurd (not-deep n e)
+walk-counted most made n (Rough p) e = absurd (not-ended TooDeep n e)
 walk-counted most made n (Cut l r) e =
     ⊎_elim (λ (h : made < most).
     let (m, first, second) = in_parts (walk most (made + 1) l) (λ k. walk most k r) n (sym (walk-cut most made l r (Cut l r) refl h) ∙ e) in
     let a = walk-counted most (made + 1) m l first in
     let b = walk-counted most m n r second in
     record { all_sound = (a.all_sound, b.all_sound); count = omega (arith, a.count, b.count); within = λ k. b.within (a.within (omega arith)) })
-    (λ (h : most ≤ made). absurd (not-many n (walk-too-many most made l r (Cut l r) refl h ∙ e)))
+    (λ (h : most ≤ made). absurd (not-ended TooMany n (walk-too-many most made l r (Cut l r) refl h ∙ e)))
     (either made most)
 
 -- and it does so wherever that is so

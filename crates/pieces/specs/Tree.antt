@@ -2,6 +2,7 @@
 -- and a right piece, and so on: a tree. Nothing in it is rounded or divided. Definitions only.
 use Rattle.std.specs.Prelude.{Bool, cond, ◌&&◌, List, [], ◌∷◌, ℕ, zero, suc, ◌+◌, ◌*◌, ◌-◌, ◌^◌, leb}
 use Rattle.curve.specs.declared.Four.{Four}
+use Rattle.pieces.specs.declared.Piece.{Piece}
 use Rattle.curve.specs.Bend.{bend}
 use Rattle.curve.specs.Ways.{left_half, right_half}
 
@@ -13,13 +14,8 @@ finest = 6
 abbrev pub most_tolerance : ℕ
 most_tolerance = 10000
 
--- A piece: how many cuts made it, and its Bezier controls on both axes. They are exact, as whole numbers over a divisor, which is eight times finer with each cut: `d level`, where d gives
+-- A piece (`Piece` in src/lib.rt): how many cuts made it, and its Bezier controls on both axes. They are exact, as whole numbers over a divisor, which is eight times finer with each cut: `d level`, where d gives
 -- the divisor of each depth.
-pub record Piece : Type 0 where
-  pub level : ℕ
-  pub x : Four
-  pub y : Four
-
 abbrev pub piece : ℕ → Four → Four → Piece
 piece level x y = record { level = level; x = x; y = y }
 

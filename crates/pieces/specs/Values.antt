@@ -4,7 +4,8 @@ use Rattle.std.specs.Prelude.{List, [], ◌∷◌, ◌++◌, map, ℕ, ℤ}
 use Rattle.whole.specs.Nearest.{nearest, remainder}
 use Rattle.curve.specs.declared.Four.{Four}
 use Rattle.spans.specs.Numbers.{noughts}
-use Rattle.pieces.specs.Tree.{Piece, Tree, Flat, Rough, Cut}
+use Rattle.pieces.specs.declared.Piece.{Piece}
+use Rattle.pieces.specs.Tree.{Tree, Flat, Rough, Cut}
 
 pub record Value : Type 0 where
   pub sum : ℤ

@@ -3,8 +3,10 @@ ghost use Rattle.std.specs.Prelude.{◌≡◌, ◌^◌, ◌≤◌, pos, nat_abs,
 ghost use Rattle.curve.specs.Bend.{bend};
 ghost use Rattle.curve.specs.Limits.{Inside};
 ghost use Rattle.curve.specs.Span.{divisor};
-ghost use Rattle.pieces.specs.Tree.{finest, flat_on, is_flat, most_tolerance, piece};
+ghost use Rattle.pieces.specs.Tree.{finest, flat_on, is_flat, most_tolerance};
+ghost use Rattle.pieces.specs.Inner.{Halvable};
 
+use crate::Piece;
 use curve::rounding::divisor_bits;
 use curve::{Basis, Four, SIX};
 use whole::magnitude;
@@ -24,7 +26,7 @@ fn bend_of(q: Four) -> u64
 {
     let first = second_difference(q.a, q.b, q.c);
     let last = second_difference(q.b, q.c, q.d);
-    if first < last { last } else { first }
+    first.max(last)
 }
 
 // Whether three times that is at most four times the tolerance, over the divisor of a level.
@@ -37,14 +39,13 @@ fn is_flat_on(basis: Basis, q: Four, level: usize, tolerance: usize) -> bool
     3 * bend_of(q) <= 4 * (tolerance as u64 * divisor)
 }
 
-// Whether a piece is flat: on both axes.
-pub(crate) fn is_flat(basis: Basis, x: Four, y: Four, level: usize, tolerance: usize) -> bool
-    requires inside { Inside (2 ^ 59) x × Inside (2 ^ 59) y }
-    requires level_le_finest { (level ≤ finest) × (tolerance ≤ most_tolerance) }
-    ensures { result ≡ is_flat (divisor basis) tolerance (piece level x y) }
-{
-    if is_flat_on(basis, x, level, tolerance) {
-        return is_flat_on(basis, y, level, tolerance);
+impl Piece {
+    // Whether a piece is flat: on both axes.
+    pub(crate) fn is_flat(self, basis: Basis, tolerance: usize) -> bool
+        requires { Halvable self × (tolerance ≤ most_tolerance) }
+        ensures { result ≡ is_flat (divisor basis) tolerance self }
+    {
+        is_flat_on(basis, self.x, self.level, tolerance)
+            && is_flat_on(basis, self.y, self.level, tolerance)
     }
-    false
 }

@@ -15,7 +15,8 @@ use Rattle.curve.specs.Span.{divisor}
 use Rattle.curve.specs.Ways.{left_half, right_half}
 use Rattle.curve.proofs.Powers.{doubled}
 use Rattle.shape.proofs.Tests.{passes}
-use Rattle.pieces.specs.Tree.{finest, Piece, left_piece, right_piece, is_flat, Tree, tree, Sound}
+use Rattle.pieces.specs.declared.Piece.{Piece}
+use Rattle.pieces.specs.Tree.{finest, left_piece, right_piece, is_flat, Tree, tree, Sound}
 use Rattle.pieces.specs.Steps.{steps_in}
 use Rattle.pieces.proofs.Trees.{tree-flat, tree-rough, tree-cut}
 use Rattle.pieces.proofs.Stepped.{steps-begin}

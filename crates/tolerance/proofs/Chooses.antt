@@ -14,6 +14,7 @@ use Rattle.shape.specs.declared.Refusal.{Refusal}
 use Rattle.shape.specs.Refusals.{judge, judge_shape, judge_controls, point_rows, plan_of}
 use Rattle.shape.proofs.Refusals.{sound, unsound, sound-plan, controls-bad, controls-fine}
 use Rattle.pieces.specs.Tree.{most_tolerance}
+use Rattle.pieces.specs.Walk.{refusal_of}
 use Rattle.tolerance.specs.Reading.{tolerance_row, walk_rows, last_rows, plan_rows, walk_of, cuts_of, points_for, accepts, chooses_last, chooses_plan, chooses}
 use Rattle.pieces.specs.declared.Uncut.{Uncut}
 use Rattle.pieces.specs.declared.Uncut.TheVariants.{TooDeep, TooMany}
@@ -66,13 +67,10 @@ module _ (n : ℕ) (p : Plan) (tolerance most : ℕ) (controls lent : List ℤ) 
     unfolding rest after
     walked w h e = plan-near h ∙ ap after e
 
-    pub plan-deep : tolerance ≤ most_tolerance → walk_of p tolerance most controls ≡ Err TooDeep → chooses_plan n p tolerance most controls lent ≡ refuses Err lent (refusal 21)
+    pub plan-ended : (why : Uncut) → tolerance ≤ most_tolerance → walk_of p tolerance most controls ≡ Err why → chooses_plan n p tolerance most controls lent ≡ refuses Err lent (refusal_of why)
     unfolding after judge
-    plan-deep h e = walked (Err TooDeep) h e
-
-    pub plan-many : tolerance ≤ most_tolerance → walk_of p tolerance most controls ≡ Err TooMany → chooses_plan n p tolerance most controls lent ≡ refuses Err lent (refusal 22)
-    unfolding after judge
-    plan-many h e = walked (Err TooMany) h e
+    plan-ended TooDeep h e = walked (Err TooDeep) h e
+    plan-ended TooMany h e = walked (Err TooMany) h e
 
     pub plan-last : (k : ℕ) → tolerance ≤ most_tolerance → walk_of p tolerance most controls ≡ Ok k → chooses_plan n p tolerance most controls lent ≡ chooses_last p tolerance controls lent
     unfolding after judge chooses_last

@@ -8,7 +8,6 @@ use native.Mathlib.Omega.{arith}
 use lib.IntN.{ℤ, pos, nat_abs}
 use lib.ListN.{length, length-append}
 use Rattle.whole.proofs.Ring.{var, lit, ◌⊗◌, solve}
-use Rattle.curve.specs.declared.Four.{Four}
 use Rattle.curve.specs.Inner.{widest, far_reach}
 use Rattle.curve.specs.Span.{divisor, weighted}
 use Rattle.curve.specs.Tab.{tab}
@@ -19,6 +18,8 @@ use Rattle.shape.specs.Depth.{plan_at}
 use Rattle.spans.specs.Inner.{Ready}
 use Rattle.spans.proofs.Drawables.{span-ready}
 use Rattle.spans.proofs.Halves.{ready-cuttable}
+use Rattle.pieces.specs.declared.Filled.{Filled}
+use Rattle.pieces.specs.declared.Piece.{Piece}
 use Rattle.pieces.specs.Tree.{finest, piece, Tree, cuts, most_cuts, all_cuts}
 use Rattle.pieces.specs.Walk.{and_then, walk, walk_all}
 use Rattle.pieces.specs.Values.{Value, starts, all_starts, end}
@@ -54,10 +55,14 @@ module _ (p : Plan) (tolerance : ℕ) (controls : List ℤ) (w : Walkable p tole
   pub end-inside : (axis : ℕ) → axis < 2 → nat_abs (controls_of p controls s axis).d ≤ widest
   end-inside axis a = (ready 0 axis a).inside.d
 
--- the tree that the code walks is the span's
-pub same_span : (p : Plan) (tolerance : ℕ) (controls : List ℤ) (s : ℕ) {x y : Four} → x ≡ controls_of p controls s 0 → y ≡ controls_of p controls s 1 → tree_at p.basis tolerance 0 x y ≡ tree_of p tolerance controls s
+-- the piece that the code walks is the span, before any cut
+abbrev pub whole_piece : Plan → List ℤ → ℕ → Piece
+whole_piece p controls s = piece 0 (controls_of p controls s 0) (controls_of p controls s 1)
+
+-- and its tree is the span's
+pub same_span : (p : Plan) (tolerance : ℕ) (controls : List ℤ) (s : ℕ) {q : Piece} → q ≡ whole_piece p controls s → tree_at p.basis tolerance q.level q.x q.y ≡ tree_of p tolerance controls s
 unfolding tree_of
-same_span p tolerance controls s e f = λ i. tree_at p.basis tolerance 0 (e i) (f i)
+same_span p tolerance controls s e = λ i. tree_at p.basis tolerance (e i).level (e i).x (e i).y
 
 -- ---- what is left
 
@@ -88,6 +93,15 @@ module _ (f : ℕ → Tree) where
   pub starts-done : (d : ℕ → ℕ) (e : List Value) (s m : ℕ) → m ≤ s → all_starts d (tab f s (m - s)) ++ e ≡ e
   unfolding all_starts
   starts-done d e s m h = ap (λ trees. all_starts d trees ++ e) (none s m h)
+
+-- what is left to write from a span on
+abbrev pub rest : Plan → ℕ → List ℤ → ℕ → List Value
+rest p tolerance controls s =
+    all_starts (divisor p.basis) (tab (tree_of p tolerance controls) s (p.spans - s)) ++ end (divisor p.basis) (controls_of p controls (p.spans - 1) 0) (controls_of p controls (p.spans - 1) 1)
+
+-- nothing written yet
+abbrev pub unfilled : Filled
+unfilled = record { next = 0; exact = 0 }
 
 -- ---- how many numbers there are
 

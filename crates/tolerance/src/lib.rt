@@ -10,12 +10,12 @@ ghost use Rattle.tolerance.specs.Inner.{Choosable};
 
 mod spanwise;
 
-use pieces::{MOST_TOLERANCE, Uncut};
+use pieces::MOST_TOLERANCE;
 use shape::{Plan, Reason, Refusal, Shape, check_controls, check_shape};
 use spanwise::{count_all, fill_all};
 
 // How many points stand in the list now, how many cuts chose them, and how many of their coordinates are exact.
-#[derive(Clone, Copy)]
+#[derive(Clone, Copy, Debug, PartialEq, Eq)]
 pub struct Steps {
     pub points: usize,
     pub cuts: usize,
@@ -53,11 +53,8 @@ fn choose_plan(
     if MOST_TOLERANCE < tolerance {
         return Err(Reason::TooCoarse.into());
     }
-    match count_all(controls, plan, tolerance, most) {
-        Err(Uncut::TooDeep) => Err(Reason::NotFlat.into()),
-        Err(Uncut::TooMany) => Err(Reason::TooManyCuts.into()),
-        Ok(cuts) => fill_plan(plan, tolerance, cuts, controls, points),
-    }
+    let cuts = count_all(controls, plan, tolerance, most)?;
+    fill_plan(plan, tolerance, cuts, controls, points)
 }
 
 // Room for the points, row 9, and the points where there is.

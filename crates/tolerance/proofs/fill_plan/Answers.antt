@@ -1,9 +1,8 @@
 -- Row 9, or all chosen points.
-use Rattle.std.specs.Prelude.{Ok}
+use Rattle.std.specs.Prelude.{Ok, Err}
 use mathlib.Core.Path.{◌≡◌, sym, ap, ◌∙◌, subst}
 use Prim.Native.Nat.{ℕ, ◌+◌, ◌*◌, ◌^◌, ◌≤◌, ◌<◌}
 use native.Mathlib.Omega.{arith}
-use borrow.Author.Rules.{rules}
 use lib.ListN.{length}
 use Rattle.whole.specs.Outcome.{outcome}
 use Rattle.shape.specs.Shape.{most_records}
@@ -37,7 +36,7 @@ pub returns-then-points-count : goal.returns-then-points-count
 returns-then-points-count c =
     let s = c.before.before.before in
     let a = s.args in
-    ap (λ r. outcome r a.points.now) c.refused.ensures
+    ap (λ r. outcome (Err r) a.points.now) c.into.ensures
     ∙ sym (last-short a.plan a.tolerance a.controls.now a.points.now (subst (λ (n : ℕ). length a.points.now < 2 * n) (counted s) c.if-points-count.true))
 
 pub fill_all-exact-requires : goal.fill_all-exact-requires
