@@ -4,7 +4,6 @@ use mathlib.Core.List.{[], ◌∷◌}
 use Prim.Native.Nat.{ℕ, suc, ◌+◌, ◌*◌, ◌-◌, ◌/◌, ◌^◌, ◌≤◌, ◌<◌}
 use native.Mathlib.Nat.{add-mul, mul_comm, mul_assoc, div-lt_iff_lt-mul, div-le_self, lt_of_le_of_lt}
 use native.Mathlib.Omega.{arith}
-use borrow.Author.Rules.{rules}
 use lib.Dec.{T}
 use lib.IntN.{ℤ, pos, negsuc, neg_ℤ, nat_abs, ◌+ℤ◌, ◌-ℤ◌}
 use lib.Pow.{pow_pos}
@@ -17,23 +16,7 @@ use Rattle.whole.proofs.Ring.{var, ◌⊕◌, solve}
 use Rattle.whole.proofs.Order.{subℕ-pos}
 use Rattle.whole.proofs.Fit.{kept, kept-is, nat_abs-add, nat_abs-neg, size_fits}
 use Rattle.whole.proofs.Lifted.{lift-div}
-use Rattle.whole.proofs.nearest_up.Statement.{statement}
-use Rattle.whole.proofs.nearest_up.Tie as tie
-
-cast-lifted : tie.Need-overflow_cast-lifted
-cast-lifted c = search rules
-
-shr-lifted : tie.Need-overflow_shr-lifted
-shr-lifted c = search rules
-
-mul-lifted : tie.Need-overflow_mul-lifted
-mul-lifted c = search rules
-
-add-lifted : tie.Need-overflow_add-lifted
-add-lifted c = search rules
-
-cast-lifted-2 : tie.Need-overflow_cast-lifted-2
-cast-lifted-2 c = search rules
+use Rattle.whole.proofs.nearest_up.Goals as goal
 
 -- ---- how far from zero a shifted sum is
 
@@ -50,7 +33,7 @@ natural : (x : ℤ) (k : ℕ) → nat_abs x ≤ k → (n : ℕ) × (x +ℤ pos k
 natural (pos a) k h = (a + k, refl, omega arith)
 natural (negsuc a) k h = (k - suc a, subℕ-pos k (suc a) (k - suc a) (omega arith), omega arith)
 
-module _ (c : tie.Start) where
+module _ (c : goal.Start) where
   abbrev z : ℤ
   z = c.args.sum
 
@@ -69,7 +52,7 @@ module _ (c : tie.Start) where
   near : nat_abs x ≤ m * farthest + 1
   near =
       let swap : m * e * farthest ≡ m * farthest * e = mul_assoc m e farthest ∙ ap (λ (n : ℕ). m * n) (mul_comm e farthest) ∙ sym (mul_assoc m farthest e) in
-      shift-size z e (m * farthest) (pow_pos c.args.bits) (omega (arith, swap, c.requires.1))
+      shift-size z e (m * farthest) (pow_pos c.args.bits) (omega (arith, swap, c.requires.sum_bound))
 
   shifted-is : kept w64 (shr_z (kept w64 z) e) ≡ x
   shifted-is =
@@ -77,16 +60,16 @@ module _ (c : tie.Start) where
       ∙ kept-is w64 x (record { sfits = lt_of_le_of_lt (mag_shr z e) c.ranges.sum.sfits })
 
   more-is : to_z w64 (m * lift + m / 2) ≡ pos (m * lift + m / 2)
-  more-is = to_z_pos w64 (m * lift + m / 2) (omega (arith, c.requires.0.few))
+  more-is = to_z_pos w64 (m * lift + m / 2) (omega (arith, c.requires.roundable.few))
 
   above : (n : ℕ) × (x +ℤ pos (m * lift + m / 2) ≡ pos n) × (n ≤ nat_abs x + (m * lift + m / 2))
-  above = natural x (m * lift + m / 2) (omega (arith, near, c.requires.0.some))
+  above = natural x (m * lift + m / 2) (omega (arith, near, c.requires.roundable.some))
 
   abbrev n : ℕ
   n = above.0
 
   held : n < 2 ^ 32
-  held = omega (arith, above.2, near, c.requires.0.few, c.requires.0.some)
+  held = omega (arith, above.2, near, c.requires.roundable.few, c.requires.roundable.some)
 
   lifted-is : kept w64 (shr_z (kept w64 z) e) +ℤ to_z w64 (m * lift + m / 2) ≡ pos n
   lifted-is = (λ i. shifted-is i +ℤ more-is i) ∙ above.1
@@ -106,51 +89,21 @@ module _ (c : tie.Start) where
   back_is : pos (n / m) -ℤ pos lift ≡ half_to_greater m e z
   unfolding half_to_greater
   back_is =
-      lift-div (x +ℤ pos (m / 2)) m lift n c.requires.0.some
+      lift-div (x +ℤ pos (m / 2)) m lift n c.requires.roundable.some
       (solve (x ∷ pos (m / 2) ∷ pos (m * lift) ∷ []) (var 0 ⊕ var 1 ⊕ var 2) (var 0 ⊕ (var 2 ⊕ var 1)) tt ∙ above.1)
 
   back_fits : SFits w64 (pos (n / m) -ℤ pos lift)
   back_fits = size_fits w64 (pos (n / m) -ℤ pos lift) (omega (arith, nat_abs-add (pos (n / m)) (neg_ℤ (pos lift)), nat_abs-neg (pos lift), quotient))
 
-add-lifted-2 : tie.Need-overflow_add-lifted-2
-add-lifted-2 c = subst (SFits w64) (sym (lifted-is c)) (lifted-fits c)
+pub overflow_add-lifted-2 : goal.overflow_add-lifted-2
+overflow_add-lifted-2 c = subst (SFits w64) (sym (lifted-is c)) (lifted-fits c)
 
-cast-result : tie.Need-overflow_cast-result
-cast-result c = subst (λ x. T (non_neg x) × Fits w32 (nat_abs x)) (sym (lifted-kept c)) (tt, record { fits = held c })
+pub overflow_cast-result : goal.overflow_cast-result
+overflow_cast-result c = subst (λ x. T (non_neg x) × Fits w32 (nat_abs x)) (sym (lifted-kept c)) (tt, record { fits = held c })
 
-div-result : tie.Need-nonzero_div-result
-div-result c = search rules
-
-cast-result-2 : tie.Need-overflow_cast-result-2
-cast-result-2 c = subst (λ x. SFits w64 (pos (nat_abs x / m c))) (sym (lifted-kept c)) (size_fits w64 (pos (n c / m c)) (omega (arith, quotient c)))
-
-cast-result-3 : tie.Need-overflow_cast-result-3
-cast-result-3 c = search rules
-
-sub-result : tie.Need-overflow_sub-result
-sub-result c =
-    subst (λ x. SFits w64 (to_z w64 (nat_abs x / m c) -ℤ pos (2 ^ 23))) (sym (lifted-kept c)) (subst (λ x. SFits w64 (x -ℤ pos (2 ^ 23))) (sym (quotient_is c)) (back_fits c))
-
-returns : tie.Need-returns
+pub returns : goal.returns
 returns c =
     ap (λ x. kept w64 (to_z w64 (nat_abs x / m c) -ℤ pos (2 ^ 23))) (lifted-kept c)
     ∙ ap (λ x. kept w64 (x -ℤ pos (2 ^ 23))) (quotient_is c)
     ∙ kept-is w64 (pos (n c / m c) -ℤ pos (2 ^ 23)) (back_fits c)
     ∙ back_is c
-
-pub nearest_up_spec : {M : Type 1} → statement M
-nearest_up_spec =
-    tie.close
-    (tie.spec
-    cast-lifted
-    shr-lifted
-    mul-lifted
-    add-lifted
-    cast-lifted-2
-    add-lifted-2
-    cast-result
-    div-result
-    cast-result-2
-    cast-result-3
-    sub-result
-    returns)
