@@ -8,12 +8,13 @@ use lib.Dec.{ltb, ltb→lt, nltb→le, lit≤}
 use lib.Pow.{pow-add, pow_pos}
 use lib.IntN.{ℤ, pos, nat_abs, ◌+ℤ◌, ◌-ℤ◌, ◌*ℤ◌}
 use lib.ListN.{get_or}
-use Rattle.whole.proofs.Ring.{var, lit, ◌⊕◌, ◌⊖◌, ◌⊗◌, solve, cond_ind}
+use Rattle.whole.proofs.Ring.{var, ◌⊕◌, ◌⊖◌, ◌⊗◌, solve, cond_ind}
 use Rattle.whole.proofs.Order.{pos-less}
 use Rattle.whole.proofs.Fit.{ev-size}
 use Rattle.curve.specs.declared.Four.{Four}
 use Rattle.curve.specs.Four.{dot}
 use Rattle.curve.specs.Published.{weights}
+use Rattle.curve.specs.Inner.{heaviest}
 use Rattle.curve.specs.Span.{weighted}
 use Rattle.curve.specs.Ways.{deepest, apart, row, nth, table_size, table_entry, weight_table, entry_of}
 use Rattle.curve.proofs.Tab.{get_or-tab}
@@ -110,10 +111,6 @@ row-sum m b =
   where
     cong : {a b c d a' b' c' d' : ℤ} → a ≡ a' → b ≡ b' → c ≡ c' → d ≡ d' → a +ℤ b +ℤ c +ℤ d ≡ a' +ℤ b' +ℤ c' +ℤ d'
     cong e f g k = cc
-
--- no weight of the table is above this
-abbrev pub heaviest : ℕ
-heaviest = 2 ^ (3 * deepest + 4)
 
 pub weight-size : (m r : ℕ) → m ≤ 2 ^ deepest → nat_abs (nth (weights (pos m) (pos (2 ^ deepest))) r) ≤ heaviest
 unfolding nth weights
