@@ -8,12 +8,13 @@ use lib.Dec.{ltb, ltb→lt, nltb→le, lit≤}
 use lib.Pow.{pow-add, pow_pos}
 use lib.IntN.{ℤ, pos, nat_abs, ◌+ℤ◌, ◌-ℤ◌, ◌*ℤ◌}
 use lib.ListN.{get_or}
-use Rattle.whole.proofs.Ring.{var, lit, ◌⊕◌, ◌⊖◌, ◌⊗◌, solve, cond_ind}
+use Rattle.whole.proofs.Ring.{var, ◌⊕◌, ◌⊖◌, ◌⊗◌, solve, cond_ind}
 use Rattle.whole.proofs.Order.{pos-less}
 use Rattle.whole.proofs.Fit.{ev-size}
 use Rattle.curve.specs.declared.Four.{Four}
 use Rattle.curve.specs.Four.{dot}
 use Rattle.curve.specs.Published.{weights}
+use Rattle.curve.specs.Inner.{heaviest}
 use Rattle.curve.specs.Span.{weighted}
 use Rattle.curve.specs.Ways.{deepest, apart, row, nth, table_size, table_entry, weight_table, entry_of}
 use Rattle.curve.proofs.Tab.{get_or-tab}
@@ -42,33 +43,10 @@ by-table k b q j =
     ∙ weighted-scale (pos (apart k)) q (pos j) (pos (2 ^ k))
     ∙ ap (λ (n : ℕ). pos n *ℤ weighted q (pos j) (pos (2 ^ k))) (sym (thrice (deepest - k)))
 
-some-apart : (k : ℕ) → 0 < apart k
-some-apart k = pow_pos (deepest - k)
-
--- a row is that of its step
-pub row_step : (k m : ℕ) → m % apart k ≡ 0 → m ≡ row k (m / apart k)
+-- the row of a step is in the table
+pub row-within : (k i : ℕ) → k ≤ deepest → i ≤ 2 ^ k → row k i ≤ 2 ^ deepest
 unfolding row
-row_step k m e = omega (arith, mod-add-div m (apart k), mul_comm (apart k) (m / apart k))
-
--- a row before the last is that of a step before the last
-pub step-below : (k m : ℕ) → k ≤ deepest → m < 2 ^ deepest → m / apart k < 2 ^ k
-step-below k m b l = (div-lt_iff_lt-mul (some-apart k)).1 (lt_of_lt_of_le l (le_of_eq (rows_all k b)))
-
--- the last row is that of the last step
-pub last_step : (k : ℕ) → k ≤ deepest → 2 ^ deepest / apart k ≡ 2 ^ k
-last_step k b = div-eq_of_eq-mul_left (some-apart k) (rows_all k b)
-
--- the row after one that is not the last is that of the next step
-pub next_row : (k m : ℕ) → k ≤ deepest → m % apart k ≡ 0 → m < 2 ^ deepest → m + apart k ≤ 2 ^ deepest
-unfolding row
-next_row k m b e l =
-    omega (arith, rows_all k b, row_step k m e, suc-mul (m / apart k) (apart k), mul-le-mul_right {m = suc (m / apart k)} {n = 2 ^ k} (apart k) (step-below k m b l))
-
-pub next-whole : (k m : ℕ) → m % apart k ≡ 0 → (m + apart k) % apart k ≡ 0
-next-whole k m e = add-mod_right m (apart k) ∙ e
-
-pub next-step : (k m : ℕ) → (m + apart k) / apart k ≡ m / apart k + 1
-next-step k m = add-div_right m (some-apart k)
+row-within k i b h = omega (arith, rows_all k b, mul-le-mul_right {m = i} {n = 2 ^ k} (apart k) h)
 
 -- ---- the table's entries
 
@@ -110,10 +88,6 @@ row-sum m b =
   where
     cong : {a b c d a' b' c' d' : ℤ} → a ≡ a' → b ≡ b' → c ≡ c' → d ≡ d' → a +ℤ b +ℤ c +ℤ d ≡ a' +ℤ b' +ℤ c' +ℤ d'
     cong e f g k = cc
-
--- no weight of the table is above this
-abbrev pub heaviest : ℕ
-heaviest = 2 ^ (3 * deepest + 4)
 
 pub weight-size : (m r : ℕ) → m ≤ 2 ^ deepest → nat_abs (nth (weights (pos m) (pos (2 ^ deepest))) r) ≤ heaviest
 unfolding nth weights

@@ -12,6 +12,10 @@ use Rattle.curve.specs.Ways.{deepest}
 abbrev pub widest : ℕ
 widest = 320 * limit
 
+-- No weight of the table is above this.
+abbrev pub heaviest : ℕ
+heaviest = 2 ^ (3 * deepest + 4)
+
 -- The farthest reach of any basis.
 abbrev pub far_reach : ℕ
 far_reach = 6000000

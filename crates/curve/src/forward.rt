@@ -13,15 +13,11 @@ impl Differences {
         requires steps_bound { nat_abs steps ≤ 2 ^ deepest }
         ensures { result ≡ differences q steps }
     {
-        let a = q.a;
-        let b = q.b;
-        let c = q.c;
-        let d = q.d;
-        let cubed = d - a + 3 * (b - c);
-        let squared = 3 * (a - 2 * b + c);
-        let single = 3 * (b - a);
+        let cubed = q.d - q.a + 3 * (q.b - q.c);
+        let squared = 3 * (q.a - 2 * q.b + q.c);
+        let single = 3 * (q.b - q.a);
         Differences {
-            value: a * steps * steps * steps,
+            value: q.a * steps * steps * steps,
             first: (single * steps + squared) * steps + cubed,
             second: 6 * cubed + 2 * squared * steps,
             third: 6 * cubed,
@@ -33,15 +29,11 @@ impl Differences {
         requires { Small self }
         ensures { result ≡ advance self }
     {
-        let value = self.value;
-        let first = self.first;
-        let second = self.second;
-        let third = self.third;
         Differences {
-            value: value + first,
-            first: first + second,
-            second: second + third,
-            third,
+            value: self.value + self.first,
+            first: self.first + self.second,
+            second: self.second + self.third,
+            third: self.third,
         }
     }
 }

@@ -11,15 +11,11 @@ impl Four {
         requires { Inside (2 ^ 59) self }
         ensures { result ≡ left_half self }
     {
-        let a = self.a;
-        let b = self.b;
-        let c = self.c;
-        let d = self.d;
-        let m = a + b;
-        let n = b + c;
-        let o = c + d;
+        let m = self.a + self.b;
+        let n = self.b + self.c;
+        let o = self.c + self.d;
         Four {
-            a: 8 * a,
+            a: 8 * self.a,
             b: 4 * m,
             c: 2 * (m + n),
             d: m + n + (n + o),
@@ -31,18 +27,14 @@ impl Four {
         requires { Inside (2 ^ 59) self }
         ensures { result ≡ right_half self }
     {
-        let a = self.a;
-        let b = self.b;
-        let c = self.c;
-        let d = self.d;
-        let m = a + b;
-        let n = b + c;
-        let o = c + d;
+        let m = self.a + self.b;
+        let n = self.b + self.c;
+        let o = self.c + self.d;
         Four {
             a: m + n + (n + o),
             b: 2 * (n + o),
             c: 4 * o,
-            d: 8 * d,
+            d: 8 * self.d,
         }
     }
 }

@@ -11,7 +11,7 @@ pub mod weights;
 
 // The four bases of document 01, numbered 1 to 4 there, and a fifth. A cardinal curve has its parameter, in 64ths (document 02, request 7), and a loop, a B-spline whose
 // records run round, has how many they are (request 8).
-#[derive(Clone, Copy)]
+#[derive(Clone, Copy, Debug, PartialEq, Eq)]
 pub enum Basis {
     Bezier,
     BSpline,
@@ -21,7 +21,7 @@ pub enum Basis {
 }
 
 // Four whole numbers of one axis: the records of a span, or its Bezier controls.
-#[derive(Clone, Copy)]
+#[derive(Clone, Copy, Debug, PartialEq, Eq)]
 pub struct Four {
     pub a: i64,
     pub b: i64,
@@ -30,7 +30,7 @@ pub struct Four {
 }
 
 // A sum of the curve and its first, second and third forward differences.
-#[derive(Clone, Copy)]
+#[derive(Clone, Copy, Debug, PartialEq, Eq)]
 pub struct Differences {
     pub value: i64,
     pub first: i64,

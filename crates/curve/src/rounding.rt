@@ -14,11 +14,8 @@ pub fn divisor_bits(basis: Basis, depth: usize) -> u32
 {
     let cubed = 3 * depth as u32;
     match basis {
-        Basis::Bezier => cubed,
-        Basis::BSpline => cubed,
         Basis::Cardinal(_) => cubed + 5,
-        Basis::Hermite => cubed,
-        Basis::Loop(_) => cubed,
+        _ => cubed,
     }
 }
 

@@ -1,7 +1,9 @@
-// The weights' way: the constant table of Bernstein weights at depth 8, and a sum by one of its rows.
+// The weights' way: the constant table of Bernstein weights at depth 8, read where it lies, and a sum by one of its rows.
 ghost use Rattle.std.specs.Prelude.{◌≡◌, ◌≤◌, ◌<◌, ◌^◌, pos, get_or};
+ghost use Rattle.curve.specs.Four.{dot};
+ghost use Rattle.curve.specs.Published.{weights};
 ghost use Rattle.curve.specs.Limits.{Inside};
-ghost use Rattle.curve.specs.Inner.{widest};
+ghost use Rattle.curve.specs.Inner.{heaviest, widest};
 ghost use Rattle.curve.specs.Span.{weighted};
 ghost use Rattle.curve.specs.Ways.{deepest, table_size, weight_table};
 
@@ -11,7 +13,7 @@ use crate::{Four, MOST_STEPS};
 const TABLE_SIZE: usize = 2 * (MOST_STEPS + 1);
 
 // Two weights for each i from 0 to 256: (256 - i)^3 and 3 · i · (256 - i)^2. The other two of row i, 3 · i^2 · (256 - i) and i^3, are those of row 256 - i the other way round.
-const WEIGHTS: [i32; TABLE_SIZE] = [
+static WEIGHTS: [i32; TABLE_SIZE] = [
     16777216, 0, 16581375, 195075, 16387064, 387096, 16194277, 576081, 16003008, 762048, 15813251,
     945015, 15625000, 1125000, 15438249, 1302021, 15252992, 1476096, 15069223, 1647243, 14886936,
     1815480, 14706125, 1980825, 14526784, 2143296, 14348907, 2302911, 14172488, 2459688, 13997521,
@@ -62,34 +64,42 @@ const WEIGHTS: [i32; TABLE_SIZE] = [
     512, 47616, 343, 36603, 216, 27000, 125, 18825, 64, 12096, 27, 6831, 8, 3048, 1, 765, 0, 0,
 ];
 
-// The table, to be bound once a call and lent down: a constant that is read by an index is written out whole at every read.
-pub fn weight_table() -> [i32; TABLE_SIZE]
-    ensures { result ≡ weight_table }
-{
-    WEIGHTS
-}
-
 // One weight of the table: of row entry / 2, and there the one numbered entry % 2.
-fn weight(table: &[i32], entry: usize) -> i64
-    requires table_value { table.now ≡ weight_table }
-    requires lt_table_size { entry < table_size }
+fn weight(entry: usize) -> i64
+    requires { entry < table_size }
     ensures { result ≡ get_or weight_table entry (pos 0) }
 {
-    table[entry] as i64
+    WEIGHTS[entry] as i64
 }
 
-// The weighted sum of four controls by a row of the table: at t = row / 256, times 256^3. The last two weights are read in the mirrored row, the other way round.
-pub fn weighted_sum(table: &[i32], q: Four, row: usize) -> i64
-    requires table_value { table.now ≡ weight_table }
+// The four weights of a row of the table, at t = row / 256, times 256^3. The last two are read in the mirrored row, the other way round.
+fn row_weights(row: usize) -> Four
+    requires { row ≤ 2 ^ deepest }
+    ensures { result ≡ weights (pos row) (pos (2 ^ deepest)) }
+{
+    let at = 2 * row;
+    let mirrored = 2 * (MOST_STEPS - row);
+    Four {
+        a: weight(at),
+        b: weight(at + 1),
+        c: weight(mirrored + 1),
+        d: weight(mirrored),
+    }
+}
+
+// The sum of four controls, each times its weight.
+fn dot(w: Four, q: Four) -> i64
+    requires { Inside heaviest w × Inside widest q }
+    ensures { result ≡ dot w q }
+{
+    w.a * q.a + w.b * q.b + w.c * q.c + w.d * q.d
+}
+
+// The weighted sum of four controls by a row of the table.
+pub fn weighted_sum(q: Four, row: usize) -> i64
     requires inside { Inside widest q }
     requires row_bound { row ≤ 2 ^ deepest }
     ensures { result ≡ weighted q (pos row) (pos (2 ^ deepest)) }
 {
-    let at = 2 * row;
-    let mirrored = 2 * (MOST_STEPS - row);
-    let w = weight(table, at);
-    let x = weight(table, at + 1);
-    let y = weight(table, mirrored + 1);
-    let z = weight(table, mirrored);
-    w * q.a + x * q.b + y * q.c + z * q.d
+    dot(row_weights(row), q)
 }

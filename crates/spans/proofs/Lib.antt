@@ -5,6 +5,7 @@ pub mod Halves
 pub mod Steps
 pub mod Numbers
 pub mod Totals
+pub mod Runs
 pub mod Joint
 pub mod Alone
 pub mod Drawables

@@ -1,66 +1,50 @@
--- The state after n steps from a span's start holds the sum at step n, so the sums by differences are the span's.
-use mathlib.Core.Path.{◌≡◌, sym, ap, ◌∙◌, subst}
-use mathlib.Core.Bool.{Bool, true, false, cond}
-use Prim.Native.Nat.{ℕ, zero, suc, ◌+◌, ◌*◌, ◌/◌, ◌%◌, ◌^◌, ◌≤◌}
-use native.Mathlib.Numerals.{add-one}
+-- By differences: from step to step the state goes on as `state` does, and holds the sum of its step.
+use mathlib.Core.Path.{◌≡◌, refl, sym, ap, ◌∙◌, subst}
+use Prim.Native.Nat.{ℕ, ◌+◌, ◌*◌, ◌%◌, ◌^◌, ◌≤◌, ◌<◌}
+use native.Mathlib.Nat.{lt_of_le_of_lt}
 use native.Mathlib.Omega.{arith}
-use lib.Dec.{eqb}
+use lib.Dec.{lit<}
 use lib.IntN.{pos, nat_abs}
 use lib.Pow.{pow_mono}
 use mir.Syntax.{w64}
-use mir.Val.{SFits}
-use Rattle.whole.proofs.Fit.{sfits}
+use mir.Val.{to_z}
+use mir.ValLaws.{to_z_pos}
+use Rattle.whole.proofs.Fit.{kept, kept-is, sfits}
 use Rattle.curve.specs.declared.Four.{Four}
 use Rattle.curve.specs.declared.Differences.{Differences}
-use Rattle.curve.specs.Inner.{Small, far_reach}
+use Rattle.curve.specs.Inner.{Small}
 use Rattle.curve.specs.Span.{weighted}
 use Rattle.curve.specs.Ways.{deepest, differences, advance}
+use Rattle.curve.proofs.Powers.{shift_one}
 use Rattle.curve.proofs.Ways.{state, begins, advances, state-small}
-use Rattle.spans.specs.Inner.{paired, after, stepped, Ready, Steady}
+use Rattle.spans.specs.Ready.{Ready}
 
-after-state : (q : Four) (m n : ℕ) → after n (differences q (pos m)) ≡ state q (pos n) (pos m)
-unfolding after
-after-state q m zero = begins q (pos m)
-after-state q m (suc n) = ap advance (after-state q m n) ∙ advances q (pos n) (pos m) ∙ ap (λ (j : ℕ). state q (pos j) (pos m)) (add-one n)
+-- the shifted 1 as a signed number
+steps-is : (k : ℕ) → k ≤ deepest → to_z w64 (1 * 2 ^ k % 2 ^ 64) ≡ pos (2 ^ k)
+steps-is k h = ap (to_z w64) (shift_one k (omega arith)) ∙ to_z_pos w64 (2 ^ k) (lt_of_le_of_lt (pow_mono {i = k} {j = deepest} h) (lit< tt))
 
-after-value : (q : Four) (m n : ℕ) → (after n (differences q (pos m))).value ≡ weighted q (pos n) (pos m)
-unfolding state
-after-value q m n = ap (λ (s : Differences). s.value) (after-state q m n)
+pub few-steps : (k : ℕ) → k ≤ deepest → nat_abs (to_z w64 (1 * 2 ^ k % 2 ^ 64)) ≤ 2 ^ deepest
+few-steps k h = subst (λ z. nat_abs z ≤ 2 ^ deepest) (sym (steps-is k h)) (pow_mono {i = k} {j = deepest} h)
 
-axis-value : (b : Bool) (x y : Four) (m n : ℕ) → (after n (cond b (differences x (pos m)) (differences y (pos m)))).value ≡ weighted (cond b x y) (pos n) (pos m)
-axis-value true x y m n = after-value x m n
-axis-value false x y m n = after-value y m n
+-- the state at a step of a span of 2^k
+abbrev pub step_state : Four → ℕ → ℕ → Differences
+step_state q k i = state q (pos i) (pos (2 ^ k))
 
-pub stepped-paired : (k : ℕ) (x y : Four) (j : ℕ) → stepped (differences x (pos (2 ^ k))) (differences y (pos (2 ^ k))) j ≡ paired k x y j
-unfolding stepped paired
-stepped-paired k x y j = axis-value (eqb (j % 2) 0) x y (2 ^ k) (j / 2)
+pub first-state : (q : Four) (k : ℕ) → k ≤ deepest → {s : Differences} → s ≡ differences q (to_z w64 (1 * 2 ^ k % 2 ^ 64)) → s ≡ step_state q k 0
+first-state q k h e = e ∙ ap (differences q) (steps-is k h) ∙ begins q (pos (2 ^ k))
 
-pub ready-steady : (k d : ℕ) (q : Four) → k ≤ deepest → Ready k d q → Steady k d (differences q (pos (2 ^ k)))
-ready-steady k d q h ready =
+pub next-state : (q : Four) (k i : ℕ) {s t : Differences} → s ≡ step_state q k i → t ≡ advance s → t ≡ step_state q k (i + 1)
+next-state q k i e f = f ∙ ap advance e ∙ advances q (pos i) (pos (2 ^ k))
+
+pub small-state : (q : Four) (k d i : ℕ) → k ≤ deepest → Ready k d q → i < 2 ^ k → {s : Differences} → s ≡ step_state q k i → Small s
+small-state q k d i h ready below e =
     let deep = pow_mono {i = k} {j = deepest} h in
-    record {
-      small = λ i b. subst Small (sym (after-state q (2 ^ k) i)) (state-small q i (2 ^ k) ready.inside (omega arith) deep);
-      near = λ i b. subst (λ z. nat_abs z ≤ d * far_reach) (sym (after-value q (2 ^ k) i)) (ready.near i (omega arith));
-    }
+    subst Small (sym e) (state-small q i (2 ^ k) ready.inside (omega arith) deep)
 
--- the sums of a step
-pub stepped-x : (x y : Differences) (i : ℕ) → stepped x y (2 * i) ≡ (after i x).value
-unfolding stepped
-stepped-x x y i =
-    let e : 2 * i % 2 ≡ 0 = omega arith in
-    let f : 2 * i / 2 ≡ i = omega arith in
-    ap (λ (n : ℕ). (after n (cond (eqb (2 * i % 2) 0) x y)).value) f ∙ ap (λ (n : ℕ). (after i (cond (eqb n 0) x y)).value) e
+-- the sum that it holds, as the machine keeps it
+value-is : (q : Four) (k i : ℕ) → (step_state q k i).value ≡ weighted q (pos i) (pos (2 ^ k))
+unfolding state
+value-is q k i = refl
 
-pub stepped-y : (x y : Differences) (i : ℕ) → stepped x y (2 * i + 1) ≡ (after i y).value
-unfolding stepped
-stepped-y x y i =
-    let e : (2 * i + 1) % 2 ≡ 1 = omega arith in
-    let f : (2 * i + 1) / 2 ≡ i = omega arith in
-    ap (λ (n : ℕ). (after n (cond (eqb ((2 * i + 1) % 2) 0) x y)).value) f ∙ ap (λ (n : ℕ). (after i (cond (eqb n 0) x y)).value) e
-
-pub value-fits : (s : Differences) → Small s → SFits w64 s.value
-value-fits s small = sfits w64 s.value (2 ^ 61) small.value tt
-
-pub after-suc : (n : ℕ) (s : Differences) → advance (after n s) ≡ after (n + 1) s
-unfolding after
-after-suc n s = ap (λ (m : ℕ). after m s) (sym (add-one n))
+pub state-sum : (q : Four) (k d i : ℕ) → k ≤ deepest → Ready k d q → i < 2 ^ k → {s : Differences} → s ≡ step_state q k i → kept w64 s.value ≡ weighted q (pos i) (pos (2 ^ k))
+state-sum q k d i h ready below {s} e = kept-is w64 s.value (sfits w64 s.value (2 ^ 61) (small-state q k d i h ready below e).value tt) ∙ ap (λ (t : Differences). t.value) e ∙ value-is q k i

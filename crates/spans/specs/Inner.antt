@@ -1,22 +1,19 @@
 -- For contracts inside the project alone: no public contract uses what is here.
 -- One span by each of the three ways, and the controls that it can be drawn from.
-use Rattle.std.specs.Prelude.{◌≡◌, true, cond, ◌⊎◌, List, [], ◌∷◌, map, ℕ, zero, suc, ◌*◌, ◌-◌, ◌/◌, ◌%◌, ◌^◌, ◌+◌, ◌≤◌, ◌<◌, eqb, ℤ, pos, nat_abs, length}
+use Rattle.std.specs.Prelude.{◌≡◌, true, cond, ◌⊎◌, List, [], ◌∷◌, map, ℕ, ◌*◌, ◌-◌, ◌/◌, ◌%◌, ◌^◌, ◌+◌, ◌≤◌, ◌<◌, eqb, ℤ, pos, nat_abs, length}
 use Rattle.std.proofs.lemmas.List.Edits.{sets}
 use Rattle.whole.specs.Nearest.{nearest, remainder}
 use Rattle.whole.specs.Outcome.{Outcome, outcome}
 use Rattle.curve.specs.declared.Four.{Four}
-use Rattle.curve.specs.declared.Differences.{Differences}
 use Rattle.curve.specs.Span.{coordinate, is_loop, records, weighted}
-use Rattle.curve.specs.Ways.{advance, deepest, weight_table}
+use Rattle.curve.specs.Ways.{deepest}
 use Rattle.curve.specs.Published.{most_parameter}
 use Rattle.curve.specs.Limits.{Inside, limit, parameter_of}
-use Rattle.curve.specs.Inner.{Small, Holds, widest, far_reach}
+use Rattle.curve.specs.Inner.{Holds, widest, far_reach}
 use Rattle.shape.specs.declared.Plan.{Plan}
 use Rattle.shape.specs.Inner.{RunsRound}
 use Rattle.shape.specs.Shape.{most_records}
 use Rattle.spans.specs.Numbers.{noughts, per_span}
-use Rattle.spans.specs.declared.run.Way.{Way}
-use Rattle.spans.specs.declared.run.Way.TheVariants.{Weights, Halving, Differences as ByDifferences}
 
 -- ---- exact sums over a divisor d, rounded one after another
 
@@ -43,31 +40,12 @@ paired left x y j = weighted (on_axis x y j) (pos (j / 2)) (pos (2 ^ left))
 abbrev pub ending : ℕ → Four → Four → List ℤ
 ending k x y = weighted x (pos (2 ^ k)) (pos (2 ^ k)) ∷ weighted y (pos (2 ^ k)) (pos (2 ^ k)) ∷ []
 
--- ---- the same by differences: the state after n steps, and the sums of a span from the states of its two axes
-
-unfoldable pub after : ℕ → Differences → Differences
-after zero s = s
-after (suc n) s = advance (after n s)
-
-unfoldable pub stepped : Differences → Differences → ℕ → ℤ
-stepped x y j = (after (j / 2) (cond (eqb (j % 2) 0) x y)).value
-
 -- ---- what it can be drawn from
-
--- Controls of one axis that a span can be drawn from: whole controls of records inside the limits, so that each sum, of 2^k steps, is within its divisor d times the farthest reach.
-pub record Ready (k d : ℕ) (q : Four) : Type 0 where
-  pub inside : Inside widest q
-  pub near : (i : ℕ) → i ≤ 2 ^ k → nat_abs (weighted q (pos i) (pos (2 ^ k))) ≤ d * far_reach
 
 -- The same for halving, with `left` more cuts to make: eight times as large with each cut made.
 pub record Cuttable (left d : ℕ) (q : Four) : Type 0 where
   pub inside : Inside (widest * 8 ^ (deepest - left)) q
   pub near : (i : ℕ) → i < 2 ^ left → nat_abs (weighted q (pos i) (pos (2 ^ left))) ≤ d * far_reach
-
--- The same for differences: each of the 2^k steps' states is small, and its sum within the reach.
-pub record Steady (k d : ℕ) (s : Differences) : Type 0 where
-  pub small : (i : ℕ) → i < 2 ^ k → Small (after i s)
-  pub near : (i : ℕ) → i < 2 ^ k → nat_abs (after i s).value ≤ d * far_reach
 
 -- A list of controls that a plan's spans can be drawn from: the parameter is one that is offered, and each span's four records are in the list and inside the limits.
 pub record Drawable (p : Plan) (controls : List ℤ) : Type 0 where
@@ -88,9 +66,3 @@ pub record Fillable (p : Plan) (from to : ℕ) (controls : List ℤ) (n : ℕ) :
 -- A place of the point where the first and the last span of a loop meet: the list's start, and again past its last span.
 abbrev pub Joint : Plan → ℕ → Type 0
 Joint p at = (is_loop p.basis ≡ true) × ((at ≡ 0) ⊎ (at ≡ p.spans * per_span p.depth))
-
--- What a way has lent to it beside its lists: the weights' way the table, the others anything.
-abbrev pub TableFor : Way → List ℤ → Type 0
-TableFor Weights table = table ≡ weight_table
-TableFor Halving table = Unit {0}
-TableFor ByDifferences table = Unit {0}

@@ -1,3 +1,4 @@
 pub mod Numbers
 pub mod Filled
+pub mod Ready
 pub mod Inner

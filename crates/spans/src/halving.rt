@@ -5,10 +5,15 @@ ghost use Rattle.curve.specs.Tab.{tab};
 ghost use Rattle.curve.specs.Inner.{divisor_of, most_bits};
 ghost use Rattle.curve.specs.Ways.{deepest};
 ghost use Rattle.spans.specs.Numbers.{per_span};
-ghost use Rattle.spans.specs.Inner.{paired, rounds, Ready, Cuttable};
+ghost use Rattle.spans.specs.Inner.{paired, rounds, Cuttable};
 
 use crate::point::put_point;
+use crate::span::Span;
+use crate::way::Way;
 use curve::Four;
+
+// The way of document 01 that halves.
+pub struct ByHalving;
 
 // The 2^left starts of the pieces of a piece with `left` more cuts to make, from number `at` on. It answers how many of their numbers are exact.
 fn fill_pieces(points: &mut [i32], at: usize, left: usize, bits: u32, x: Four, y: Four) -> usize
@@ -33,20 +38,8 @@ fn fill_pieces(points: &mut [i32], at: usize, left: usize, bits: u32, x: Four, y
     on_left + on_right
 }
 
-// The 2^depth points of a span but its end, from number `at` on, and how many numbers are exact with them.
-pub(crate) fn fill_span(
-    points: &mut [i32],
-    at: usize,
-    depth: usize,
-    bits: u32,
-    x: Four,
-    y: Four,
-    exact: usize,
-) -> usize
-    requires depth_le_deepest { (depth ≤ deepest) × (bits ≤ most_bits) }
-    requires ready { Ready depth (divisor_of bits) x × Ready depth (divisor_of bits) y }
-    requires depth_in_bounds { (at + per_span depth ≤ length points.old) × (exact ≤ at) }
-    ensures { outcome result points.new ≡ rounds (divisor_of bits) (tab (paired depth x y) 0 (per_span depth)) at exact points.old }
-{
-    exact + fill_pieces(points, at, depth, bits, x, y)
+impl Way for ByHalving {
+    fn fill_span(points: &mut [i32], at: usize, span: Span) -> usize {
+        fill_pieces(points, at, span.depth, span.bits, span.x, span.y)
+    }
 }

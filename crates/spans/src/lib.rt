@@ -2,8 +2,10 @@
 // those have checked. `run` fills a run of spans by the way that is asked for, and has the controls of one span; `point` rounds one point into the list.
 #![tactic(auto)]
 
-mod halving;
+pub mod halving;
 pub mod point;
 pub mod run;
-mod stepping;
-mod weights;
+pub mod span;
+pub mod stepping;
+pub mod way;
+pub mod weights;

@@ -8,35 +8,20 @@ use curve::rounding::rounded;
 use whole::is_multiple;
 
 // One number, from the sum of its axis over 6 · 2^bits: rounded once, and counted where nothing is left over. It answers how many numbers are exact: `exact` before it, and this one where it is.
-fn put_counted(points: &mut [i32], at: usize, bits: u32, sum: i64, exact: usize) -> usize
-    requires bits_le_most_bits { bits ≤ most_bits }
-    requires sum_bound { nat_abs sum ≤ divisor_of bits * far_reach }
-    requires at_in_bounds { (at < length points.old) × (exact ≤ at) }
-    ensures { outcome result points.new ≡ rounds (divisor_of bits) (sum ∷ []) at exact points.old }
-{
-    let rounding = rounded(sum, bits);
-    let whole = rounding.whole;
-    points[at] = whole as i32;
-    if rounding.remainder == 0 {
-        return exact + 1;
-    }
-    exact
-}
-
-// The same. Few sums are multiples of 2^bits, and of any other something is left over, so that nobody need look at how much.
+// Few sums are multiples of 2^bits, and of any other something is left over, so that nobody need look at how much.
 fn put_number(points: &mut [i32], at: usize, bits: u32, sum: i64, exact: usize) -> usize
     requires bits_le_most_bits { bits ≤ most_bits }
     requires sum_bound { nat_abs sum ≤ divisor_of bits * far_reach }
     requires at_in_bounds { (at < length points.old) × (exact ≤ at) }
     ensures { outcome result points.new ≡ rounds (divisor_of bits) (sum ∷ []) at exact points.old }
 {
-    if is_multiple(sum, bits) {
-        return put_counted(points, at, bits, sum, exact);
-    }
     let rounding = rounded(sum, bits);
-    let whole = rounding.whole;
-    points[at] = whole as i32;
-    exact
+    points[at] = rounding.whole as i32;
+    if is_multiple(sum, bits) && rounding.remainder == 0 {
+        exact + 1
+    } else {
+        exact
+    }
 }
 
 // The two numbers of a point, each counted by itself.

@@ -1,59 +1,38 @@
 // By weights: each point is a sum by a row of the table.
-ghost use Rattle.std.specs.Prelude.{◌≡◌, ◌+◌, ◌/◌, ◌%◌, ◌≤◌, ◌^◌, pos, length};
-ghost use Rattle.whole.specs.Outcome.{outcome};
+ghost use Rattle.std.specs.Prelude.{◌≡◌, ◌≤◌, ◌^◌, pos};
 ghost use Rattle.curve.specs.Limits.{Inside};
-ghost use Rattle.curve.specs.Inner.{widest, divisor_of, most_bits};
-ghost use Rattle.curve.specs.Tab.{tab};
+ghost use Rattle.curve.specs.Inner.{widest};
 ghost use Rattle.curve.specs.Span.{weighted};
-ghost use Rattle.curve.specs.Ways.{apart, deepest, weight_table};
-ghost use Rattle.spans.specs.Numbers.{per_span};
-ghost use Rattle.spans.specs.Inner.{paired, rounds, Ready};
+ghost use Rattle.curve.specs.Ways.{deepest};
 
 use crate::point::put_point;
+use crate::span::Span;
+use crate::way::Way;
 use curve::weights::weighted_sum;
-use curve::{DEEPEST, Four, MOST_STEPS};
+use curve::{DEEPEST, Four};
 
-// The sum of a span at a row of the table that its depth uses: the row gives it 2^(3(8 - depth)) times as large, so that nothing is lost by the shift.
-fn table_sum(table: &[i32], q: Four, depth: usize, row: usize) -> i64
-    requires table_value { (table.now ≡ weight_table) × Inside widest q }
-    requires depth_le_deepest { (depth ≤ deepest) × (row ≤ 2 ^ deepest) × (row % apart depth ≡ 0) }
-    ensures { result ≡ weighted q (pos (row / apart depth)) (pos (2 ^ depth)) }
+// The way of document 01 that reads the table.
+pub struct ByWeights;
+
+// The sum of a span at a step. Depth k uses every 2^(8-k)-th row of the table, and such a row gives the sum 2^(3(8-k)) times as large, so that nothing is lost by the shift.
+fn table_sum(q: Four, depth: usize, step: usize) -> i64
+    requires inside { Inside widest q }
+    requires step_bound { (depth ≤ deepest) × (step ≤ 2 ^ depth) }
+    ensures { result ≡ weighted q (pos step) (pos (2 ^ depth)) }
 {
-    weighted_sum(table, q, row) >> (3 * (DEEPEST - depth))
+    let left = DEEPEST - depth;
+    let row = step << left;
+    weighted_sum(q, row) >> (3 * left)
 }
 
-// The 2^depth points of a span but its end, from number `at` on, by the rows that its depth uses, one after the other; and how many numbers are exact with them.
-pub(crate) fn fill_span(
-    table: &[i32],
-    points: &mut [i32],
-    at: usize,
-    depth: usize,
-    bits: u32,
-    x: Four,
-    y: Four,
-    exact: usize,
-) -> usize
-    requires depth_le_deepest { (depth ≤ deepest) × (bits ≤ most_bits) }
-    requires ready { Ready depth (divisor_of bits) x × Ready depth (divisor_of bits) y }
-    requires depth_in_bounds { (at + per_span depth ≤ length points.old) × (exact ≤ at) }
-    requires table_value { table.now ≡ weight_table }
-    ensures { outcome result points.new ≡ rounds (divisor_of bits) (tab (paired depth x y) 0 (per_span depth)) at exact points.old }
-{
-    let apart: usize = 1 << (DEEPEST - depth);
-    let mut so_far = exact;
-    let mut row = 0;
-    let mut j = at;
-    while row < MOST_STEPS {
-        so_far = put_point(
-            points,
-            j,
-            bits,
-            table_sum(table, x, depth, row),
-            table_sum(table, y, depth, row),
-            so_far,
-        );
-        row += apart;
-        j += 2;
+impl Way for ByWeights {
+    fn fill_span(points: &mut [i32], at: usize, span: Span) -> usize {
+        let mut exact = 0;
+        for step in 0..1usize << span.depth {
+            let x = table_sum(span.x, span.depth, step);
+            let y = table_sum(span.y, span.depth, step);
+            exact = put_point(points, at + 2 * step, span.bits, x, y, exact);
+        }
+        exact
     }
-    so_far
 }

@@ -14,15 +14,15 @@ pub fn half_up(size: u64, multiple: u32, bits: u32) -> u64
     ((size >> bits) + (multiple / 2) as u64) / multiple as u64
 }
 
-// A number without its sign. The least number's size is one more than any i64, so one is added last.
+// A number without its sign.
 pub fn magnitude(z: i64) -> u64
     ensures { result ≡ nat_abs z }
 {
-    if z < 0 { (-1 - z) as u64 + 1 } else { z as u64 }
+    z.unsigned_abs()
 }
 
 // A fraction rounded once: the whole number, and what is left over, the exact value less that number, over the same divisor.
-#[derive(Clone, Copy)]
+#[derive(Clone, Copy, Debug, PartialEq, Eq)]
 pub struct Rounding {
     pub whole: i64,
     pub remainder: i64,
@@ -44,12 +44,11 @@ fn outwards(sum: i64, bits: u32) -> i64
     requires { (nat_abs sum < 2 ^ 62) × (bits < 63) }
     ensures { result ≡ moved (2 ^ bits) sum }
 {
-    if sum < 0 {
-        if is_multiple(sum, bits) {
-            return sum - 1;
-        }
+    if sum < 0 && is_multiple(sum, bits) {
+        sum - 1
+    } else {
+        sum
     }
-    sum
 }
 
 // The whole number nearest to sum / (multiple · 2^bits), an exact half to the greater. The power of two is a shift, and what is left is lifted above zero, where 32 bits hold it, and divided

@@ -1,59 +1,15 @@
 -- Each sum is inside 64 bits by the records' limit, and the four are the definition's.
-use mathlib.Core.Path.{◌≡◌}
 use native.Mathlib.Nat.{le_refl}
-use lib.Dec.{T}
 use lib.IntN.{pos}
-use mir.Syntax.{w64}
-use Rattle.whole.proofs.Ring.{Ex, ◌⊕◌, ◌⊗◌, ev}
-use Rattle.whole.proofs.Fit.{Need, raw, safe}
+use Rattle.whole.proofs.Ring.{◌⊕◌, ◌⊗◌}
 use Rattle.curve.specs.Limits.{limit}
 use Rattle.curve.specs.Span.{whole_controls}
 use Rattle.curve.proofs.Reflect.{num, p}
-use Rattle.curve.proofs.Machine.{numbers, bounds, asked, worked}
+use Rattle.curve.proofs.Machine.{worked}
 use Rattle.curve.proofs.records.bspline_controls.Goals as goal
-
-fits : (c : goal.After-struct_told-4-1) (e : Ex) → T (safe w64 (bounds limit 0) e) → Need w64 (numbers c.args.p (pos 0)) e
-fits c = asked limit 0 c.args.p c.requires (pos 0) (le_refl 0)
-
-is : (c : goal.After-struct_told-4-1) (e : Ex) → T (safe w64 (bounds limit 0) e) → raw w64 (numbers c.args.p (pos 0)) e ≡ ev (numbers c.args.p (pos 0)) e
-is c = worked limit 0 c.args.p c.requires (pos 0) (le_refl 0)
-
-pub overflow_mul-result : goal.overflow_mul-result
-overflow_mul-result c = fits c (num 4 ⊗ p.b) tt
-
-pub overflow_add-result : goal.overflow_add-result
-overflow_add-result c = fits c (p.a ⊕ num 4 ⊗ p.b) tt
-
-pub overflow_add-result-2 : goal.overflow_add-result-2
-overflow_add-result-2 c = fits c (p.a ⊕ num 4 ⊗ p.b ⊕ p.c) tt
-
-pub overflow_mul-result-2 : goal.overflow_mul-result-2
-overflow_mul-result-2 c = fits c (num 4 ⊗ p.b) tt
-
-pub overflow_mul-result-3 : goal.overflow_mul-result-3
-overflow_mul-result-3 c = fits c (num 2 ⊗ p.c) tt
-
-pub overflow_add-result-3 : goal.overflow_add-result-3
-overflow_add-result-3 c = fits c (num 4 ⊗ p.b ⊕ num 2 ⊗ p.c) tt
-
-pub overflow_mul-result-4 : goal.overflow_mul-result-4
-overflow_mul-result-4 c = fits c (num 2 ⊗ p.b) tt
-
-pub overflow_mul-result-5 : goal.overflow_mul-result-5
-overflow_mul-result-5 c = fits c (num 4 ⊗ p.c) tt
-
-pub overflow_add-result-4 : goal.overflow_add-result-4
-overflow_add-result-4 c = fits c (num 2 ⊗ p.b ⊕ num 4 ⊗ p.c) tt
-
-pub overflow_mul-result-6 : goal.overflow_mul-result-6
-overflow_mul-result-6 c = fits c (num 4 ⊗ p.c) tt
-
-pub overflow_add-result-5 : goal.overflow_add-result-5
-overflow_add-result-5 c = fits c (p.b ⊕ num 4 ⊗ p.c) tt
-
-pub overflow_add-result-6 : goal.overflow_add-result-6
-overflow_add-result-6 c = fits c (p.b ⊕ num 4 ⊗ p.c ⊕ p.d) tt
 
 pub returns : goal.returns
 unfolding whole_controls
-returns c = λ k. record { a = is c (p.a ⊕ num 4 ⊗ p.b ⊕ p.c) tt k; b = is c (num 4 ⊗ p.b ⊕ num 2 ⊗ p.c) tt k; c = is c (num 2 ⊗ p.b ⊕ num 4 ⊗ p.c) tt k; d = is c (p.b ⊕ num 4 ⊗ p.c ⊕ p.d) tt k }
+returns c =
+    let is = worked limit 0 c.args.p c.requires (pos 0) (le_refl 0) in
+    λ k. record { a = is (p.a ⊕ num 4 ⊗ p.b ⊕ p.c) tt k; b = is (num 4 ⊗ p.b ⊕ num 2 ⊗ p.c) tt k; c = is (num 2 ⊗ p.b ⊕ num 4 ⊗ p.c) tt k; d = is (p.b ⊕ num 4 ⊗ p.c ⊕ p.d) tt k }
