@@ -39,7 +39,7 @@ impl From<Uncut> for Refusal {
 }
 
 // A piece of a span: how many cuts made it, and its controls on both axes, scaled by eight with each cut.
-#[derive(Clone, Copy)]
+#[derive(Clone, Copy, Debug, PartialEq, Eq)]
 pub struct Piece {
     pub level: usize,
     pub x: Four,

@@ -23,7 +23,7 @@ pub struct Shape {
 }
 
 // A shape that was found sound: its basis, its depth and its spans.
-#[derive(Clone, Copy)]
+#[derive(Clone, Copy, Debug, PartialEq, Eq)]
 pub struct Plan {
     pub basis: Basis,
     pub depth: usize,

@@ -21,40 +21,41 @@ use Rattle.spans.proofs.Drawables.{drawable}
 use Rattle.outline.specs.Outline.{points}
 use Rattle.outline.proofs.Draws.{all-numbers, plan-bad, plan-drawn}
 use Rattle.outline.proofs.draw_plan.Goals as goal
+use Rattle.outline.proofs.draw_plan.Given.{Over}
 use Rattle.outline.proofs.draw_plan.Goals.{After-check_lists, In_ok-check_lists}
 
 pub check_lists-requires : goal.check_lists-requires
-check_lists-requires c =
+check_lists-requires g c =
     let p = c.args.plan in
     (omega (arith, c.requires.records-most), subst (λ (n : ℕ). n ≤ most_points) (sym c.points-count.ensures) (points-at-most p.depth p.spans c.requires.depth-most (omega (arith, c.requires.spans-most, c.requires.records-most))))
 
 -- what the list checks found, for the outline's own number of points
-listed : (c : After-check_lists) → c.check_lists.result
+listed : (g : Over) (c : After-check_lists g) → c.check_lists.result
     ≡ judge_lists c.args.shape.count c.args.controls.now (points c.args.plan) (length c.args.points.now)
-listed c =
+listed g c =
     let a = c.args in
     c.check_lists.ensures ∙ ap (λ (n : ℕ). judge_lists a.shape.count a.controls.now n (length a.points.now)) c.points-count.ensures
 
 pub returns-in_err-check_lists : goal.returns-in_err-check_lists
-returns-in_err-check_lists c =
+returns-in_err-check_lists g c =
     let a = c.args in
     let r = c.in_err-check_lists.field-0.0 in
     let out : c.from_residual.result ≡ Err r = search rules in
-    ap (λ x. outcome x a.points.now) out ∙ sym (plan-bad a.shape.count a.plan a.controls.now a.points.now r (sym (listed c.before.before.before) ∙ c.in_err-check_lists.was))
+    ap (λ x. outcome x a.points.now) out ∙ sym (plan-bad a.shape.count a.plan a.controls.now a.points.now r (sym (listed g c.before.before.before) ∙ c.in_err-check_lists.was))
 
 -- the lists are fine
-module _ (c : In_ok-check_lists) where
+module _ (g : Over) (c : In_ok-check_lists g) where
   abbrev plan : Plan
   plan = c.args.plan
 
   is-fine : judge_lists c.args.shape.count c.args.controls.now (points plan) (length c.args.points.now) ≡ Ok tt
-  is-fine = sym (listed c.before.before) ∙ c.in_ok-check_lists.was
+  is-fine = sym (listed g c.before.before) ∙ c.in_ok-check_lists.was
 
   lent : Lent c.args.shape.count c.args.controls.now (points plan) (length c.args.points.now)
   lent = fine-facts c.args.shape.count c.args.controls.now (points plan) (length c.args.points.now) is-fine
 
 pub fill_spans-exact-requires : goal.fill_spans-exact-requires
-fill_spans-exact-requires c =
+fill_spans-exact-requires g c =
     let t = c.before in
     let s = c.args in
     let p = s.plan in
@@ -62,8 +63,8 @@ fill_spans-exact-requires c =
       deep = c.requires.depth-most;
       some = omega (arith, c.requires.spans-least);
       there = le_refl p.spans;
-      drawable = drawable s.shape p c.requires s.controls.now (points p) (length s.points.now) (lent t);
-      room = omega (arith, all-numbers p.depth p.spans, (lent t).points-room);
+      drawable = drawable s.shape p c.requires s.controls.now (points p) (length s.points.now) (lent g t);
+      room = omega (arith, all-numbers p.depth p.spans, (lent g t).points-room);
     }
 
 -- the run from span 0 on is the whole outline
@@ -75,11 +76,11 @@ whole_run p controls l =
     ∙ ap (λ (n : ℕ). fills p controls 0 n l) (sym (all-numbers p.depth p.spans))
 
 pub returns : goal.returns
-returns c =
+returns g c =
     let t = c.before.before.before in
     let a = c.args in
     let p = a.plan in
     let count = c.points-count.ensures in
     let filled = c.fill_spans-exact.ensures ∙ whole_run p a.controls.now a.points.now in
     (λ i. outcome (Ok (record { points = count i; exact = (filled i).answer })) (filled i).held)
-    ∙ sym (plan-drawn a.shape.count p a.controls.now a.points.now (is-fine t))
+    ∙ sym (plan-drawn a.shape.count p a.controls.now a.points.now (is-fine g t))
