@@ -5,9 +5,6 @@ ghost use Rattle.edit.specs.Reading.{judge_ask, judge_room};
 ghost use Rattle.edit.specs.Inner.{Vetted};
 
 use asked::Edit;
-use asked::counts::{
-    count_after, greatest, is_at_the_end, is_in_range, is_new_outside, is_offered, spans_after,
-};
 use curve::Basis;
 use curve::records::recounted;
 use shape::{Checked, Judged, Plan, Refusal, Shape, check_shape, first_outside};
@@ -23,13 +20,13 @@ fn refused(number: usize, place: usize) -> Checked
 fn check_ask(edit: Edit, basis: Basis, place: usize, count: usize) -> Checked
     ensures { result ≡ judge_ask edit basis place count }
 {
-    if !is_offered(edit, basis) {
+    if !edit.is_offered(basis) {
         return refused(4, 0);
     }
-    if !is_in_range(edit, place, count) {
+    if !edit.is_in_range(place, count) {
         return refused(5, place);
     }
-    if is_at_the_end(edit, count) {
+    if edit.is_at_the_end(count) {
         return refused(6, 0);
     }
     Checked::Fine
@@ -40,14 +37,14 @@ fn check_room(edit: Edit, count: usize, controls: &[i32], most: usize, len: usiz
     requires { (1 ≤ count) × (count ≤ most_records) × (most ≤ most_points) }
     ensures { result ≡ judge_room edit count controls.now most len }
 {
-    if controls.len() < 2 * greatest(count, count_after(edit, count)) {
+    if controls.len() < 2 * count.max(edit.count_after(count)) {
         return refused(7, 0);
     }
     let outside = first_outside(controls, count);
     if outside < count {
         return refused(8, outside);
     }
-    if is_new_outside(edit) {
+    if edit.is_new_outside() {
         return refused(8, count);
     }
     if len < 2 * most {
@@ -75,13 +72,13 @@ pub(crate) fn check_edit(
         Checked::Bad(refusal) => return Judged::Unsound(refusal),
         Checked::Fine => {}
     }
-    let spans = spans_after(edit, plan.spans);
+    let spans = edit.spans_after(plan.spans);
     let next = Plan {
         basis: recounted(spans, basis),
         depth: plan.depth,
         spans,
     };
-    let most = greatest(plan.points(), next.points());
+    let most = plan.points().max(next.points());
     match check_room(edit, shape.count, controls, most, points.len()) {
         Checked::Bad(refusal) => Judged::Unsound(refusal),
         Checked::Fine => Judged::Sound(next),

@@ -99,14 +99,14 @@ points-requires-2 c κs =
     let u = c.before.before.before in
     ((good (k u)).depth-most, subst (λ (n : ℕ). n ≤ most_records) (sym c.spans_after-spans.ensures) (few u))
 
-greatest-requires : tie.Need-greatest-most-requires
-greatest-requires c κs = search rules
+max-requires : tie.Need-max-most-requires
+max-requires c κs = search rules
 
 -- the greater of the two numbers of points
-most-is : (c : tie.After-greatest-most) → c.greatest-most.result ≡ most c.before.before.before.before.before
+most-is : (c : tie.After-max-most) → c.max-most.result ≡ most c.before.before.before.before.before
 most-is c =
     let plan = p (k c.before.before.before.before.before) in
-    c.greatest-most.ensures
+    c.max-most.ensures
     ∙ ap (λ (n : ℕ). max n c.points-2.result) c.points.ensures
     ∙ ap (max (points plan)) (c.points-2.ensures ∙ ap (points_of plan.depth) c.spans_after-spans.ensures)
 
@@ -172,7 +172,7 @@ check_edit_spec =
     recounted-requires
     points-requires
     points-requires-2
-    greatest-requires
+    max-requires
     check-room-requires
     enum-known-refusal-3
     enum-told-2

@@ -20,24 +20,24 @@ use Rattle.edit.proofs.checks.check_room.Tie as tie
 count-after-requires : tie.Need-count_after-requires
 count-after-requires c κs = search rules
 
-greatest-requires : tie.Need-greatest-requires
-greatest-requires c κs = search rules
+max-requires : tie.Need-max-requires
+max-requires c κs = search rules
 
-mul-if1 : tie.Need-overflow_mul-greatest
-mul-if1 c = let s = c.before.before in omega (arith, c.greatest.ensures, c.count_after.ensures, count-near s.args.edit s.args.count)
+mul-if1 : tie.Need-overflow_mul-max
+mul-if1 c = let s = c.before.before in omega (arith, c.max.ensures, c.count_after.ensures, count-near s.args.edit s.args.count)
 
 refused-requires : tie.Need-refused-requires
 refused-requires c κs = search rules
 
 -- the greater of the two counts
-room_of : (c : tie.After-greatest) → c.greatest.result ≡ max c.args.count (count_after c.args.edit c.args.count)
-room_of c = c.greatest.ensures ∙ ap (max c.args.count) c.count_after.ensures
+room_of : (c : tie.After-max) → c.max.result ≡ max c.args.count (count_after c.args.edit c.args.count)
+room_of c = c.max.ensures ∙ ap (max c.args.count) c.count_after.ensures
 
 -- row 7 passed
-roomy : (c : tie.Else-controls-greatest) → ltb (length c.args.controls.now) (2 * max c.args.count (count_after c.args.edit c.args.count)) ≡ false
+roomy : (c : tie.Else-controls-max) → ltb (length c.args.controls.now) (2 * max c.args.count (count_after c.args.edit c.args.count)) ≡ false
 roomy c =
     let a = c.args in
-    le-ltb (length a.controls.now) (2 * max a.count (count_after a.edit a.count)) (omega (arith, room_of c.before, c.if-controls-greatest.false))
+    le-ltb (length a.controls.now) (2 * max a.count (count_after a.edit a.count)) (omega (arith, room_of c.before, c.if-controls-max.false))
 
 -- row 8 passed for the records
 all-inside : (c : tie.Else-outside-count) → ltb (first_outside c.args.controls.now c.args.count) c.args.count ≡ false
@@ -45,13 +45,13 @@ all-inside c =
     let a = c.args in
     le-ltb (first_outside a.controls.now a.count) a.count (omega (arith, c.first_outside-outside.ensures, c.if-outside-count.false))
 
-returns : tie.Need-returns-then-controls-greatest
+returns : tie.Need-returns-then-controls-max
 unfolding judge_room
 returns c =
     let g = c.before.before in
     let a = g.args in
     c.refused.ensures
-    ∙ sym (judge-first (room_rows a.edit a.count a.controls.now a.most a.len) Bad Fine _ (inl (lt-ltb (length a.controls.now) (2 * max a.count (count_after a.edit a.count)) (omega (arith, room_of g, c.if-controls-greatest.true)), refl)))
+    ∙ sym (judge-first (room_rows a.edit a.count a.controls.now a.most a.len) Bad Fine _ (inl (lt-ltb (length a.controls.now) (2 * max a.count (count_after a.edit a.count)) (omega (arith, room_of g, c.if-controls-max.true)), refl)))
 
 first-outside-requires : tie.Need-first_outside-outside-requires
 first-outside-requires c κs = search rules
@@ -114,7 +114,7 @@ check_room_spec =
     tie.close
     (tie.spec
     count-after-requires
-    greatest-requires
+    max-requires
     mul-if1
     refused-requires
     returns
