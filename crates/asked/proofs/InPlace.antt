@@ -10,10 +10,10 @@ use lib.IntN.{ℤ, pos}
 use lib.ListN.{get_or, length, set, length-set}
 use lib.Seq.{get_or-set_same, get_or-set_other}
 use Rattle.shape.proofs.Tests.{either}
-use Rattle.spans.specs.Filled.{filled}
-use Rattle.spans.proofs.Filled.{length-filled, in-filled, before-filled, past-filled, is-filled}
+use Rattle.spans.proofs.Filled.{is-filled}
 use Rattle.asked.specs.declared.Edit.TheVariants.{Move, Insert, Remove}
 use Rattle.asked.specs.Edits.{choose, control_at, asked}
+use Rattle.asked.proofs.Copied.{Copied, told-at}
 use Rattle.asked.proofs.Controls.{control-before, control-moved, control-inserted, control-beyond}
 
 -- ---- a record put in its place
@@ -67,34 +67,33 @@ module _ (j n : ℕ) (old : List ℤ) where
       (λ q g. put_other old j x y q (λ e. omega (arith, e)))
 
   pub inserted-is :
-      (x y : ℤ)
+      (x y : ℤ) (later : List ℤ)
       → j ≤ n
       → 2 * n + 2 ≤ length old
-      → put (filled (λ q. get_or old (q - 2) (pos 0)) (2 * j + 2) (2 * n + 2 - (2 * j + 2)) old) j x y
-      ≡ asked (Insert x y) j old (n + 1)
+      → length later ≡ length old
+      → Copied old later (2 * j) (2 * j + 2) (2 * n - 2 * j)
+      → put later j x y ≡ asked (Insert x y) j old (n + 1)
   unfolding asked
-  inserted-is x y h room =
-      let back : ℕ → ℤ = λ q. get_or old (q - 2) (pos 0) in
-      let from = 2 * j + 2 in
-      let size = 2 * n + 2 - from in
-      let later = filled back from size old in
-      let long = length-filled back from size old in
+  inserted-is x y later h room long (copied, before, past) =
       is-filled (control_at (Insert x y) j old) (2 * (n + 1)) old (put later j x y) (omega arith) (length-put later j x y ∙ long)
       (λ q below.
-      sides (q / 2) j (λ g. put_other later j x y q (λ e. omega (arith, e)) ∙ before-filled back from size old q (omega arith) ∙ sym (control-before j old q (Insert x y) g))
+      sides (q / 2) j (λ g. put_other later j x y q (λ e. omega (arith, e)) ∙ before q (pos 0) (omega arith) ∙ sym (control-before j old q (Insert x y) g))
       (λ g. put-here later j x y (omega (arith, long)) q g ∙ sym (control-inserted j old q x y g))
-      (λ g. put_other later j x y q (λ e. omega (arith, e)) ∙ in-filled back from size old q (omega arith) (omega arith) (omega arith) ∙ sym (control-beyond j old q (Insert x y) g)))
-      (λ q g. put_other later j x y q (λ e. omega (arith, e)) ∙ past-filled back from size old q (omega arith))
+      (λ g. put_other later j x y q (λ e. omega (arith, e)) ∙ told-at old later (2 * j) (2 * j + 2) (2 * n - 2 * j) copied q (q - 2) (omega arith) (omega arith) (omega arith) ∙ sym (control-beyond j old q (Insert x y) g)))
+      (λ q g. put_other later j x y q (λ e. omega (arith, e)) ∙ past q (pos 0) (omega arith))
 
-  pub removed-is : j < n → 2 * n ≤ length old → filled (λ q. get_or old (q + 2) (pos 0)) (2 * j) (2 * n - 2 - 2 * j) old ≡ asked Remove j old (n - 1)
+  pub removed-is :
+      (earlier : List ℤ)
+      → j < n
+      → 2 * n ≤ length old
+      → length earlier ≡ length old
+      → Copied old earlier (2 * j + 2) (2 * j) (2 * n - (2 * j + 2))
+      → earlier ≡ asked Remove j old (n - 1)
   unfolding asked
-  removed-is h room =
-      let on : ℕ → ℤ = λ q. get_or old (q + 2) (pos 0) in
-      let from = 2 * j in
-      let size = 2 * n - 2 - from in
-      is-filled (control_at Remove j old) (2 * (n - 1)) old (filled on from size old) (omega arith) (length-filled on from size old)
+  removed-is earlier h room long (copied, before, past) =
+      is-filled (control_at Remove j old) (2 * (n - 1)) old earlier (omega arith) long
       (λ q below.
-      ⊎_elim (λ (g : q / 2 < j). before-filled on from size old q (omega arith) ∙ sym (control-before j old q Remove g))
-      (λ (g : j ≤ q / 2). in-filled on from size old q (omega arith) (omega arith) (omega arith) ∙ sym (control-beyond j old q Remove g))
+      ⊎_elim (λ (g : q / 2 < j). before q (pos 0) (omega arith) ∙ sym (control-before j old q Remove g))
+      (λ (g : j ≤ q / 2). told-at old earlier (2 * j + 2) (2 * j) (2 * n - (2 * j + 2)) copied q (q + 2) (omega arith) (omega arith) (omega arith) ∙ sym (control-beyond j old q Remove g))
       (either (q / 2) j))
-      (λ q g. past-filled on from size old q (omega arith))
+      (λ q g. past q (pos 0) (omega arith))

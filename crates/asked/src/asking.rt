@@ -4,7 +4,6 @@ ghost use Rattle.asked.specs.Edits.{asked, count_after};
 ghost use Rattle.asked.specs.Inner.{Askable};
 
 use crate::Edit;
-use crate::carrying::{carry_back, carry_on};
 
 // Record `place` becomes (x, y).
 fn put_record(controls: &mut [i32], place: usize, x: i32, y: i32)
@@ -20,7 +19,7 @@ fn put_in(controls: &mut [i32], place: usize, count: usize, x: i32, y: i32)
     requires { (place ≤ count) × (2 * count + 2 ≤ length controls.old) }
     ensures { controls.new ≡ asked (Edit.Insert x y) place controls.old (count + 1) }
 {
-    carry_on(controls, 2 * place + 2, 2 * count + 2, 2);
+    controls.copy_within(2 * place..2 * count, 2 * place + 2);
     put_record(controls, place, x, y);
 }
 
@@ -29,17 +28,19 @@ fn take_out(controls: &mut [i32], place: usize, count: usize)
     requires { (place < count) × (2 * count ≤ length controls.old) }
     ensures { controls.new ≡ asked Edit.Remove place controls.old (count - 1) }
 {
-    carry_back(controls, 2 * place, 2 * count - 2, 2);
+    controls.copy_within(2 * place + 2..2 * count, 2 * place);
 }
 
-// The lent controls, of which there are `count`, become those that the edit asks for. Every number past the last of them keeps what it held.
-pub fn ask(edit: Edit, place: usize, count: usize, controls: &mut [i32])
-    requires { Askable edit place count (length controls.old) }
-    ensures { controls.new ≡ asked edit place controls.old (count_after edit count) }
-{
-    match edit {
-        Edit::Move(x, y) => put_record(controls, place, x, y),
-        Edit::Insert(x, y) => put_in(controls, place, count, x, y),
-        Edit::Remove => take_out(controls, place, count),
+impl Edit {
+    // The lent controls, of which there are `count`, become those that the edit asks for. Every number past the last of them keeps what it held.
+    pub fn ask(self, place: usize, count: usize, controls: &mut [i32])
+        requires { Askable self place count (length controls.old) }
+        ensures { controls.new ≡ asked self place controls.old (count_after self count) }
+    {
+        match self {
+            Edit::Move(x, y) => put_record(controls, place, x, y),
+            Edit::Insert(x, y) => put_in(controls, place, count, x, y),
+            Edit::Remove => take_out(controls, place, count),
+        }
     }
 }

@@ -240,7 +240,7 @@ module _ (e : Edit) (s : Shape) (p : Plan) (j : ℕ) (ok : Editable e s p j) (co
 
   none : NoRow (room_rows e n controls most len)
   unfolding judge_room
-  none = rows_none (room_rows e n controls most len) fine
+  none = rows_none (room_rows e n controls most len) tt fine
 
   room : 2 * max n (count_after e n) ≤ length controls
   room = ltb-false (length controls) (2 * max n (count_after e n)) (row-fails 7 (room_rows e n controls most len) none)
@@ -313,7 +313,7 @@ pub editable : (e : Edit) (s : Shape) (p : Plan) (j : ℕ) → Good s p → judg
 unfolding judge_ask
 editable e s p j good t =
     let rows = ask_rows e p.basis j s.count in
-    let none = rows_none rows t in
+    let none = rows_none rows tt t in
     record {
       good = good;
       offered = not-false (offered e p.basis) (row-fails 4 rows none);
@@ -346,7 +346,7 @@ module _ (e : Edit) (s : Shape) (j : ℕ) (controls lent : List ℤ) where
     -- rows 4, 5, 6
     pub ask-bad : (r : Refusal) → judge_ask e p.basis j s.count ≡ Err r → edits e s j controls lent ≡ refuses Err (controls, lent) r
     unfolding judge_ask
-    ask-bad r t = from-ask ∙ rows-bad asks r t (room_of p next) (refuses Err (controls, lent)) (accepts e s next j controls lent)
+    ask-bad r t = from-ask ∙ rows-bad asks tt r t (room_of p next) (refuses Err (controls, lent)) (accepts e s next j controls lent)
 
     module _ (fine : judge_ask e p.basis j s.count ≡ Ok tt) where
       pub may-edit : Editable e s p j
@@ -356,7 +356,7 @@ module _ (e : Edit) (s : Shape) (j : ℕ) (controls lent : List ℤ) where
       unfolding judge_ask
       from-room =
           from-ask
-          ∙ rows-fine asks fine (room_of p next) (refuses Err (controls, lent)) (accepts e s next j controls lent)
+          ∙ rows-fine asks tt fine (room_of p next) (refuses Err (controls, lent)) (accepts e s next j controls lent)
           ∙ ap (λ q. judge (room_of p q) (refuses Err (controls, lent)) (accepts e s q j controls lent)) (plan_after_lem e s p j may-edit)
 
       abbrev Found : Result (Unit {0}) Refusal → Type 0
@@ -365,11 +365,11 @@ module _ (e : Edit) (s : Shape) (j : ℕ) (controls lent : List ℤ) where
       -- rows 7, 8, 9
       pub room-bad : (r : Refusal) → Found (Err r) → edits e s j controls lent ≡ refuses Err (controls, lent) r
       unfolding judge_room
-      room-bad r t = from-room ∙ judge-first (room_of p (plan_after e p)) (refuses Err (controls, lent)) _ r (rows-first (room_of p (plan_after e p)) r t)
+      room-bad r t = from-room ∙ judge-first (room_of p (plan_after e p)) (refuses Err (controls, lent)) _ r (rows-first (room_of p (plan_after e p)) tt r t)
 
       pub room-fine : Found (Ok tt) → Vetted e s j controls lent (Ok (plan_after e p))
       unfolding judge_room
       room-fine t = (
         workable e s p j may-edit controls (length lent) t,
-        from-room ∙ judge-none (room_of p (plan_after e p)) (refuses Err (controls, lent)) _ (rows_none (room_of p (plan_after e p)) t),
+        from-room ∙ judge-none (room_of p (plan_after e p)) (refuses Err (controls, lent)) _ (rows_none (room_of p (plan_after e p)) tt t),
       )

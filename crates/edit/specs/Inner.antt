@@ -1,19 +1,23 @@
 -- For contracts inside the project alone: no public contract uses what is here.
 -- Runs of spans and carrying them by one span, and what is known once the checks of an edit have passed.
 use Rattle.std.specs.Prelude.{cond, true, false, List, ◌≡◌, ℕ, ◌+◌, ◌*◌, ◌-◌, ◌≤◌, ◌<◌, ltb, ℤ, pos, get_or, length, Err, Ok, Result}
+use Rattle.std.specs.Coded.{Unit-prop, le_prop}
+use native.Mathlib.Nat.{ℕ_set}
 use Rattle.asked.specs.declared.Edit.{Edit}
 use Rattle.asked.specs.declared.Edit.TheVariants.{Move, Insert, Remove}
 use Rattle.whole.specs.Outcome.{Outcome, outcome, refuses}
+use Rattle.curve.specs.declared.Basis.{Basis}
+use Rattle.curve.specs.declared.Basis.TheVariants.{Bezier, BSpline, Cardinal, Hermite, Loop}
 use Rattle.curve.specs.Span.{is_loop}
 use Rattle.shape.specs.declared.Shape.{Shape}
 use Rattle.shape.specs.declared.Plan.{Plan}
-use Rattle.shape.specs.Inner.{Good}
+use Rattle.shape.specs.Inner.{Good, RunsRound}
 use Rattle.shape.specs.Shape.{most_records}
 use Rattle.spans.specs.Numbers.{number, per_span}
 use Rattle.spans.specs.Filled.{filled, fills}
 use Rattle.spans.specs.Inner.{Drawable, Joint}
 use Rattle.asked.specs.declared.Run.{Run}
-use Rattle.asked.specs.Edits.{count_after, offered, in_range, at_the_end, past_fresh, asked, run_of, is_fresh, exact_fresh}
+use Rattle.asked.specs.Edits.{count_after, offered, in_range, at_the_end, past_fresh, asked, run_of, carried_from, is_fresh, exact_fresh}
 use Rattle.asked.specs.Inner.{Askable}
 use Rattle.edit.specs.Reading.{shape_after, accepts, edits}
 use Rattle.shape.specs.declared.Refusal.{Refusal}
@@ -21,6 +25,10 @@ use Rattle.shape.specs.declared.Refusal.{Refusal}
 -- A run among a plan's spans: in an open outline it ends with them, in a loop it goes round at most once.
 abbrev pub Runnable : Run → Plan → Type 0
 Runnable run p = cond (is_loop p.basis) ((run.first < p.spans) × (run.count ≤ p.spans)) (run.first + run.count ≤ p.spans)
+
+-- Room for a plan's points in a list of `len` numbers.
+abbrev pub HasRoom : Plan → ℕ → Type 0
+HasRoom p len = p.spans * per_span p.depth + 2 ≤ len
 
 -- The fresh numbers of a run worked afresh, and how many of them are exact; every other number as it was.
 unfoldable pub refreshes : Run → Plan → List ℤ → List ℤ → Outcome ℕ (List ℤ)
@@ -34,6 +42,17 @@ fills_ends p controls from to l =
     let last = fills p controls (from * w) ((p.spans - from) * w + 2) l in
     let first = fills p controls (0 * w) ((to - 0) * w + 2) last.held in
     outcome (last.answer + first.answer) first.held
+
+-- That a plan's spans can be drawn from controls is so in one way: a struct may keep it.
+runs_round-prop : (b : Basis) (m : ℕ) → IsProp (RunsRound b m)
+runs_round-prop Bezier m = Unit-prop
+runs_round-prop BSpline m = Unit-prop
+runs_round-prop (Cardinal c) m = Unit-prop
+runs_round-prop Hermite m = Unit-prop
+runs_round-prop (Loop n) m = hlevel (le_prop, ℕ_set)
+
+pub drawable-prop : (p : Plan) (controls : List ℤ) → IsProp (Drawable p controls)
+drawable-prop p controls = hlevel (le_prop, ℕ_set, runs_round-prop)
 
 -- A stretch of a loop's spans in a list of `len` numbers: some spans, or none at one of the places of the joint.
 pub record StretchOf (p : Plan) (from to len : ℕ) : Type 0 where
@@ -53,6 +72,10 @@ Carriable (Move x y) past spans w len = Unit {0}
 Carriable (Insert x y) past spans w len = (1 ≤ past) × (spans * w + 2 ≤ len)
 Carriable Remove past spans w len = spans * w + 2 + w ≤ len
 
+-- The points of it after that: each number from the first such span on is the one that it is carried from.
+abbrev pub carried : Edit → ℕ → ℕ → ℕ → List ℤ → List ℤ
+carried e past spans w l = filled (λ q. get_or l (carried_from e w q) (pos 0)) (past * w) (run_length past spans w) l
+
 -- Rows 1 to 6 passed.
 pub record Editable (e : Edit) (s : Shape) (p : Plan) (j : ℕ) : Type 0 where
   pub good : Good s p
@@ -69,7 +92,7 @@ pub record Workable (e : Edit) (s : Shape) (q : Plan) (j : ℕ) (controls : List
   pub askable : Askable e j s.count (length controls)
   pub drawable : Drawable q (asked e j controls (count_after e s.count))
   pub runnable : Runnable (run_of e q j) q
-  pub points-room : q.spans * per_span q.depth + 2 ≤ len
+  pub points-room : HasRoom q len
   pub carriable : Carriable e (past_fresh e q j) q.spans (per_span q.depth) len
 
 -- What the checks find together: the refusal that the edit comes to, or the plan of the new shape, with which it can be worked and is accepted.

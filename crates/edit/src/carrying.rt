@@ -1,29 +1,28 @@
 // Carrying points by one span.
-ghost use Rattle.std.specs.Prelude.{◌≡◌, ◌*◌, ◌≤◌, pos, get_or, length};
-ghost use Rattle.curve.specs.Ways.{deepest};
-ghost use Rattle.shape.specs.Shape.{most_records};
+ghost use Rattle.std.specs.Prelude.{◌≡◌, length};
 ghost use Rattle.spans.specs.Numbers.{per_span};
-ghost use Rattle.spans.specs.Filled.{filled};
-ghost use Rattle.edit.specs.Inner.{Carriable, run_length};
-ghost use Rattle.asked.specs.Edits.{carried_from};
+ghost use Rattle.edit.specs.Inner.{Carriable, carried};
+ghost use Rattle.asked.specs.Edits.{past_fresh};
 
 use asked::Edit;
-use asked::carrying::{carry_back, carry_on};
+use asked::afresh::Placed;
 
-// The numbers of the spans from `past` on become those of the span before (insert) or after (remove); a move carries nothing.
-pub(crate) fn carry(edit: Edit, points: &mut [i32], past: usize, spans: usize, width: usize)
-    requires spans_le_most_records { (spans ≤ most_records) × (width ≤ per_span deepest) }
-    requires carriable { Carriable edit past spans width (length points.old) }
-    ensures { points.new ≡ filled (λ q. get_or points.old (carried_from edit width q) (pos 0)) (past * width) (run_length past spans width) points.old }
+// The numbers of the spans past the fresh ones become those of the span before (insert) or after (remove); a move carries nothing.
+pub(crate) fn carry(placed: Placed, points: &mut [i32])
+    requires { Carriable placed.edit (past_fresh placed.edit placed.plan placed.place) placed.plan.spans (per_span placed.plan.depth) (length points.old) }
+    ensures { points.new ≡ carried placed.edit (past_fresh placed.edit placed.plan placed.place) placed.plan.spans (per_span placed.plan.depth) points.old }
 {
+    let past = placed.past_fresh();
+    let spans = placed.plan.spans;
     if spans <= past {
         return;
     }
+    let width = 2 * placed.plan.steps();
     let from = past * width;
     let to = spans * width + 2;
-    match edit {
-        Edit::Move(_, _) => {}
-        Edit::Insert(_, _) => carry_on(points, from, to, width),
-        Edit::Remove => carry_back(points, from, to, width),
+    match placed.edit {
+        Edit::Move(..) => {}
+        Edit::Insert(..) => points.copy_within(from - width..to - width, from),
+        Edit::Remove => points.copy_within(from + width..to + width, from),
     }
 }

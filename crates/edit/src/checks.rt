@@ -5,9 +5,6 @@ ghost use Rattle.edit.specs.Reading.{judge_ask, judge_room};
 ghost use Rattle.edit.specs.Inner.{Vetted};
 
 use asked::Edit;
-use asked::counts::{
-    count_after, greatest, is_at_the_end, is_in_range, is_new_outside, is_offered, spans_after,
-};
 use curve::Basis;
 use curve::records::recounted;
 use shape::{Plan, Reason, Refusal, Shape, check_shape, first_outside};
@@ -16,31 +13,37 @@ use shape::{Plan, Reason, Refusal, Shape, check_shape, first_outside};
 fn check_ask(edit: Edit, basis: Basis, place: usize, count: usize) -> Result<(), Refusal>
     ensures { result ≡ judge_ask edit basis place count }
 {
-    if !is_offered(edit, basis) {
+    if !edit.is_offered(basis) {
         return Err(Reason::NotOffered.into());
     }
-    if !is_in_range(edit, place, count) {
+    if !edit.is_in_range(place, count) {
         return Err(Reason::NoSuchRecord.at(place));
     }
-    if is_at_the_end(edit, count) {
+    if edit.is_at_the_end(count) {
         return Err(Reason::CountAtItsLimit.into());
     }
     Ok(())
 }
 
 // The checks of the lent lists in the paper's order, 7, 8, 8 for the new record, 9.
-fn check_room(edit: Edit, count: usize, controls: &[i32], most: usize, len: usize) -> Result<(), Refusal>
+fn check_room(
+    edit: Edit,
+    count: usize,
+    controls: &[i32],
+    most: usize,
+    len: usize,
+) -> Result<(), Refusal>
     requires { (1 ≤ count) × (count ≤ most_records) × (most ≤ most_points) }
     ensures { result ≡ judge_room edit count controls.now most len }
 {
-    if controls.len() < 2 * greatest(count, count_after(edit, count)) {
+    if controls.len() < 2 * count.max(edit.count_after(count)) {
         return Err(Reason::ShortControls.into());
     }
     let outside = first_outside(controls, count);
     if outside < count {
         return Err(Reason::OutsideLimits.at(outside));
     }
-    if is_new_outside(edit) {
+    if edit.is_new_outside() {
         return Err(Reason::OutsideLimits.at(count));
     }
     if len < 2 * most {
@@ -62,13 +65,13 @@ pub(crate) fn check_edit(
     let plan = check_shape(shape)?;
     let basis = plan.basis;
     check_ask(edit, basis, place, shape.count)?;
-    let spans = spans_after(edit, plan.spans);
+    let spans = edit.spans_after(plan.spans);
     let next = Plan {
         basis: recounted(spans, basis),
         depth: plan.depth,
         spans,
     };
-    let most = greatest(plan.points(), next.points());
+    let most = plan.points().max(next.points());
     check_room(edit, shape.count, controls, most, points.len())?;
     Ok(next)
 }

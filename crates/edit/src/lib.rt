@@ -8,14 +8,12 @@ mod working;
 
 ghost use Rattle.std.specs.Prelude.{Ok, ◌≡◌, ◌≤◌, length};
 ghost use Rattle.whole.specs.Outcome.{outcome};
-ghost use Rattle.shape.specs.Inner.{RunsRound};
 ghost use Rattle.shape.specs.Shape.{most_records};
 ghost use Rattle.edit.specs.Reading.{accepts, change, edits};
 ghost use Rattle.edit.specs.Inner.{Workable};
 
 pub use asked::Edit;
-use asked::asking::ask;
-use asked::counts::{count_after, run_of};
+use asked::afresh::Placed;
 use checks::check_edit;
 use shape::{Plan, Refusal, Shape};
 use working::work;
@@ -59,7 +57,12 @@ pub fn insert_record(
 }
 
 // Record `place` is taken out, for bases 2, 3 and 5. The spans after the fresh ones are carried back by one span.
-pub fn remove_record(shape: Shape, place: usize, controls: &mut [i32], points: &mut [i32]) -> Result<Change, Refusal>
+pub fn remove_record(
+    shape: Shape,
+    place: usize,
+    controls: &mut [i32],
+    points: &mut [i32],
+) -> Result<Change, Refusal>
     ensures { outcome result (controls.new, points.new) ≡ edits Edit.Remove shape place controls.old points.old }
 {
     edit_shape(Edit::Remove, shape, place, controls, points)
@@ -91,24 +94,22 @@ fn edit_lists(
     requires { Workable edit shape plan place controls.old (length points.old) }
     ensures { outcome (Ok result) (controls.new, points.new) ≡ accepts edit shape plan place controls.old points.old }
 {
-    ask(edit, place, shape.count, controls);
-    let exact = work(edit, plan, place, controls, points);
-    change_of(edit, shape, plan, place, exact)
+    edit.ask(place, shape.count, controls);
+    let placed = Placed { edit, place, plan };
+    let exact = work(placed, controls, points);
+    change_of(placed, shape, exact)
 }
 
-// The answer of an accepted edit: `plan` is that of the new shape, and `exact` what working it counted.
-fn change_of(edit: Edit, shape: Shape, plan: Plan, place: usize, exact: usize) -> Change
-    requires le_count { (1 ≤ shape.count) × (shape.count ≤ most_records) }
-    requires place_le_most_records { (place ≤ most_records) × (plan.spans ≤ most_records) × RunsRound plan.basis plan.spans }
-    ensures { result ≡ change edit shape plan place exact }
+// The answer of an accepted edit, of which working it counted `exact` numbers.
+fn change_of(placed: Placed, shape: Shape, exact: usize) -> Change
+    requires { (1 ≤ shape.count) × (shape.count ≤ most_records) }
+    ensures { result ≡ change placed.edit shape placed.plan placed.place exact }
 {
-    let run = run_of(edit, plan, place);
+    let run = placed.run();
     Change {
         shape: Shape {
-            basis: shape.basis,
-            depth: shape.depth,
-            count: count_after(edit, shape.count),
-            parameter: shape.parameter,
+            count: placed.edit.count_after(shape.count),
+            ..shape
         },
         first: run.first,
         fresh: run.count,

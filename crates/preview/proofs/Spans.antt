@@ -49,7 +49,7 @@ pub length-span : (controls : List ℤ) (k s : ℕ) → length (span_pieces cont
 unfolding span_pieces
 length-span controls k s =
     let r = first_record Bezier s in
-    length-pieces k (control controls r) (control controls (r + 1)) (control controls (r + 2)) (control controls (r + 3))
+    length-pieces k (record { a = control controls r; b = control controls (r + 1); c = control controls (r + 2); d = control controls (r + 3) })
 
 module _ (controls : List ℤ) (k : ℕ) (l : List Float) (at s n : ℕ) where
   pub span-step : s < n → sets (sets l at (span_pieces controls k s)) (at + 2 * 2 ^ k) (halved controls k (s + 1) (n - (s + 1))) ≡ sets l at (halved controls k s (n - s))

@@ -3,7 +3,7 @@
 use mathlib.Core.Path.{◌≡◌, refl, sym, ap, ◌∙◌, subst}
 use mathlib.Core.Bool.{Bool, true, false, cond}
 use mathlib.Core.List.{[], ◌∷◌, ◌++◌}
-use Prim.Native.Nat.{ℕ, zero, suc, ◌+◌, ◌*◌, ◌/◌, ◌%◌, ◌^◌, ◌≤◌, ◌<◌}
+use Prim.Native.Nat.{ℕ, zero, suc, ◌+◌, ◌*◌, ◌/◌, ◌%◌, ◌^◌, ◌≤◌}
 use native.Mathlib.Nat.{pow-suc, mul_assoc, le-mul_of_pos_right, one-le-pow}
 use native.Mathlib.Omega.{arith}
 use lib.Dec.{eqb, lit<}
@@ -102,7 +102,7 @@ cut-size n l h = omega (arith, le-mul_of_pos_right (n * 8) (one-le-pow l 8 (lit<
 -- ---- all cuts
 
 pub pieces_exact : (l e n : ℕ) (x y : Four) → Inside n x → Inside n y → n * 8 ^ l ≤ 2 ^ 53 → e + 3 * l ≤ 1074
-    → pieces l (exactly e x.a y.a) (exactly e x.b y.b) (exactly e x.c y.c) (exactly e x.d y.d) ≡ tab (rule l e x y) 0 (2 * 2 ^ l)
+    → pieces l (record { a = exactly e x.a y.a; b = exactly e x.b y.b; c = exactly e x.c y.c; d = exactly e x.d y.d }) ≡ tab (rule l e x y) 0 (2 * 2 ^ l)
 unfolding pieces mid_pair
 pieces_exact zero e n x y hx hy small deep = uncut-rule e x y
 pieces_exact (suc l) e n x y hx hy small deep =
@@ -110,15 +110,19 @@ pieces_exact (suc l) e n x y hx hy small deep =
     let t : e + 2 ≤ 1074 = omega arith in
     (λ k.
     pieces l
-    (record { x = left-a e n x hx c t k; y = left-a e n y hy c t k })
-    (record { x = left-b e n x hx c t k; y = left-b e n y hy c t k })
-    (record { x = left-c e n x hx c t k; y = left-c e n y hy c t k })
-    (record { x = left-d e n x hx c t k; y = left-d e n y hy c t k })
+    (record {
+      a = record { x = left-a e n x hx c t k; y = left-a e n y hy c t k };
+      b = record { x = left-b e n x hx c t k; y = left-b e n y hy c t k };
+      c = record { x = left-c e n x hx c t k; y = left-c e n y hy c t k };
+      d = record { x = left-d e n x hx c t k; y = left-d e n y hy c t k };
+    })
     ++ pieces l
-    (record { x = right-a e n x hx c t k; y = right-a e n y hy c t k })
-    (record { x = right-b e n x hx c t k; y = right-b e n y hy c t k })
-    (record { x = right-c e n x hx c t k; y = right-c e n y hy c t k })
-    (record { x = right-d e n x hx c t k; y = right-d e n y hy c t k }))
+    (record {
+      a = record { x = right-a e n x hx c t k; y = right-a e n y hy c t k };
+      b = record { x = right-b e n x hx c t k; y = right-b e n y hy c t k };
+      c = record { x = right-c e n x hx c t k; y = right-c e n y hy c t k };
+      d = record { x = right-d e n x hx c t k; y = right-d e n y hy c t k };
+    }))
     ∙ (λ k.
     pieces_exact l (e + 3) (n * 8) (left_half x) (left_half y) (eightfold n (n * 8) x (omega arith) hx).0 (eightfold n (n * 8) y (omega arith) hy).0 (next-size n l small) (omega arith) k
     ++ pieces_exact l (e + 3) (n * 8) (right_half x) (right_half y) (eightfold n (n * 8) x (omega arith) hx).1 (eightfold n (n * 8) y (omega arith) hy).1 (next-size n l small) (omega arith) k)

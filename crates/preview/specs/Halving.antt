@@ -6,22 +6,31 @@ use Rattle.curve.specs.Span.{coordinate, first_record}
 use Rattle.doubles.specs.Exact.{dyadic}
 use Rattle.doubles.specs.Midpoint.{mid_pair}
 use Rattle.doubles.specs.declared.Pair.{Pair}
+use Rattle.preview.specs.declared.Piece.{Piece}
 
 -- A point's two numbers.
 abbrev pub two : Pair → List Float
 two p = p.x ∷ p.y ∷ []
 
--- The first points of the 2^left pieces of four controls, left to right.
-unfoldable pub pieces : ℕ → Pair → Pair → Pair → Pair → List Float
-pieces zero a b c d = two a
-pieces (suc left) a b c d =
-    let m = mid_pair a b in
-    let n = mid_pair b c in
-    let o = mid_pair c d in
+-- A piece's halves, cut at its middle by midpoints: its controls are halved to m, n and o, these to u and v, and these to w.
+abbrev pub left_half : Piece → Piece
+left_half p =
+    let m = mid_pair p.a p.b in
+    let n = mid_pair p.b p.c in
     let u = mid_pair m n in
+    record { a = p.a; b = m; c = u; d = mid_pair u (mid_pair n (mid_pair p.c p.d)) }
+
+abbrev pub right_half : Piece → Piece
+right_half p =
+    let n = mid_pair p.b p.c in
+    let o = mid_pair p.c p.d in
     let v = mid_pair n o in
-    let w = mid_pair u v in
-    pieces left a m u w ++ pieces left w v o d
+    record { a = mid_pair (mid_pair (mid_pair p.a p.b) n) v; b = v; c = o; d = p.d }
+
+-- The first points of the 2^left pieces of a piece, left to right.
+unfoldable pub pieces : ℕ → Piece → List Float
+pieces zero p = two p.a
+pieces (suc left) p = pieces left (left_half p) ++ pieces left (right_half p)
 
 -- Record r of the controls, as a point.
 unfoldable pub control : List ℤ → ℕ → Pair
@@ -31,7 +40,7 @@ control controls r = record { x = dyadic (coordinate controls 0 r) 0; y = dyadic
 unfoldable pub span_pieces : List ℤ → ℕ → ℕ → List Float
 span_pieces controls k s =
     let r = first_record Bezier s in
-    pieces k (control controls r) (control controls (r + 1)) (control controls (r + 2)) (control controls (r + 3))
+    pieces k (record { a = control controls r; b = control controls (r + 1); c = control controls (r + 2); d = control controls (r + 3) })
 
 -- The points of n spans from span s on, and then the end of the last, where a next one would start.
 unfoldable pub halved : List ℤ → ℕ → ℕ → ℕ → List Float

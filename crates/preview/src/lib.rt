@@ -9,7 +9,7 @@ ghost use Rattle.curve.specs.Ways.{deepest};
 ghost use Rattle.shape.specs.Refusals.{judge};
 ghost use Rattle.shape.specs.Shape.{most_records, points_of};
 ghost use Rattle.shape.specs.Inner.{Good};
-ghost use Rattle.preview.specs.Halving.{control, pieces, span_pieces, halved};
+ghost use Rattle.preview.specs.Halving.{control, halved, left_half, pieces, right_half, span_pieces};
 ghost use Rattle.preview.specs.Preview.{later_rows, accepts, previewing};
 
 use curve::Basis;
@@ -40,24 +40,55 @@ fn put_point(points: &mut [f64], at: usize, p: Pair)
     points[at + 1] = p.y;
 }
 
-// The first points of the 2^left pieces of four controls, from number `at` on: cut at the middle by midpoints until no cut is left.
-fn fill_pieces(points: &mut [f64], at: usize, left: usize, a: Pair, b: Pair, c: Pair, d: Pair)
+// A piece of a span: its four controls.
+#[derive(Clone, Copy)]
+struct Piece {
+    a: Pair,
+    b: Pair,
+    c: Pair,
+    d: Pair,
+}
+
+impl Piece {
+    // The left half and the right one: the piece cut at its middle by midpoints.
+    fn halves(self) -> (Piece, Piece)
+        ensures { result ≡ (left_half self, right_half self) }
+    {
+        let m = midpoint_pair(self.a, self.b);
+        let n = midpoint_pair(self.b, self.c);
+        let o = midpoint_pair(self.c, self.d);
+        let u = midpoint_pair(m, n);
+        let v = midpoint_pair(n, o);
+        let w = midpoint_pair(u, v);
+        let left = Piece {
+            a: self.a,
+            b: m,
+            c: u,
+            d: w,
+        };
+        let right = Piece {
+            a: w,
+            b: v,
+            c: o,
+            d: self.d,
+        };
+        (left, right)
+    }
+}
+
+// The first points of the 2^left pieces of a piece, from number `at` on: it is cut until no cut is left.
+fn fill_pieces(points: &mut [f64], at: usize, left: usize, piece: Piece)
     requires { (left ≤ deepest) × (at + 2 * 2 ^ left ≤ length points.old) }
-    ensures { points.new ≡ sets points.old at (pieces left a b c d) }
+    ensures { points.new ≡ sets points.old at (pieces left piece) }
 {
     if left == 0 {
-        put_point(points, at, a);
+        put_point(points, at, piece.a);
         return;
     }
-    let m = midpoint_pair(a, b);
-    let n = midpoint_pair(b, c);
-    let o = midpoint_pair(c, d);
-    let u = midpoint_pair(m, n);
-    let v = midpoint_pair(n, o);
-    let w = midpoint_pair(u, v);
+    let (first, second) = piece.halves();
     let half: usize = 1 << left;
-    fill_pieces(points, at, left - 1, a, m, u, w);
-    fill_pieces(points, at + half, left - 1, w, v, o, d);
+    fill_pieces(points, at, left - 1, first);
+    fill_pieces(points, at + half, left - 1, second);
 }
 
 // The points of a span but its end, from number `at` on.
@@ -67,11 +98,13 @@ fn fill_span(controls: &[i32], span: usize, depth: usize, points: &mut [f64], at
     ensures { points.new ≡ sets points.old at (span_pieces controls.now depth span) }
 {
     let first = first_record(Basis::Bezier, span);
-    let a = control_point(controls, first);
-    let b = control_point(controls, first + 1);
-    let c = control_point(controls, first + 2);
-    let d = control_point(controls, first + 3);
-    fill_pieces(points, at, depth, a, b, c, d);
+    let piece = Piece {
+        a: control_point(controls, first),
+        b: control_point(controls, first + 1),
+        c: control_point(controls, first + 2),
+        d: control_point(controls, first + 3),
+    };
+    fill_pieces(points, at, depth, piece);
 }
 
 // All points of a plan's spans: span by span, and the end of the last, where a next one would start.
@@ -81,15 +114,11 @@ fn fill_spans(controls: &[i32], spans: usize, depth: usize, points: &mut [f64])
     ensures { points.new ≡ sets points.old 0 (halved controls.now depth 0 spans) }
 {
     let width: usize = 2 << depth;
-    let mut s = 0;
-    let mut at = 0;
-    while s < spans {
-        fill_span(controls, s, depth, points, at);
-        s += 1;
-        at += width;
+    for s in 0..spans {
+        fill_span(controls, s, depth, points, s * width);
     }
-    let end = first_record(Basis::Bezier, spans);
-    put_point(points, at, control_point(controls, end));
+    let end = control_point(controls, first_record(Basis::Bezier, spans));
+    put_point(points, spans * width, end);
 }
 
 // Rows 4, 7, 8, 9 for a shape that was found sound, and then the points.
