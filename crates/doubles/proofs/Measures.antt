@@ -1,11 +1,10 @@
 -- What a measure turns on. A rounded value is a coordinate exactly when it is within limits, and a finite double is measured by its value alone, however it is written.
 use Rattle.std.specs.Prelude.{Err, Ok}
-use mathlib.Core.Path.{◌≡◌, refl, sym, ap, ◌∙◌, subst}
+use mathlib.Core.Path.{◌≡◌, refl, sym, ap, ◌∙◌}
 use mathlib.Core.Bool.{Bool, true, false, not, cond}
 use mathlib.Core.Logic.{◌⊎◌, inl, inr, ⊎_elim, ◌↔◌}
 use mathlib.Core.List.{[], ◌∷◌}
 use Prim.Native.Nat.{ℕ, ◌*◌, ◌≤◌, ◌<◌}
-use native.Mathlib.Omega.{arith}
 use borrow.Author.Tests.{le-leb, lt-leb, leb-true, leb-false}
 use lib.Dec.{T, leb}
 use lib.IntN.{ℤ, pos, nat_abs, ◌*ℤ◌}
@@ -52,30 +51,14 @@ within-cases n = go (leb (nat_abs n) limit) refl
     go false e = let h = leb-false (nat_abs n) limit e in inr (h, outside n h)
 
 -- no two kinds of answer are the same
-coordinate≢outside : {n : ℤ} → Ok n ≡ Err Outside → ⊥
-coordinate≢outside e = let z : ◌≡◌ {A = ℕ} 0 1 = cc in omega arith
-
-coordinate≢not-finite : {n : ℤ} → Ok n ≡ Err NotFinite → ⊥
-coordinate≢not-finite e = let z : ◌≡◌ {A = ℕ} 0 1 = cc in omega arith
-
-outside≢not-finite : (Err Outside) ≡ Err NotFinite → ⊥
-outside≢not-finite e = let z : ◌≡◌ {A = ℕ} 0 1 = cc in omega arith
-
-one-coordinate : {m n : ℤ} → Ok m ≡ Ok n → m ≡ n
-one-coordinate e = cc
-
 within-finite : (n : ℤ) → within n ≡ Err NotFinite → ⊥
-within-finite n e = ⊎_elim (λ w. coordinate≢not-finite (sym w.1 ∙ e)) (λ w. outside≢not-finite (sym w.1 ∙ e)) (within-cases n)
+within-finite n e = ⊎_elim (λ w. cc) (λ w. cc) (within-cases n)
 
 within-outside : (n : ℤ) → within n ≡ Err Outside → limit < nat_abs n
-within-outside n e = ⊎_elim (λ w. absurd (coordinate≢outside (sym w.1 ∙ e))) (λ w. w.0) (within-cases n)
+within-outside n e = ⊎_elim (λ w. absurd (cc)) (λ w. w.0) (within-cases n)
 
 within-inside : (n k : ℤ) → within n ≡ Ok k → (n ≡ k) × (nat_abs k ≤ limit)
-within-inside n k e =
-    ⊎_elim (λ w. same (one-coordinate (sym w.1 ∙ e)) w.0) (λ w. absurd (coordinate≢outside (sym e ∙ w.1))) (within-cases n)
-  where
-    same : n ≡ k → nat_abs n ≤ limit → (n ≡ k) × (nat_abs k ≤ limit)
-    same p h = (p, subst (λ x. nat_abs x ≤ limit) p h)
+within-inside n k e = ⊎_elim (λ w. let p : n ≡ k = cc in (p, rw (← p) w.0)) (λ w. absurd (cc)) (within-cases n)
 
 -- row 10: NaN and the infinities
 pub not-finite-exactly : (x : Float) → (measure x ≡ Err NotFinite) ↔ T (not (finite x))

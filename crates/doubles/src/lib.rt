@@ -33,10 +33,10 @@ const FARTHEST: u64 = LIMIT as u64;
 const THOUSAND: u64 = 1000;
 
 // A double's bit pattern, by IEEE 754, is its sign, the exponent's field and the digits below the leading one. This is the sign's weight.
-const SIGN: u64 = 9223372036854775808;
+const SIGN: u64 = 1 << 63;
 
-// The weight of the exponent's field, and of the leading digit: 2^52.
-const LEADING: u64 = 4503599627370496;
+// The weight of the exponent's field, and of the leading digit.
+const LEADING: u64 = 1 << 52;
 
 // An exponent's field of all ones: an infinity or a NaN. Any other field x above 0 stands for (2^52 + digits) / 2^(1075 - x), which is 2^(x - 1023) or more.
 const ONES: u64 = 2047;
@@ -49,9 +49,6 @@ const LARGE: u64 = 1034;
 
 // 1075, less the two places of a quarter.
 const QUARTERS: u64 = 1073;
-
-// Quarters in a whole.
-const FOUR: u32 = 4;
 
 // A coordinate as a double: nothing is lost, and zero is +0.
 pub fn double_of(z: i32) -> f64
@@ -85,11 +82,7 @@ fn coordinate(negative: bool, size: u64) -> Result<i32, Unmeasured>
         return Err(Unmeasured::Outside);
     }
     let n = size as i32;
-    if negative {
-        Ok(-n)
-    } else {
-        Ok(n)
-    }
+    Ok(if negative { -n } else { n })
 }
 
 // The millimetres digits / (4 · 2^bits), negative where it is said, as micrometres.
@@ -97,7 +90,7 @@ fn scaled(negative: bool, digits: u64, bits: u32) -> Result<i32, Unmeasured>
     requires { (digits < 2 ^ 53) × (bits < 64) }
     ensures { result ≡ within (nearest (signed negative (digits * thousand)) (4 * 2 ^ bits)) }
 {
-    coordinate(negative, half_up(digits * THOUSAND, FOUR, bits))
+    coordinate(negative, half_up(digits * THOUSAND, 4, bits))
 }
 
 // What the double of a bit pattern means, by its fields alone.
@@ -118,13 +111,13 @@ fn of_pattern(bits: u64) -> Result<i32, Unmeasured>
     scaled(SIGN <= bits, LEADING + digits, (QUARTERS - field) as u32)
 }
 
-// What a drawing number means, for every double: a NaN is the one that differs from itself, and any other has a bit pattern.
+// What a drawing number means, for every double. A NaN has no bit pattern of its own, and any other double has one.
 pub fn micrometres(mm: f64) -> Result<i32, Unmeasured>
     ensures { result ≡ measure mm }
 {
-    if mm != mm {
+    if mm.is_nan() {
         Err(Unmeasured::NotFinite)
     } else {
-        of_pattern(f64::to_bits(mm))
+        of_pattern(mm.to_bits())
     }
 }
