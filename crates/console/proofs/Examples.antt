@@ -1,15 +1,15 @@
 -- Arguments that a person may give, computed.
 use mathlib.Core.List.{[], ◌∷◌}
 use mathlib.Core.Path.{◌≡◌, refl}
-use Rattle.console.specs.declared.argument.Number.TheVariants.{Is, None}
+use Rattle.std.specs.Prelude.{Some, None}
 use Rattle.console.specs.Argument.{all_digits, number_of}
 
 -- `10000` and `007`
-pub a-number : number_of (49 ∷ 48 ∷ 48 ∷ 48 ∷ 48 ∷ []) ≡ Is 10000
+pub a-number : number_of (49 ∷ 48 ∷ 48 ∷ 48 ∷ 48 ∷ []) ≡ Some 10000
 unfolding number_of all_digits
 a-number = refl
 
-pub spare-zeros : number_of (48 ∷ 48 ∷ 55 ∷ []) ≡ Is 7
+pub spare-zeros : number_of (48 ∷ 48 ∷ 55 ∷ []) ≡ Some 7
 unfolding number_of all_digits
 spare-zeros = refl
 
@@ -27,10 +27,10 @@ unfolding number_of all_digits
 a-space = refl
 
 -- `18446744073709551615`, the greatest, and one more
-pub the-greatest : number_of (49 ∷ 56 ∷ 52 ∷ 52 ∷ 54 ∷ 55 ∷ 52 ∷ 52 ∷ 48 ∷ 55 ∷ 51 ∷ 55 ∷ 48 ∷ 57 ∷ 53 ∷ 53 ∷ 49 ∷ 54 ∷ 49 ∷ 53 ∷ []) ≡ Is 18446744073709551615
+pub the-greatest : number_of (49 ∷ 56 ∷ 52 ∷ 52 ∷ 54 ∷ 55 ∷ 52 ∷ 52 ∷ 48 ∷ 55 ∷ 51 ∷ 55 ∷ 48 ∷ 57 ∷ 53 ∷ 53 ∷ 49 ∷ 54 ∷ 49 ∷ 53 ∷ []) ≡ Some 18446744073709551615
 unfolding number_of all_digits
 the-greatest = refl
 
-pub one_more : number_of (49 ∷ 56 ∷ 52 ∷ 52 ∷ 54 ∷ 55 ∷ 52 ∷ 52 ∷ 48 ∷ 55 ∷ 51 ∷ 55 ∷ 48 ∷ 57 ∷ 53 ∷ 53 ∷ 49 ∷ 54 ∷ 49 ∷ 54 ∷ []) ≡ Is 18446744073709551615
+pub one_more : number_of (49 ∷ 56 ∷ 52 ∷ 52 ∷ 54 ∷ 55 ∷ 52 ∷ 52 ∷ 48 ∷ 55 ∷ 51 ∷ 55 ∷ 48 ∷ 57 ∷ 53 ∷ 53 ∷ 49 ∷ 54 ∷ 49 ∷ 54 ∷ []) ≡ Some 18446744073709551615
 unfolding number_of all_digits
 one_more = refl

@@ -1,2 +1,2 @@
-pub mod Arguments
+pub mod Digits
 pub mod Examples

@@ -1,8 +1,6 @@
 -- What a program's argument is where a natural number is asked for: digits alone, one or more, and what they mean. Definitions only.
-use Rattle.std.specs.Prelude.{Bool, true, cond, ◌&&◌, List, [], ◌∷◌, ℕ, ◌-◌, ◌^◌, min, leb, eqb, length}
+use Rattle.std.specs.Prelude.{Bool, true, cond, ◌&&◌, List, [], ◌∷◌, ℕ, ◌-◌, ◌^◌, min, leb, eqb, length, Option, Some, None}
 use Rattle.listing.specs.Decimal.{worth_after}
-use Rattle.console.specs.declared.argument.Number.{Number}
-use Rattle.console.specs.declared.argument.Number.TheVariants.{Is, None}
 
 -- `0` is 48, `9` is 57
 abbrev pub is_digit : ℕ → Bool
@@ -16,5 +14,5 @@ all_digits (c ∷ cs) = is_digit c && all_digits cs
 abbrev pub held : ℕ → ℕ
 held n = min n (2 ^ 64 - 1)
 
-unfoldable pub number_of : List ℕ → Number
-number_of text = cond (eqb (length text) 0) None (cond (all_digits text) (Is (held (worth_after 0 text))) None)
+unfoldable pub number_of : List ℕ → Option ℕ
+number_of text = cond (eqb (length text) 0) None (cond (all_digits text) (Some (held (worth_after 0 text))) None)

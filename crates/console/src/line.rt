@@ -1,71 +1,66 @@
 // The numbers of a list in a lent text, with spaces.
-ghost use Rattle.std.specs.Prelude.{◌≤◌};
 
-use crate::number::{add_natural, add_number, add_spaced_natural, add_spaced_number};
+use crate::number::{add_number, add_spaced_number};
+use itoa::Integer;
 
-// Naturals, a space before each.
-pub fn add_naturals(text: &mut [u8], at: usize, numbers: &[usize]) -> usize {
+// The bit pattern that stands for every NaN: the quiet one's.
+const QUIET_NAN: u64 = 0x7ff8_0000_0000_0000;
+
+// The number that each item has, a space before each.
+fn add_each<T: Copy, I: Integer, F: Fn(T) -> I>(
+    text: &mut [u8],
+    at: usize,
+    items: &[T],
+    number: F,
+) -> usize
+    requires { F.IsAlwaysCallable number }
+{
     let mut end = at;
-    let mut i = 0;
-    while i < numbers.len() {
-        end = add_spaced_natural(text, end, numbers[i] as u64);
-        i += 1;
+    for item in items {
+        end = add_spaced_number(text, end, number(*item));
     }
     end
 }
 
-// Whole numbers with a space between them.
-pub fn add_numbers(text: &mut [u8], at: usize, numbers: &[i32]) -> usize {
-    if numbers.len() == 0 {
+// The number that each item has, with a space between them.
+fn add_between<T: Copy, I: Integer, F: Fn(T) -> I>(
+    text: &mut [u8],
+    at: usize,
+    items: &[T],
+    number: F,
+) -> usize
+    requires { F.IsAlwaysCallable number }
+{
+    let Some((first, others)) = items.split_first() else {
         return at;
-    }
-    let mut end = add_number(text, at, numbers[0]);
-    let mut i = 1;
-    while i < numbers.len() {
-        end = add_spaced_number(text, end, numbers[i]);
-        i += 1;
-    }
-    end
+    };
+    let end = add_number(text, at, number(*first));
+    add_each(text, end, others, number)
+}
+
+// Whole numbers, a space before each.
+pub fn add_spaced_numbers<I: Integer>(text: &mut [u8], at: usize, numbers: &[I]) -> usize {
+    add_each(text, at, numbers, |n| n)
+}
+
+// Whole numbers with a space between them.
+pub fn add_numbers<I: Integer>(text: &mut [u8], at: usize, numbers: &[I]) -> usize {
+    add_between(text, at, numbers, |n| n)
 }
 
 // The bit patterns of doubles with a space between them; of every NaN the quiet one's.
 pub fn add_patterns(text: &mut [u8], at: usize, doubles: &[f64]) -> usize {
-    if doubles.len() == 0 {
-        return at;
-    }
-    let mut end = add_natural(text, at, pattern_of(doubles[0]));
-    let mut i = 1;
-    while i < doubles.len() {
-        end = add_spaced_natural(text, end, pattern_of(doubles[i]));
-        i += 1;
-    }
-    end
+    add_between(text, at, doubles, pattern_of)
 }
 
 // The x of the first `count` pairs that a list holds, a space before each.
 pub fn add_x(text: &mut [u8], at: usize, pairs: &[i32], count: usize) -> usize {
-    let most = least(count, pairs.len() / 2);
-    let mut end = at;
-    let mut i = 0;
-    while i < most {
-        end = add_spaced_number(text, end, pairs[2 * i]);
-        i += 1;
-    }
-    end
-}
-
-// The lesser of two counts.
-fn least(a: usize, b: usize) -> usize
-    ensures { result ≤ b }
-{
-    if a < b { a } else { b }
+    let (pairs, _) = pairs.as_chunks::<2>();
+    let most = count.min(pairs.len());
+    add_each(text, at, &pairs[..most], |[x, _]| x)
 }
 
 // A double's bit pattern.
 fn pattern_of(x: f64) -> u64 {
-    if x != x {
-        9221120237041090560
-    } else {
-        f64::to_bits(x)
-    }
+    if x.is_nan() { QUIET_NAN } else { x.to_bits() }
 }

@@ -1,30 +1,21 @@
 // Standard output, and the line on standard error that says how a run ended.
 
-// Writes all of a text, and answers whether that was done.
-pub fn write_output(rt: &(impl Print + Eprint), text: &[u8]) -> bool {
-    match rt.write_all(text) {
-        Ok(()) => true,
-        Err(error) => {
-            let _ = eprintln!(rt; "writing: {error}");
-            false
-        }
-    }
+use std::io;
+
+// A refusal's line begins with this word, a listing with a number.
+const REFUSED: &[u8] = b"refused";
+
+// Writes all of a text. A failure is said, and handed on.
+pub fn write_output(rt: &(impl Print + Eprint), text: &[u8]) -> io::Result<()> {
+    rt.write_all(text).inspect_err(|error| {
+        let _ = eprintln!(rt; "writing: {error}");
+    })
 }
 
 // Writes a listing, and tells a refusal as well.
 pub fn write_listing(rt: &(impl Print + Eprint), text: &[u8]) {
-    let is_written = write_output(rt, text);
-    if is_written && is_refusal(text) {
+    if write_output(rt, text).is_ok() && text.starts_with(REFUSED) {
         tell(rt, text);
-    }
-}
-
-// A refusal's line begins with its word, a listing with a number.
-fn is_refusal(text: &[u8]) -> bool {
-    if text.len() == 0 {
-        false
-    } else {
-        text[0] == b'r'
     }
 }
 

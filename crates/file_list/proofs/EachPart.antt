@@ -24,7 +24,7 @@ use Rattle.shape.proofs.Refusals.{judge-first, row-fails, verdict}
 use Rattle.outline.specs.declared.Figures.{Figures}
 use Rattle.outline.specs.Outline.{draws, draw_rows, accepts}
 use Rattle.outline.proofs.Lists.{drawn-keeps}
-use Rattle.listing.specs.declared.Put.TheVariants.{End}
+use Rattle.std.specs.Prelude.{Some}
 use Rattle.listing.specs.Listing.{point_lines, listed_by}
 use Rattle.listing.specs.Written.{written}
 use Rattle.listing.proofs.Listed.{in-full}
@@ -32,11 +32,11 @@ use Rattle.file_list.specs.Inner.{own_numbers}
 use Rattle.file_list.specs.Parts.{one_span, span_points, span_room, own_points, span_lines, records_text, span_text, outline_part, only_part}
 
 -- no text at all is written anywhere
-pub nothing : (lent : List ℕ) → outcome (End 0) lent ≡ written lent 0 []
+pub nothing : (lent : List ℕ) → outcome (Some 0) lent ≡ written lent 0 []
 unfolding written
 nothing lent = rw (le-leb (0 + 0) (length lent) (omega arith))
 
-pub no_text : (lent text : List ℕ) → text ≡ [] → outcome (End 0) lent ≡ written lent 0 text
+pub no_text : (lent text : List ℕ) → text ≡ [] → outcome (Some 0) lent ≡ written lent 0 text
 no_text lent text e = nothing lent ∙ ap (written lent 0) (sym e)
 
 -- ---- which part

@@ -11,6 +11,7 @@ use borrow.Author.Tests.{le-leb}
 use lib.Dec.{leb}
 use lib.ListN.{length, length-append, length-drop, take, drop}
 use lib.Seq.{length-take-le, take_at}
+use Rattle.std.specs.Prelude.{Option, Some, None}
 use Rattle.whole.specs.Outcome.{Outcome, outcome}
 use Rattle.shape.specs.declared.Shape.{Shape}
 use Rattle.shape.specs.declared.Refusal.{Refusal}
@@ -24,8 +25,6 @@ use Rattle.tolerance.specs.Reading.{chooses}
 use Rattle.tolerance.proofs.Chooses.{chooses-unsound}
 use Rattle.tolerance.proofs.Answered.{answered-keeps, answered-room}
 use Rattle.record_file.specs.Rows.{reading}
-use Rattle.listing.specs.declared.Put.{Put}
-use Rattle.listing.specs.declared.Put.TheVariants.{End, Full}
 use Rattle.listing.specs.Listing.{chosen_text, listed_chosen}
 use Rattle.listing.specs.Written.{Within, written}
 use Rattle.listing.proofs.Listed.{in-full}
@@ -76,34 +75,34 @@ module _ (text : Shape → List ℤ → List ℕ) (file : List ℕ) where
 -- ---- counting what was written
 
 -- a text that was written is no text that did not fit
-end-or-full : (n : ℕ) → Full ≡ End n → ⊥
-end-or-full n e = let z : ◌≡◌ {A = ℕ} 0 1 = cc in omega arith
+some-or-none : (n : ℕ) → ◌≡◌ {A = Option ℕ} None (Some n) → ⊥
+some-or-none n e = let z : ◌≡◌ {A = ℕ} 0 1 = cc in omega arith
 
 -- a text that was written ends inside the list that holds it
-pub ends-inside : (lent text : List ℕ) (n : ℕ) (held : List ℕ) → written lent 0 text ≡ outcome (End n) held → n ≤ length held
+pub ends-inside : (lent text : List ℕ) (n : ℕ) (held : List ℕ) → written lent 0 text ≡ outcome (Some n) held → n ≤ length held
 unfolding written
 ends-inside lent text n held e =
-    ⊎_elim inside (λ f. absurd (end-or-full n (λ i. ((sym (ap choice f) ∙ e) i).answer))) (passes (leb (0 + length text) (length lent)))
+    ⊎_elim inside (λ f. absurd (some-or-none n (λ i. ((sym (ap choice f) ∙ e) i).answer))) (passes (leb (0 + length text) (length lent)))
   where
-    laid : Outcome Put (List ℕ)
-    laid = outcome (End (0 + length text)) (take 0 lent ++ text ++ drop (0 + length text) lent)
+    laid : Outcome (Option ℕ) (List ℕ)
+    laid = outcome (Some (0 + length text)) (take 0 lent ++ text ++ drop (0 + length text) lent)
 
-    choice : Bool → Outcome Put (List ℕ)
-    choice t = cond t laid (outcome Full lent)
+    choice : Bool → Outcome (Option ℕ) (List ℕ)
+    choice t = cond t laid (outcome None lent)
 
     inside : leb (0 + length text) (length lent) ≡ true → n ≤ length held
     inside t =
-        let is : laid ≡ outcome (End n) held = sym (ap choice t) ∙ e in
-        let count : 0 + length text ≡ n = ap (λ (o : Outcome Put (List ℕ)). count_of o.answer) is in
-        let long : length (text ++ drop (0 + length text) lent) ≡ length held = ap (λ (o : Outcome Put (List ℕ)). length o.held) is in
+        let is : laid ≡ outcome (Some n) held = sym (ap choice t) ∙ e in
+        let count : 0 + length text ≡ n = ap (λ (o : Outcome (Option ℕ) (List ℕ)). count_of o.answer) is in
+        let long : length (text ++ drop (0 + length text) lent) ≡ length held = ap (λ (o : Outcome (Option ℕ) (List ℕ)). length o.held) is in
         omega (arith, count, long, length-append text (drop (0 + length text) lent))
 
 -- what was written ends there, and is counted; what did not fit counts 0
-pub count-within : (lent text : List ℕ) (put : Put) (held : List ℕ) → outcome put held ≡ written lent 0 text → Within (count_of put) held
-count-within lent text (End n) held e = let inside = ends-inside lent text n held (sym e) in (inside, sym (length-take-le n held inside))
-count-within lent text Full held e = (omega arith, refl)
+pub count-within : (lent text : List ℕ) (put : Option ℕ) (held : List ℕ) → outcome put held ≡ written lent 0 text → Within (count_of put) held
+count-within lent text (Some n) held e = let inside = ends-inside lent text n held (sym e) in (inside, sym (length-take-le n held inside))
+count-within lent text None held e = (omega arith, refl)
 
-pub counted-text : (lent text : List ℕ) (put : Put) (held : List ℕ) → outcome put held ≡ written lent 0 text → outcome (count_of put) held ≡ writes text lent
+pub counted-text : (lent text : List ℕ) (put : Option ℕ) (held : List ℕ) → outcome put held ≡ written lent 0 text → outcome (count_of put) held ≡ writes text lent
 unfolding writes
 counted-text lent text put held e = ap counted e
 

@@ -1,7 +1,7 @@
 -- The listing of a record file: what outline-list writes for it (document 01, "Sums to hold it to"), and what outline-cut does (document 02, request 3). The file is read as a
 -- record file, the outline of its shape and records is drawn, with even steps or with steps chosen by tolerance, and its points are listed; a refusal on the way is one line.
 -- Definitions only.
-use Rattle.std.specs.Prelude.{List, ℕ, ◌+◌, ◌*◌, ◌^◌, ℤ, pos, replicate, take, Err, Ok, Result}
+use Rattle.std.specs.Prelude.{List, ℕ, ◌+◌, ◌*◌, ◌^◌, ℤ, pos, replicate, take, Option, Some, None, Result, Ok, Err}
 use Rattle.whole.specs.Outcome.{Outcome, outcome}
 use Rattle.curve.specs.Ways.{deepest}
 use Rattle.shape.specs.declared.Shape.{Shape}
@@ -12,8 +12,6 @@ use Rattle.outline.specs.Outline.{draws}
 use Rattle.pieces.specs.Tree.{finest}
 use Rattle.tolerance.specs.Reading.{chooses}
 use Rattle.record_file.specs.Rows.{reading}
-use Rattle.listing.specs.declared.Put.{Put}
-use Rattle.listing.specs.declared.Put.TheVariants.{End, Full}
 use Rattle.listing.specs.Listing.{outline_text, chosen_text, refusal_text}
 use Rattle.listing.specs.Written.{written}
 use Rattle.outline.specs.declared.Figures.{Figures}
@@ -83,11 +81,11 @@ abbrev pub most_text : ℕ
 most_text = most_heading + most_line * most_listed finest
 
 -- Text from the start on counts up to its end; 0 where it did not fit.
-abbrev pub count_of : Put → ℕ
-count_of (End n) = n
-count_of Full = 0
+abbrev pub count_of : Option ℕ → ℕ
+count_of (Some n) = n
+count_of None = 0
 
-abbrev pub counted : Outcome Put (List ℕ) → Outcome ℕ (List ℕ)
+abbrev pub counted : Outcome (Option ℕ) (List ℕ) → Outcome ℕ (List ℕ)
 counted o = outcome (count_of o.answer) o.held
 
 -- How many characters were written of a text, and the lent list then: the text from its start on, and all past it kept; where it does not fit, nothing.

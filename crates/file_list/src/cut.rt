@@ -6,7 +6,7 @@ ghost use Rattle.listing.specs.Written.{Within, written};
 ghost use Rattle.file_list.specs.Files.{by_tolerance, cut_file_text, writes};
 
 use crate::{LINE, MOST_SPANS, count_of, put_refusal};
-use listing::{Put, list_chosen};
+use listing::list_chosen;
 use pieces::FINEST;
 use record_file::{MOST_CONTROLS, read};
 use shape::{Shape, check_shape};
@@ -33,7 +33,7 @@ pub fn cut_file(file: &[u8], tolerance: usize, most: usize, text: &mut [u8]) -> 
 }
 
 // The file's records as controls, and the listing of their shape.
-fn put_file(file: &[u8], tolerance: usize, most: usize, text: &mut [u8]) -> Put
+fn put_file(file: &[u8], tolerance: usize, most: usize, text: &mut [u8]) -> Option<usize>
     ensures { outcome result text.new ≡ written text.old 0 (cut_file_text tolerance most file.now) }
 {
     let mut controls = [0i32; MOST_CONTROLS];
@@ -44,7 +44,13 @@ fn put_file(file: &[u8], tolerance: usize, most: usize, text: &mut [u8]) -> Put
 }
 
 // The spans of a shape, which the heading names, and the listing of its outline.
-fn put_shape(shape: Shape, tolerance: usize, most: usize, controls: &[i32], text: &mut [u8]) -> Put
+fn put_shape(
+    shape: Shape,
+    tolerance: usize,
+    most: usize,
+    controls: &[i32],
+    text: &mut [u8],
+) -> Option<usize>
     ensures { outcome result text.new ≡ written text.old 0 (by_tolerance tolerance most shape controls.now) }
 {
     match check_shape(shape) {
@@ -61,7 +67,7 @@ fn put_chosen(
     most: usize,
     controls: &[i32],
     text: &mut [u8],
-) -> Put
+) -> Option<usize>
     requires { spans ≡ (plan_of shape).spans }
     ensures { outcome result text.new ≡ written text.old 0 (by_tolerance tolerance most shape controls.now) }
 {

@@ -7,7 +7,7 @@ ghost use Rattle.whole.specs.Outcome.{outcome};
 ghost use Rattle.listing.specs.Written.{written};
 ghost use Rattle.file_list.specs.Files.{count_of, refused_text};
 
-use listing::{Put, list_refusal};
+use listing::list_refusal;
 use record_file::MOST_BYTES;
 use shape::{MOST_RECORDS, Refusal};
 
@@ -27,17 +27,14 @@ const MOST_SPANS: usize = MOST_RECORDS;
 const LINE: usize = 30;
 
 // How many characters were put at the start of a text: 0 where they do not fit.
-fn count_of(put: Put) -> usize
+fn count_of(put: Option<usize>) -> usize
     ensures { result ≡ count_of put }
 {
-    match put {
-        Put::End(end) => end,
-        Put::Full => 0,
-    }
+    put.unwrap_or(0)
 }
 
 // The line of a refusal.
-fn put_refusal(refusal: Refusal, text: &mut [u8]) -> Put
+fn put_refusal(refusal: Refusal, text: &mut [u8]) -> Option<usize>
     ensures { outcome result text.new ≡ written text.old 0 (refused_text refusal) }
 {
     list_refusal(text, refusal.number, refusal.place)

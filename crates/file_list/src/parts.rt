@@ -13,7 +13,7 @@ ghost use Rattle.file_list.specs.Parts.{alone_basis, own_points, records_text, s
 use crate::{LINE, count_of, put_refusal};
 use curve::records::{first_record, record_at};
 use curve::{Basis, MOST_STEPS};
-use listing::{Put, list_heading, list_points};
+use listing::{list_heading, list_points};
 use outline::by_differences;
 use shape::{B_SPLINE, LEAST_RECORDS, LOOP, Plan, Refusal, Shape, check_shape};
 
@@ -51,7 +51,7 @@ pub fn list_part(reading: Result<Shape, Refusal>, part: usize, controls: &[i32],
 }
 
 // The part itself, by what reading the file came to.
-fn put_part(reading: Result<Shape, Refusal>, part: usize, controls: &[i32], text: &mut [u8]) -> Put
+fn put_part(reading: Result<Shape, Refusal>, part: usize, controls: &[i32], text: &mut [u8]) -> Option<usize>
     ensures { outcome result text.new ≡ written text.old 0 (part_text reading controls.now part) }
 {
     match reading {
@@ -61,18 +61,18 @@ fn put_part(reading: Result<Shape, Refusal>, part: usize, controls: &[i32], text
 }
 
 // The line of a refusal, which is the only part.
-fn put_only(refusal: Refusal, part: usize, text: &mut [u8]) -> Put
+fn put_only(refusal: Refusal, part: usize, text: &mut [u8]) -> Option<usize>
     ensures { outcome result text.new ≡ written text.old 0 (only_part (refused_text refusal) part) }
 {
     if part == 0 {
         put_refusal(refusal, text)
     } else {
-        Put::End(0)
+        Some(0)
     }
 }
 
 // A part of a shape that is sound or not.
-fn put_shape_part(shape: Shape, part: usize, controls: &[i32], text: &mut [u8]) -> Put
+fn put_shape_part(shape: Shape, part: usize, controls: &[i32], text: &mut [u8]) -> Option<usize>
     ensures { outcome result text.new ≡ written text.old 0 (shape_part shape controls.now (judge_shape shape) part) }
 {
     match check_shape(shape) {
@@ -82,7 +82,13 @@ fn put_shape_part(shape: Shape, part: usize, controls: &[i32], text: &mut [u8]) 
 }
 
 // A part of an outline: the first line, or a span's lines.
-fn put_outline_part(shape: Shape, plan: Plan, part: usize, controls: &[i32], text: &mut [u8]) -> Put
+fn put_outline_part(
+    shape: Shape,
+    plan: Plan,
+    part: usize,
+    controls: &[i32],
+    text: &mut [u8],
+) -> Option<usize>
     requires { Good shape plan }
     ensures { outcome result text.new ≡ written text.old 0 (outline_part shape plan controls.now part) }
 {
@@ -93,12 +99,18 @@ fn put_outline_part(shape: Shape, plan: Plan, part: usize, controls: &[i32], tex
     if span < plan.spans {
         put_span(shape, plan, span, controls, text)
     } else {
-        Put::End(0)
+        Some(0)
     }
 }
 
 // The lines of a span, drawn from a copy of its four records; none where the list lacks one of them.
-fn put_span(shape: Shape, plan: Plan, span: usize, controls: &[i32], text: &mut [u8]) -> Put
+fn put_span(
+    shape: Shape,
+    plan: Plan,
+    span: usize,
+    controls: &[i32],
+    text: &mut [u8],
+) -> Option<usize>
     requires good { Good shape plan }
     requires span_lt_spans { span < plan.spans }
     ensures { outcome result text.new ≡ written text.old 0 (span_text shape plan controls.now span) }
@@ -108,7 +120,7 @@ fn put_span(shape: Shape, plan: Plan, span: usize, controls: &[i32], text: &mut 
     if copy_span(controls, basis, span, &mut own) {
         put_lines(shape, plan, span, &own, text)
     } else {
-        Put::End(0)
+        Some(0)
     }
 }
 
@@ -138,7 +150,13 @@ fn alone_basis(number: usize) -> usize
 }
 
 // The span drawn by itself, and the lines of its own points, numbered as in the outline; none where it is refused.
-fn put_lines(shape: Shape, plan: Plan, span: usize, records: &[i32], text: &mut [u8]) -> Put
+fn put_lines(
+    shape: Shape,
+    plan: Plan,
+    span: usize,
+    records: &[i32],
+    text: &mut [u8],
+) -> Option<usize>
     requires good { Good shape plan }
     requires span_lt_spans { span < plan.spans }
     ensures { outcome result text.new ≡ written text.old 0 (records_text shape plan records.now span) }
@@ -151,7 +169,7 @@ fn put_lines(shape: Shape, plan: Plan, span: usize, records: &[i32], text: &mut 
         parameter: shape.parameter,
     };
     let Ok(_) = by_differences(one, records, &mut points) else {
-        return Put::End(0);
+        return Some(0);
     };
     let first = span * plan.steps();
     list_points(text, first as u32, &points, own_points(plan, span))

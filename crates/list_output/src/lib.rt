@@ -11,19 +11,13 @@ ghost use Rattle.list_output.specs.Written.{Fitting, Handed};
 use console::write_output;
 use file_list::{MOST_PART, list_part, parts_of};
 use record_file::{MOST_CONTROLS, Reading, read};
+use std::io;
 
-// How writing a listing ended: all of it was handed on, so many characters; or a write failed.
-#[derive(Clone, Copy)]
-pub enum Written {
-    All(usize),
-    Failed,
-}
-
-// What a file was read as, and how writing its listing ended.
-#[derive(Clone, Copy)]
+// What a file was read as, and how writing its listing ended: all of it was handed on, so many characters; or a write failed, which was said.
+#[derive(Drop)]
 pub struct Listed {
     pub reading: Reading,
-    pub written: Written,
+    pub written: io::Result<usize>,
 }
 
 // Writes the listing of a file, or the line of its refusal.
@@ -38,21 +32,16 @@ pub fn write_file(rt: &(impl Print + Eprint), file: &[u8]) -> Listed
 }
 
 // Writes each part once, in order, by what reading the file came to and the controls that it left.
-fn write_parts(rt: &(impl Print + Eprint), reading: Reading, controls: &[i32]) -> Written
+fn write_parts(rt: &(impl Print + Eprint), reading: Reading, controls: &[i32]) -> io::Result<usize>
     requires { Fitting reading controls.now }
     ensures { Handed result (joined (part_text reading controls.now) 0 (parts_of reading)) }
 {
     let mut text = [0u8; MOST_PART];
-    let parts = parts_of(reading);
     let mut count = 0;
-    let mut part = 0;
-    while part < parts {
+    for part in 0..parts_of(reading) {
         let end = list_part(reading, part, controls, &mut text);
-        if !write_output(rt, &text[..end]) {
-            return Written::Failed;
-        }
+        write_output(rt, &text[..end])?;
         count += end;
-        part += 1;
     }
-    Written::All(count)
+    Ok(count)
 }

@@ -10,11 +10,11 @@ use lib.Dec.{ltb}
 use lib.ListN.{length, length-append}
 use Rattle.listing.specs.Decimal.{digit, natural, natural_in}
 
-one-digit : (k n : ℕ) → n < 10 → natural_in (suc k) n ≡ digit n ∷ []
+pub one-digit : (k n : ℕ) → n < 10 → natural_in (suc k) n ≡ digit n ∷ []
 unfolding natural_in
 one-digit k n h = rw (natural_in, lt-ltb n 10 h)
 
-last-digit : (k n : ℕ) → 10 ≤ n → natural_in (suc k) n ≡ natural_in k (n / 10) ++ (digit (n % 10) ∷ [])
+pub last-digit : (k n : ℕ) → 10 ≤ n → natural_in (suc k) n ≡ natural_in k (n / 10) ++ (digit (n % 10) ∷ [])
 unfolding natural_in
 last-digit k n h = rw (natural_in, le-ltb n 10 h)
 

@@ -4,11 +4,11 @@
 pub mod Digits
 pub mod Examples
 pub mod Fitting
-pub mod Laying
+pub mod Lines
 pub mod Listed
 pub mod Numbers
 pub mod Points
+pub mod Printed
 pub mod ReadsBack
 pub mod Shown
-pub mod Sign
 pub mod Unique

@@ -10,12 +10,12 @@ use lib.IntN.{ℤ}
 use lib.ListN.{length, take}
 use lib.Seq.{length-take-le}
 use Rattle.whole.specs.Outcome.{outcome}
-use Rattle.listing.specs.declared.Put.TheVariants.{Full}
+use Rattle.std.specs.Prelude.{None}
 use Rattle.listing.specs.Listing.{text_under, listed_by}
 use Rattle.listing.specs.Written.{written}
 
 module _ (l : List ℕ) (points : List ℤ) (count : ℕ) where
-  pub too_few : (text : List ℤ → List ℕ) → length points < 2 * count → outcome Full l ≡ listed_by text l points count
+  pub too_few : (text : List ℤ → List ℕ) → length points < 2 * count → outcome None l ≡ listed_by text l points count
   unfolding listed_by
   too_few text few = rw (lt-leb (2 * count) (length points) few)
 

@@ -1,52 +1,55 @@
--- The lines of points from point i on begin with point i's own line: the list from 2 i on begins with its x and its y. The first point has a number, and each next one has the next.
-use Prim.Native.Nat.{ℕ, suc, ◌+◌, ◌-◌, ◌*◌, ◌≤◌, ◌<◌}
+-- The lines of points. From point i on they begin with point i's own line; points that stand as pairs have the lines of the list that was cut into the pairs; and the lines of a list are those of its two
+-- parts.
+use Prim.Native.Nat.{ℕ, zero, suc, ◌+◌, ◌-◌, ◌*◌, ◌≤◌, ◌<◌}
 use mathlib.Core.List.{List, [], ◌∷◌, ◌++◌, append_assoc}
-use mathlib.Core.Path.{◌≡◌, sym, ap, ◌∙◌}
+use mathlib.Core.Path.{◌≡◌, refl, sym, ap, ◌∙◌}
 use native.Mathlib.Omega.{arith}
 use lib.IntN.{ℤ, pos}
 use lib.ListN.{length, get_or, take, drop, drop_of_length-le}
-use lib.Seq.{drop-cons, get_or-take, length-take-le}
 use mir.Facts.{to_z-of_z}
 use mir.Syntax.{w32}
-use mir.Val.{SFits}
+use mir.Val.{SFits, of_z, to_z}
+use Rattle.std.specs.Simd.{first_chunks}
+use Rattle.std.proofs.lemmas.List.{drop_more}
+use Rattle.listing.specs.Inner.{pair_lines}
 use Rattle.listing.specs.Listing.{point_line, point_lines}
-use Rattle.listing.proofs.Sign.{narrow}
 
--- the lines of the first `count` points, from point i on
-abbrev pub from : ℕ → List ℤ → ℕ → ℕ → List ℕ
-from first points count i = point_lines (first + i) (drop (2 * i) (take (2 * count) points))
+-- x or y of point i
+abbrev pub coordinate : List (List ℤ) → ℕ → ℕ → ℤ
+coordinate pairs i k = get_or (get_or pairs i []) k (pos 0)
 
--- the line of point i
-abbrev pub line_of : ℕ → List ℤ → ℕ → List ℕ
-line_of first points i = point_line (first + i) (get_or points (2 * i) (pos 0)) (get_or points (2 * i + 1) (pos 0))
+-- the number that a local of 32 bits holds
+abbrev held : ℤ → ℤ
+held z = to_z w32 (of_z w32 z)
 
--- from the first point on they are all of them
-pub from_first : (first : ℕ) (points : List ℤ) (count : ℕ) → from first points count 0 ≡ point_lines first (take (2 * count) points)
-from_first first points count = ap (λ (n : ℕ). point_lines n (take (2 * count) points)) (omega arith)
+module _ (first : ℕ) (pairs : List (List ℤ)) where
+  -- the lines from point i on, where the first point has the number `first`
+  abbrev pub from : ℕ → List ℕ
+  from i = pair_lines (first + i) (drop i pairs)
 
--- the same line, of numbers that locals of 32 bits hold
-pub held-line : (i : ℕ) (x y : ℤ) → SFits w32 x → SFits w32 y → point_line i (narrow x) (narrow y) ≡ point_line i x y
-held-line i x y hx hy = λ k. point_line i (to_z-of_z hx k) (to_z-of_z hy k)
+  pub from_first : from 0 ≡ pair_lines first pairs
+  from_first = ap (λ (n : ℕ). pair_lines n pairs) (omega arith)
 
-module _ (first : ℕ) (points : List ℤ) (count : ℕ) (enough : 2 * count ≤ length points) where
-  long : length (take (2 * count) points) ≡ 2 * count
-  long = length-take-le (2 * count) points enough
+  -- point i's line, of numbers that locals hold, is the first of them
+  pub next : (i : ℕ) {line : List ℕ} → i < length pairs → SFits w32 (coordinate pairs i 0) → SFits w32 (coordinate pairs i 1)
+      → line ≡ point_line (first + i) (held (coordinate pairs i 0)) (held (coordinate pairs i 1)) → from i ≡ line ++ from (i + 1)
+  next i {line} there x y is =
+      let on : suc (first + i) ≡ first + (i + 1) = omega arith in
+      let own : line ≡ point_line (first + i) (coordinate pairs i 0) (coordinate pairs i 1) = is ∙ (λ k. point_line (first + i) (to_z-of_z x k) (to_z-of_z y k)) in
+      ap (pair_lines (first + i)) (drop_more pairs i [] there)
+      ∙ (λ k. sym own k ++ pair_lines (on k) (drop (i + 1) pairs))
 
-  number : (k : ℕ) → k < 2 * count → drop k (take (2 * count) points) ≡ get_or points k (pos 0) ∷ drop (k + 1) (take (2 * count) points)
-  number k h =
-      let one : k + 1 ≡ suc k = omega arith in
-      rw one
-      (drop-cons (take (2 * count) points) k (pos 0) (omega (arith, long))
-      ∙ ap (λ (z : ℤ). z ∷ drop (suc k) (take (2 * count) points)) (get_or-take (2 * count) points k (pos 0) h))
+  pub none : (i : ℕ) → length pairs ≤ i → from i ≡ []
+  none i h = ap (pair_lines (first + i)) (drop_of_length-le pairs {i = i} h)
 
-  pub next : (i : ℕ) → i < count → from first points count i ≡ line_of first points i ++ from first points count (i + 1)
-  next i h =
-      let two : 2 * i + 1 + 1 ≡ 2 * (i + 1) = omega arith in
-      let one : suc (first + i) ≡ first + (i + 1) = omega arith in
-      rw (number (2 * i) (omega arith), number (2 * i + 1) (omega arith), two, one)
-
-  pub none : (i : ℕ) → count ≤ i → from first points count i ≡ []
-  none i h = ap (point_lines (first + i)) (drop_of_length-le (take (2 * count) points) {i = 2 * i} (omega (arith, long)))
+pub paired : (count chunks n : ℕ) (points : List ℤ) → count ≤ chunks → 2 * chunks ≤ length points → pair_lines n (take count (first_chunks 2 chunks points)) ≡ point_lines n (take (2 * count) points)
+paired zero chunks n points h e = refl
+paired (suc count) zero n points h e = absurd (omega arith)
+paired (suc count) (suc chunks) n [] h e = absurd (omega arith)
+paired (suc count) (suc chunks) n (x ∷ []) h e = absurd (omega arith)
+paired (suc count) (suc chunks) n (x ∷ y ∷ points) h e =
+    let two : suc (suc (2 * count)) ≡ 2 * suc count = omega arith in
+    ap (λ (l : List ℕ). point_line n x y ++ l) (paired count chunks (suc n) points (omega arith) (omega arith)) ∙ ap (λ (m : ℕ). point_lines n (take m (x ∷ y ∷ points))) two
 
 -- the lines of points and of more points after them
 pub lines-append : (n m : ℕ) (xs ys : List ℤ) → length xs ≡ 2 * m → point_lines n (xs ++ ys) ≡ point_lines n xs ++ point_lines (n + m) ys

@@ -1,10 +1,8 @@
 -- The listing of an outline (document 01, "Sums to hold it to"). First line: basis, depth, spans, points. Then for each point its number, x, y.
 -- Of an outline with steps chosen by tolerance (document 02, request 3) the first line is basis, tolerance, spans, points, cuts, and the rest as ever.
 -- A refusal is one line: the word `refused`, the number, the place. Definitions only.
-use Rattle.std.specs.Prelude.{ℕ, suc, ◌*◌, ◌/◌, cond, List, [], ◌∷◌, ◌++◌, map, leb, ℤ, length, take}
+use Rattle.std.specs.Prelude.{ℕ, suc, ◌*◌, ◌/◌, cond, List, [], ◌∷◌, ◌++◌, map, leb, ℤ, length, take, Option, None}
 use Rattle.whole.specs.Outcome.{Outcome, outcome}
-use Rattle.listing.specs.declared.Put.{Put}
-use Rattle.listing.specs.declared.Put.TheVariants.{Full}
 use Rattle.listing.specs.Decimal.{natural, decimal}
 use Rattle.listing.specs.Written.{written}
 
@@ -59,12 +57,12 @@ abbrev pub refusal_text : ℕ → ℕ → List ℕ
 refusal_text number place = line (refused ∷ natural number ∷ natural place ∷ [])
 
 -- What listing the first `count` points answers and leaves, where `text` makes the listing of points: it stands from the start of the lent list on; where `points` holds fewer than
--- those, `Full`, and all is kept.
-unfoldable pub listed_by : (List ℤ → List ℕ) → List ℕ → List ℤ → ℕ → Outcome Put (List ℕ)
+-- those, `None`, and all is kept.
+unfoldable pub listed_by : (List ℤ → List ℕ) → List ℕ → List ℤ → ℕ → Outcome (Option ℕ) (List ℕ)
 listed_by text lent points count =
     cond (leb (2 * count) (length points))
     (written lent 0 (text (take (2 * count) points)))
-    (outcome Full lent)
+    (outcome None lent)
 
-abbrev pub listed_chosen : List ℕ → ℕ → ℕ → ℕ → List ℤ → ℕ → ℕ → Outcome Put (List ℕ)
+abbrev pub listed_chosen : List ℕ → ℕ → ℕ → ℕ → List ℤ → ℕ → ℕ → Outcome (Option ℕ) (List ℕ)
 listed_chosen lent basis tolerance spans points count cuts = listed_by (chosen_text basis tolerance spans cuts) lent points count

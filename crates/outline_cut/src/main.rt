@@ -2,16 +2,16 @@
 // cuts.
 #![tactic(auto)]
 
-use console::{Input, Number, read_argument, read_input, tell, write_listing};
+use console::{read_argument, read_input, tell, write_listing};
 use file_list::{MOST_READ, MOST_TEXT, cut_file};
 use std::io;
 
 fn main(rt: HostRuntime) {
-    let Number::Is(tolerance) = read_argument(&rt, 1) else {
+    let Some(tolerance) = read_argument(&rt, 1) else {
         tell(&rt, b"not a number: TOLERANCE\n");
         return;
     };
-    let Number::Is(most) = read_argument(&rt, 2) else {
+    let Some(most) = read_argument(&rt, 2) else {
         tell(&rt, b"not a number: MOST\n");
         return;
     };
@@ -21,7 +21,7 @@ fn main(rt: HostRuntime) {
 // Reads the file, and writes its listing.
 fn cut_input(rt: &(impl io::Input + Print + Eprint), tolerance: usize, most: usize) {
     let mut file = [0u8; MOST_READ];
-    if let Input::Bytes(length) = read_input(rt, &mut file) {
+    if let Some(length) = read_input(rt, &mut file) {
         cut(rt, &file[..length], tolerance, most);
     }
 }

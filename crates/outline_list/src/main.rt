@@ -1,14 +1,14 @@
 // Reads one record file on standard input, and writes its listing on standard output, span by span.
 #![tactic(auto)]
 
-use console::{Input, read_input, tell};
+use console::{read_input, tell};
 use file_list::{MOST_PART, MOST_READ, list_part};
-use list_output::{Written, write_file};
+use list_output::write_file;
 use record_file::Reading;
 
 fn main(rt: HostRuntime) {
     let mut file = [0u8; MOST_READ];
-    if let Input::Bytes(length) = read_input(&rt, &mut file) {
+    if let Some(length) = read_input(&rt, &mut file) {
         list(&rt, &file[..length]);
     }
 }
@@ -16,10 +16,8 @@ fn main(rt: HostRuntime) {
 // Writes the listing of a file, or its refusal, which is said on standard error as well.
 fn list(rt: &(impl Print + Eprint), file: &[u8]) {
     let listed = write_file(rt, file);
-    let written = listed.written;
-    let reading = listed.reading;
-    if let Written::All(_) = written {
-        tell_refusal(rt, reading);
+    if listed.written.is_ok() {
+        tell_refusal(rt, listed.reading);
     }
 }
 

@@ -29,5 +29,5 @@ fn main(rt: HostRuntime) {
 fn send(rt: &(impl Print + Eprint), text: &Text, end: usize) {
     let bytes: &[u8] = text;
     let length = length_of(end, bytes);
-    write_output(rt, &bytes[..length]);
+    let _ = write_output(rt, &bytes[..length]);
 }

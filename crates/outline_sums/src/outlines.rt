@@ -2,7 +2,7 @@
 ghost use Rattle.std.specs.Prelude.{◌<◌};
 
 use crate::Text;
-use console::{add_phrase, add_spaced_natural, add_word, add_x, end_line};
+use console::{add_phrase, add_spaced_number, add_word, add_x, end_line};
 use curve::DEEPEST;
 use outline::{Drawn, by_weights};
 use shape::Shape;
@@ -128,5 +128,5 @@ pub(crate) fn put_drawn(
 // A refusal: its number and its place.
 pub(crate) fn put_refusal(text: &mut Text, at: usize, number: usize, place: usize) -> usize {
     let past_number = add_phrase(text, at, b" refused", number);
-    add_spaced_natural(text, past_number, place as u64)
+    add_spaced_number(text, past_number, place)
 }

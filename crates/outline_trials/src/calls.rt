@@ -4,7 +4,7 @@ use crate::record::{Placed, Record, control, step_of};
 use crate::text::{say, say_numbers, say_refusal, say_state};
 use drawing::{Control, State, Stepped};
 use edit::Edited;
-use list_output::{Written, write_file};
+use list_output::write_file;
 use outline::Drawn;
 use preview::Previewed;
 use record_file::Reading;
@@ -221,10 +221,5 @@ pub(crate) fn read_file(
 
 // The file listed as outline-list does.
 pub(crate) fn show_file(rt: &(impl Print + Eprint), file: &[u8]) -> bool {
-    let listed = write_file(rt, file);
-    let written = listed.written;
-    match written {
-        Written::All(_) => true,
-        Written::Failed => false,
-    }
+    write_file(rt, file).written.is_ok()
 }

@@ -11,7 +11,7 @@ mod text;
 
 use bench::{Bench, Turn};
 use calls::go_on;
-use console::{Input, read_input};
+use console::read_input;
 use record::{Record, decoded};
 use setting::{lend, more_file, set_bench, set_number};
 use std::io;
@@ -195,7 +195,7 @@ fn play_next(
     file: &mut File,
 ) -> Turn {
     let mut bytes = [0u8; TRIAL];
-    let Input::Bytes(got) = read_input(rt, &mut bytes) else {
+    let Some(got) = read_input(rt, &mut bytes) else {
         return Turn::End;
     };
     if got < TRIAL {

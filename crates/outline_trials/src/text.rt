@@ -1,7 +1,7 @@
 // The lines that a trial writes, each built in a text and sent whole. Each call answers whether its line was written.
 use crate::{LONGEST_POINTS, LONGEST_PREVIEW};
 use console::{
-    add_naturals, add_numbers, add_patterns, add_phrase, add_word, end_line, length_of, tell,
+    add_numbers, add_patterns, add_phrase, add_spaced_numbers, add_word, end_line, length_of, tell,
     write_output,
 };
 use shape::Refusal;
@@ -17,14 +17,14 @@ const PATTERNS: usize = 21 * LONGEST_PREVIEW;
 fn send(rt: &(impl Print + Eprint), text: &mut [u8], at: usize) -> bool {
     let end = end_line(text, at);
     let n = length_of(end, text);
-    write_output(rt, &text[..n])
+    write_output(rt, &text[..n]).is_ok()
 }
 
 // The line of a word and naturals.
 pub(crate) fn say(rt: &(impl Print + Eprint), name: &[u8], numbers: &[usize]) -> bool {
     let mut text = [0u8; SHORT];
     let start = add_word(&mut text, 0, name);
-    let end = add_naturals(&mut text, start, numbers);
+    let end = add_spaced_numbers(&mut text, start, numbers);
     send(rt, &mut text, end)
 }
 
@@ -62,7 +62,7 @@ pub(crate) fn say_bad(rt: &(impl Print + Eprint), number: usize) {
     let past_number = add_phrase(&mut text, 0, b"bad record", number);
     let end = end_line(&mut text, past_number);
     let n = length_of(end, &text);
-    if write_output(rt, &text[..n]) {
+    if write_output(rt, &text[..n]).is_ok() {
         tell(rt, &text[..n]);
     }
 }

@@ -15,19 +15,23 @@ part_length text part held n long fits is =
 
 pub loop-part-init : goal.loop-part-init
 unfolding joined
-loop-part-init g c = (refl, omega arith, refl, omega arith)
+loop-part-init g c = record { room = refl; counted = refl; few = omega arith }
 
 pub overflow_add-count : goal.overflow_add-count
 overflow_add-count g c =
     let l = c.loop-part in
     let part = part_text c.args.reading c.args.controls.now in
-    let turn = part_length l.text (part l.part) c.list_part-end.new.text c.list_part-end.result l.invariant.0 (c.requires l.part) c.list_part-end.ensures.text_after in
-    omega (arith, l.invariant.3, turn, c.loop-part-test.true, c.parts_of-parts.ensures, parts-few c.args.reading)
+    let turn = part_length l.text (part l.part) c.list_part-end.new.text c.list_part-end.result l.invariant.room (c.requires l.part) c.list_part-end.ensures.text_after in
+    omega (arith, l.invariant.few, turn, c.loop-part-test.true, c.parts_of-part-end.ensures, parts-few c.args.reading)
 
 pub loop-part-preserved : goal.loop-part-preserved
 loop-part-preserved g c =
     let l = c.loop-part in
     let part = part_text c.args.reading c.args.controls.now in
     let here : 0 + l.part ≡ l.part = omega arith in
-    let turn = part_length l.text (part l.part) c.list_part-end.new.text c.list_part-end.result l.invariant.0 (c.requires l.part) c.list_part-end.ensures.text_after in
-    (omega (arith, l.invariant.0, c.list_part-end.auto.text), omega (arith, c.loop-part-test.true), omega (arith, l.invariant.2, joined-next part l.part 0, ap (λ (n : ℕ). length (part n)) here, turn.0), omega (arith, l.invariant.3, turn.1))
+    let turn = part_length l.text (part l.part) c.list_part-end.new.text c.list_part-end.result l.invariant.room (c.requires l.part) c.list_part-end.ensures.text_after in
+    record {
+      room = omega (arith, l.invariant.room, c.list_part-end.auto.text);
+      counted = omega (arith, l.invariant.counted, joined-next part l.part 0, ap (λ (n : ℕ). length (part n)) here, turn.0);
+      few = omega (arith, l.invariant.few, turn.1);
+    }
