@@ -13,7 +13,7 @@ use curve::LIMIT;
 use whole::half_up;
 
 // A point of the preview: a pair of doubles, in micrometres.
-#[derive(Clone, Copy)]
+#[derive(Clone, Copy, Debug, PartialEq)]
 pub struct Pair {
     pub x: f64,
     pub y: f64,
@@ -34,10 +34,10 @@ const FARTHEST: u64 = LIMIT as u64;
 const THOUSAND: u64 = 1000;
 
 // A double's bit pattern, by IEEE 754, is its sign, the exponent's field and the digits below the leading one. This is the sign's weight.
-const SIGN: u64 = 9223372036854775808;
+const SIGN: u64 = 1 << 63;
 
 // The weight of the exponent's field, and of the leading digit: 2^52.
-const LEADING: u64 = 4503599627370496;
+const LEADING: u64 = 1 << 52;
 
 // An exponent's field of all ones: an infinity or a NaN. Any other field x above 0 stands for (2^52 + digits) / 2^(1075 - x), which is 2^(x - 1023) or more.
 const ONES: u64 = 2047;
@@ -58,7 +58,7 @@ const FOUR: u32 = 4;
 pub fn double_of(z: i32) -> f64
     ensures { result ≡ dyadic z 0 }
 {
-    z as f64
+    f64::from(z)
 }
 
 // Halfway from a to b.
@@ -68,7 +68,7 @@ pub fn midpoint(a: f64, b: f64) -> f64
     (a + b) / 2.0
 }
 
-// Halfway from the point a to the point b.
+// Halfway from the point a to the point b. A function and no method of Pair, since README's table of calls names it.
 pub fn midpoint_pair(a: Pair, b: Pair) -> Pair
     ensures { result ≡ mid_pair a b }
 {
@@ -86,11 +86,7 @@ fn coordinate(negative: bool, size: u64) -> Measure
         return Measure::Outside;
     }
     let n = size as i32;
-    if negative {
-        Measure::Micrometres(-n)
-    } else {
-        Measure::Micrometres(n)
-    }
+    Measure::Micrometres(if negative { -n } else { n })
 }
 
 // The millimetres digits / (4 · 2^bits), negative where it is said, as micrometres.
@@ -119,13 +115,13 @@ fn of_pattern(bits: u64) -> Measure
     scaled(SIGN <= bits, LEADING + digits, (QUARTERS - field) as u32)
 }
 
-// What a drawing number means, for every double: a NaN is the one that differs from itself, and any other has a bit pattern.
+// What a drawing number means, for every double: one that is no NaN has a bit pattern.
 pub fn micrometres(mm: f64) -> Measure
     ensures { result ≡ measure mm }
 {
-    if mm != mm {
+    if mm.is_nan() {
         Measure::NotFinite
     } else {
-        of_pattern(f64::to_bits(mm))
+        of_pattern(mm.to_bits())
     }
 }
