@@ -1,4 +1,4 @@
-// The controls that an edit asks for, made in the lent list itself.
+// The controls that an edit asks for, made in the lent list itself. Their count goes beside it, since the list that a caller lends has room for more, and what stands there is kept.
 ghost use Rattle.std.specs.Prelude.{◌≡◌, ◌+◌, ◌*◌, ◌-◌, ◌≤◌, ◌<◌, length, set};
 ghost use Rattle.asked.specs.Edits.{asked, count_after};
 ghost use Rattle.asked.specs.Inner.{Askable};

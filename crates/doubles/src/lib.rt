@@ -13,7 +13,7 @@ use curve::LIMIT;
 use whole::half_up;
 
 // A point of the preview: a pair of doubles, in micrometres.
-#[derive(Clone, Copy)]
+#[derive(Clone, Copy, Debug, PartialEq)]
 pub struct Pair {
     pub x: f64,
     pub y: f64,
@@ -54,7 +54,7 @@ const QUARTERS: u64 = 1073;
 pub fn double_of(z: i32) -> f64
     ensures { result ≡ dyadic z 0 }
 {
-    z as f64
+    f64::from(z)
 }
 
 // Halfway from a to b.
@@ -64,7 +64,7 @@ pub fn midpoint(a: f64, b: f64) -> f64
     (a + b) / 2.0
 }
 
-// Halfway from the point a to the point b.
+// Halfway from the point a to the point b. A function and no method of Pair, since README's table of calls names it.
 pub fn midpoint_pair(a: Pair, b: Pair) -> Pair
     ensures { result ≡ mid_pair a b }
 {

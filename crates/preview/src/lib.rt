@@ -9,7 +9,7 @@ ghost use Rattle.curve.specs.Ways.{deepest};
 ghost use Rattle.shape.specs.Refusals.{judge};
 ghost use Rattle.shape.specs.Shape.{most_records, points_of};
 ghost use Rattle.shape.specs.Inner.{Good};
-ghost use Rattle.preview.specs.Halving.{control, halved, left_half, pieces, right_half, span_pieces};
+ghost use Rattle.preview.specs.Halving.{control, halved, left_half, pieces, right_half, span_pieces, two};
 ghost use Rattle.preview.specs.Preview.{later_rows, accepts, previewing};
 
 use curve::Basis;
@@ -31,13 +31,13 @@ fn control_point(controls: &[i32], r: usize) -> Pair
     }
 }
 
-// Writes a point's two numbers from number `at` on.
-fn put_point(points: &mut [f64], at: usize, p: Pair)
-    requires { at + 2 ≤ length points.old }
-    ensures { points.new ≡ set (set points.old at p.x) (at + 1) p.y }
+// Writes a point's two numbers.
+fn put_point(points: &mut [f64], p: Pair)
+    requires { length points.old ≡ 2 }
+    ensures { points.new ≡ two p }
 {
-    points[at] = p.x;
-    points[at + 1] = p.y;
+    points[0] = p.x;
+    points[1] = p.y;
 }
 
 // A piece of a span: its four controls.
@@ -76,26 +76,26 @@ impl Piece {
     }
 }
 
-// The first points of the 2^left pieces of a piece, from number `at` on: it is cut until no cut is left.
-fn fill_pieces(points: &mut [f64], at: usize, left: usize, piece: Piece)
-    requires { (left ≤ deepest) × (at + 2 * 2 ^ left ≤ length points.old) }
-    ensures { points.new ≡ sets points.old at (pieces left piece) }
+// The first points of the 2^left pieces of a piece: it is cut until no cut is left.
+fn fill_pieces(points: &mut [f64], left: usize, piece: Piece)
+    requires { (left ≤ deepest) × (length points.old ≡ 2 * 2 ^ left) }
+    ensures { points.new ≡ pieces left piece }
 {
     if left == 0 {
-        put_point(points, at, piece.a);
+        put_point(points, piece.a);
         return;
     }
     let (first, second) = piece.halves();
-    let half: usize = 1 << left;
-    fill_pieces(points, at, left - 1, first);
-    fill_pieces(points, at + half, left - 1, second);
+    let (front, back) = points.split_at_mut(1 << left);
+    fill_pieces(front, left - 1, first);
+    fill_pieces(back, left - 1, second);
 }
 
-// The points of a span but its end, from number `at` on.
-fn fill_span(controls: &[i32], span: usize, depth: usize, points: &mut [f64], at: usize)
-    requires depth_le_deepest { (depth ≤ deepest) × (at + 2 * 2 ^ depth ≤ length points.old) }
+// The points of a span but its end.
+fn fill_span(controls: &[i32], span: usize, depth: usize, points: &mut [f64])
+    requires room { (depth ≤ deepest) × (length points.old ≡ 2 * 2 ^ depth) }
     requires span_lt_most_records { (span < most_records) × (2 * first_record Basis.Bezier span + 8 ≤ length controls.now) }
-    ensures { points.new ≡ sets points.old at (span_pieces controls.now depth span) }
+    ensures { points.new ≡ span_pieces controls.now depth span }
 {
     let first = first_record(Basis::Bezier, span);
     let piece = Piece {
@@ -104,7 +104,7 @@ fn fill_span(controls: &[i32], span: usize, depth: usize, points: &mut [f64], at
         c: control_point(controls, first + 2),
         d: control_point(controls, first + 3),
     };
-    fill_pieces(points, at, depth, piece);
+    fill_pieces(points, depth, piece);
 }
 
 // All points of a plan's spans: span by span, and the end of the last, where a next one would start.
@@ -115,10 +115,12 @@ fn fill_spans(controls: &[i32], spans: usize, depth: usize, points: &mut [f64])
 {
     let width: usize = 2 << depth;
     for s in 0..spans {
-        fill_span(controls, s, depth, points, s * width);
+        let at = s * width;
+        fill_span(controls, s, depth, &mut points[at..at + width]);
     }
+    let at = spans * width;
     let end = control_point(controls, first_record(Basis::Bezier, spans));
-    put_point(points, spans * width, end);
+    put_point(&mut points[at..at + 2], end);
 }
 
 // Rows 4, 7, 8, 9 for a shape that was found sound, and then the points.

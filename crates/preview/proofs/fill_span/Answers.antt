@@ -1,6 +1,5 @@
 -- The piece that the callee cuts has the span's records for its controls.
 use Rattle.std.proofs.Common.{◌+◌, ◌∙◌}
-use Rattle.std.proofs.lemmas.List.Edits.{sets}
 use Rattle.preview.specs.Halving.{control, pieces, span_pieces}
 use Rattle.preview.proofs.fill_span.Goals as goal
 
@@ -14,4 +13,4 @@ returns c =
     let b = c.control_point-2.ensures ∙ (λ k. control l (r k + 1)) in
     let d = c.control_point-3.ensures ∙ (λ k. control l (r k + 2)) in
     let e = c.control_point-4.ensures ∙ (λ k. control l (r k + 3)) in
-    c.fill_pieces.ensures ∙ (λ k. sets x.points.now x.at (pieces x.depth (record { a = a k; b = b k; c = d k; d = e k })))
+    c.fill_pieces.ensures ∙ (λ k. pieces x.depth (record { a = a k; b = b k; c = d k; d = e k }))
