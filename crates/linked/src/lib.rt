@@ -16,15 +16,15 @@ ghost use Rattle.edit.specs.Reading.{edits};
 ghost use Rattle.preview.specs.Preview.{previewing};
 ghost use Rattle.linked.specs.Linked.{shape_of, answered, drawing_of, choosing_of, editing_of, previewing_of};
 
-use edit::{Edited, insert_record, move_record, remove_record};
-use outline::{Drawn, by_differences, by_halving, by_weights};
-use preview::{Previewed, preview};
-use shape::Shape;
-use tolerance::{Chosen, by_tolerance};
+use edit::{Change, insert_record, move_record, remove_record};
+use outline::{Figures, by_differences, by_halving, by_weights};
+use preview::preview;
+use shape::{Refusal, Shape};
+use tolerance::{Steps, by_tolerance};
 
 // The answer of a drawing: how many points stand in the list now, and how many of their coordinates are exact.
 #[repr(C)]
-#[derive(Clone, Copy)]
+#[derive(Clone, Copy, Debug, Default, PartialEq, Eq)]
 pub struct Drawing {
     pub number: usize,
     pub place: usize,
@@ -34,7 +34,7 @@ pub struct Drawing {
 
 // The answer of a drawing by tolerance: how many points stand in the list now, how many cuts chose them, and how many of their coordinates are exact.
 #[repr(C)]
-#[derive(Clone, Copy)]
+#[derive(Clone, Copy, Debug, Default, PartialEq, Eq)]
 pub struct Choosing {
     pub number: usize,
     pub place: usize,
@@ -45,7 +45,7 @@ pub struct Choosing {
 
 // The answer of an edit: the count of the new shape, whose other three numbers are those that were passed; the first span worked afresh, how many, and how many coordinates of their points are exact.
 #[repr(C)]
-#[derive(Clone, Copy)]
+#[derive(Clone, Copy, Debug, Default, PartialEq, Eq)]
 pub struct Editing {
     pub number: usize,
     pub place: usize,
@@ -57,7 +57,7 @@ pub struct Editing {
 
 // The answer of a preview: how many points stand in the list of doubles now.
 #[repr(C)]
-#[derive(Clone, Copy)]
+#[derive(Clone, Copy, Debug, Default, PartialEq, Eq)]
 pub struct Previewing {
     pub number: usize,
     pub place: usize,
@@ -77,22 +77,22 @@ fn shape_of(basis: usize, depth: usize, count: usize, parameter: usize) -> Shape
 }
 
 // What a drawing answered, as numbers.
-fn drawing_of(drawn: Drawn) -> Drawing
-    ensures { result ≡ drawing_of drawn }
-{
-    match drawn {
-        Drawn::Done(figures) => Drawing {
-            number: 0,
-            place: 0,
-            points: figures.points,
-            exact: figures.exact,
-        },
-        Drawn::Refused(refusal) => Drawing {
-            number: refusal.number,
-            place: refusal.place,
-            points: 0,
-            exact: 0,
-        },
+impl From<Result<Figures, Refusal>> for Drawing {
+    ghost from_gives = { λ answer numbers. numbers ≡ drawing_of answer };
+
+    fn from(answer: Result<Figures, Refusal>) -> Drawing {
+        match answer {
+            Ok(figures) => Drawing {
+                points: figures.points,
+                exact: figures.exact,
+                ..Drawing::default()
+            },
+            Err(refusal) => Drawing {
+                number: refusal.number,
+                place: refusal.place,
+                ..Drawing::default()
+            },
+        }
     }
 }
 
@@ -108,7 +108,7 @@ pub extern "C" fn quorilanth_by_weights(
 ) -> Drawing
     ensures { outcome result points.new ≡ answered drawing_of (draws (shape_of basis depth count parameter) controls.now points.old) }
 {
-    drawing_of(by_weights(shape_of(basis, depth, count, parameter), controls, points))
+    by_weights(shape_of(basis, depth, count, parameter), controls, points).into()
 }
 
 // The same by halving: `outline::by_halving`.
@@ -123,7 +123,7 @@ pub extern "C" fn quorilanth_by_halving(
 ) -> Drawing
     ensures { outcome result points.new ≡ answered drawing_of (draws (shape_of basis depth count parameter) controls.now points.old) }
 {
-    drawing_of(by_halving(shape_of(basis, depth, count, parameter), controls, points))
+    by_halving(shape_of(basis, depth, count, parameter), controls, points).into()
 }
 
 // The same by differences: `outline::by_differences`.
@@ -138,28 +138,27 @@ pub extern "C" fn quorilanth_by_differences(
 ) -> Drawing
     ensures { outcome result points.new ≡ answered drawing_of (draws (shape_of basis depth count parameter) controls.now points.old) }
 {
-    drawing_of(by_differences(shape_of(basis, depth, count, parameter), controls, points))
+    by_differences(shape_of(basis, depth, count, parameter), controls, points).into()
 }
 
 // What a drawing by tolerance answered, as numbers.
-fn choosing_of(chosen: Chosen) -> Choosing
-    ensures { result ≡ choosing_of chosen }
-{
-    match chosen {
-        Chosen::Done(steps) => Choosing {
-            number: 0,
-            place: 0,
-            points: steps.points,
-            cuts: steps.cuts,
-            exact: steps.exact,
-        },
-        Chosen::Refused(refusal) => Choosing {
-            number: refusal.number,
-            place: refusal.place,
-            points: 0,
-            cuts: 0,
-            exact: 0,
-        },
+impl From<Result<Steps, Refusal>> for Choosing {
+    ghost from_gives = { λ answer numbers. numbers ≡ choosing_of answer };
+
+    fn from(answer: Result<Steps, Refusal>) -> Choosing {
+        match answer {
+            Ok(steps) => Choosing {
+                points: steps.points,
+                cuts: steps.cuts,
+                exact: steps.exact,
+                ..Choosing::default()
+            },
+            Err(refusal) => Choosing {
+                number: refusal.number,
+                place: refusal.place,
+                ..Choosing::default()
+            },
+        }
     }
 }
 
@@ -177,36 +176,35 @@ pub extern "C" fn quorilanth_by_tolerance(
 ) -> Choosing
     ensures { outcome result points.new ≡ answered choosing_of (chooses (shape_of basis depth count parameter) tolerance most controls.now points.old) }
 {
-    choosing_of(by_tolerance(
+    by_tolerance(
         shape_of(basis, depth, count, parameter),
         tolerance,
         most,
         controls,
         points,
-    ))
+    )
+    .into()
 }
 
 // What an edit answered, as numbers.
-fn editing_of(edited: Edited) -> Editing
-    ensures { result ≡ editing_of edited }
-{
-    match edited {
-        Edited::Done(change) => Editing {
-            number: 0,
-            place: 0,
-            count: change.shape.count,
-            first: change.first,
-            fresh: change.fresh,
-            exact: change.exact,
-        },
-        Edited::Refused(refusal) => Editing {
-            number: refusal.number,
-            place: refusal.place,
-            count: 0,
-            first: 0,
-            fresh: 0,
-            exact: 0,
-        },
+impl From<Result<Change, Refusal>> for Editing {
+    ghost from_gives = { λ answer numbers. numbers ≡ editing_of answer };
+
+    fn from(answer: Result<Change, Refusal>) -> Editing {
+        match answer {
+            Ok(change) => Editing {
+                count: change.shape.count,
+                first: change.first,
+                fresh: change.fresh,
+                exact: change.exact,
+                ..Editing::default()
+            },
+            Err(refusal) => Editing {
+                number: refusal.number,
+                place: refusal.place,
+                ..Editing::default()
+            },
+        }
     }
 }
 
@@ -225,14 +223,15 @@ pub extern "C" fn quorilanth_move(
 ) -> Editing
     ensures { outcome result (controls.new, points.new) ≡ answered editing_of (edits (Move x y) (shape_of basis depth count parameter) place controls.old points.old) }
 {
-    editing_of(move_record(
+    move_record(
         shape_of(basis, depth, count, parameter),
         place,
         x,
         y,
         controls,
         points,
-    ))
+    )
+    .into()
 }
 
 // A new record (x, y) stands before record `place`, or last: `edit::insert_record`.
@@ -250,14 +249,15 @@ pub extern "C" fn quorilanth_insert(
 ) -> Editing
     ensures { outcome result (controls.new, points.new) ≡ answered editing_of (edits (Insert x y) (shape_of basis depth count parameter) place controls.old points.old) }
 {
-    editing_of(insert_record(
+    insert_record(
         shape_of(basis, depth, count, parameter),
         place,
         x,
         y,
         controls,
         points,
-    ))
+    )
+    .into()
 }
 
 // Record `place` is taken out: `edit::remove_record`.
@@ -273,29 +273,31 @@ pub extern "C" fn quorilanth_remove(
 ) -> Editing
     ensures { outcome result (controls.new, points.new) ≡ answered editing_of (edits Remove (shape_of basis depth count parameter) place controls.old points.old) }
 {
-    editing_of(remove_record(
+    remove_record(
         shape_of(basis, depth, count, parameter),
         place,
         controls,
         points,
-    ))
+    )
+    .into()
 }
 
 // What a preview answered, as numbers.
-fn previewing_of(previewed: Previewed) -> Previewing
-    ensures { result ≡ previewing_of previewed }
-{
-    match previewed {
-        Previewed::Drawn(points) => Previewing {
-            number: 0,
-            place: 0,
-            points,
-        },
-        Previewed::Refused(refusal) => Previewing {
-            number: refusal.number,
-            place: refusal.place,
-            points: 0,
-        },
+impl From<Result<usize, Refusal>> for Previewing {
+    ghost from_gives = { λ answer numbers. numbers ≡ previewing_of answer };
+
+    fn from(answer: Result<usize, Refusal>) -> Previewing {
+        match answer {
+            Ok(points) => Previewing {
+                points,
+                ..Previewing::default()
+            },
+            Err(refusal) => Previewing {
+                number: refusal.number,
+                place: refusal.place,
+                ..Previewing::default()
+            },
+        }
     }
 }
 
@@ -311,5 +313,5 @@ pub extern "C" fn quorilanth_preview(
 ) -> Previewing
     ensures { outcome result points.new ≡ answered previewing_of (previewing (shape_of basis depth count parameter) controls.now points.old) }
 {
-    previewing_of(preview(shape_of(basis, depth, count, parameter), controls, points))
+    preview(shape_of(basis, depth, count, parameter), controls, points).into()
 }
