@@ -1,8 +1,8 @@
 // A text that a program writes: a line, or several. Words and numbers go behind what stands there; one that does not fit is left out, and what comes next stands in its place.
-ghost use Rattle.std.specs.Prelude.{◌≤◌};
 
 use itoa::{Buffer, Integer};
 use listing::put_word;
+use std::marker::Model;
 
 // The bit pattern that stands for every NaN: the quiet one's.
 const QUIET_NAN: u64 = 0x7ff8_0000_0000_0000;
@@ -12,12 +12,27 @@ const QUIET_NAN: u64 = 0x7ff8_0000_0000_0000;
 pub struct Text<const N: usize> {
     bytes: [u8; N],
     end: usize,
-    ghost within: { end ≤ N },
+}
+
+impl<const N: usize> Model for Text<N> {
+    ghost use Rattle.std.specs.Prelude.{◌≤◌, ℕ, List, take};
+
+    ghost Value = { List ℕ };
+
+    ghost view = { λ t. take t.end t.bytes };
+
+    ghost invariant = { λ t. t.end ≤ N };
 }
 
 impl<const N: usize> Text<N> {
+    ghost use Rattle.std.specs.Prelude.{◌≡◌, [], ◌∷◌};
+    ghost use Rattle.std.specs.Fmt.{decimal};
+    ghost use Rattle.console.specs.Text.{with_word, with_spaced};
+
     // No character.
-    pub fn new() -> Self {
+    pub fn new() -> Self
+        ensures { result ≡ [] }
+    {
         Text {
             bytes: [0; N],
             end: 0,
@@ -25,34 +40,46 @@ impl<const N: usize> Text<N> {
     }
 
     // The characters.
-    pub fn written(&self) -> &[u8] {
+    pub fn written(&self) -> &[u8]
+        ensures { result.now ≡ self.now }
+    {
         &self.bytes[..self.end]
     }
 
     // A word as it is.
-    pub fn add_word(&mut self, word: &[u8]) {
+    pub fn add_word(&mut self, word: &[u8])
+        ensures { self.new ≡ with_word N self.old word.now }
+    {
         let at = self.end;
         self.end = put_word(&mut self.bytes, at, word).unwrap_or(at);
     }
 
     // The end of a line.
-    pub fn end_line(&mut self) {
+    pub fn end_line(&mut self)
+        ensures { self.new ≡ with_word N self.old (10 ∷ []) }
+    {
         self.add_word(b"\n");
     }
 
     // A whole number, with a minus sign where it is negative.
-    pub fn add_number<I: Integer>(&mut self, n: I) {
+    pub fn add_number<I: Integer>(&mut self, n: I)
+        ensures { self.new ≡ with_word N self.old (I.text n) }
+    {
         self.add_word(Buffer::new().format(n).as_bytes());
     }
 
     // A space and a whole number.
-    pub fn add_spaced_number<I: Integer>(&mut self, n: I) {
+    pub fn add_spaced_number<I: Integer>(&mut self, n: I)
+        ensures { self.new ≡ with_spaced N self.old (I.text n) }
+    {
         self.add_word(b" ");
         self.add_number(n);
     }
 
     // A word, a space and a natural number.
-    pub fn add_phrase(&mut self, word: &[u8], n: usize) {
+    pub fn add_phrase(&mut self, word: &[u8], n: usize)
+        ensures { self.new ≡ with_spaced N (with_word N self.old word.now) (decimal n) }
+    {
         self.add_word(word);
         self.add_spaced_number(n);
     }
