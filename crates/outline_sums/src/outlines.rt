@@ -2,7 +2,6 @@
 ghost use Rattle.std.specs.Prelude.{◌<◌};
 
 use crate::Text;
-use console::{add_phrase, add_spaced_number, add_word, add_x, end_line};
 use curve::DEEPEST;
 use outline::{Drawn, by_weights};
 use shape::Shape;
@@ -30,23 +29,19 @@ pub(crate) fn shape_of(basis: usize, depth: usize, count: usize) -> Shape {
 }
 
 // P1 to P8.
-pub(crate) fn put_bases(text: &mut Text, at: usize) -> usize {
-    let mut end = at;
-    let mut number = 1;
-    while number < 9 {
-        end = put_base(text, end, number);
-        number += 1;
+pub(crate) fn put_bases(text: &mut Text) {
+    for number in 1..9 {
+        put_base(text, number);
     }
-    end
 }
 
 // The line of one of them: two sums for each basis in turn.
-fn put_base(text: &mut Text, at: usize, number: usize) -> usize
+fn put_base(text: &mut Text, number: usize)
     requires { number < 9 }
 {
-    let start = add_word(text, at, &[b'P', b'0' + number as u8, b' ']);
+    text.add_word(&[b'P', b'0' + number as u8, b' ']);
     let shape = shape_of((number + 1) / 2, depth_of(number), 4);
-    put_outline(text, start, shape, &records_of(number), true)
+    put_outline(text, shape, &records_of(number), true);
 }
 
 // The records of P1 to P8.
@@ -68,65 +63,53 @@ fn depth_of(number: usize) -> usize {
 }
 
 // The line of an outline: the basis, the records' x and the depth, and what is drawn.
-pub(crate) fn put_outline(
-    text: &mut Text,
-    at: usize,
-    shape: Shape,
-    controls: &[i32],
-    all: bool,
-) -> usize {
-    let past_shape = put_shape(text, at, shape, controls);
-    let start = add_word(text, past_shape, b":");
-    let end = put_drawn(text, start, shape, controls, all);
-    end_line(text, end)
+pub(crate) fn put_outline(text: &mut Text, shape: Shape, controls: &[i32], all: bool) {
+    put_shape(text, shape, controls);
+    text.add_word(b":");
+    put_drawn(text, shape, controls, all);
+    text.end_line();
 }
 
 // The basis, the records' x and the depth.
-pub(crate) fn put_shape(text: &mut Text, at: usize, shape: Shape, controls: &[i32]) -> usize {
-    let past_records = put_records(text, at, shape, controls);
-    add_phrase(text, past_records, b" depth", shape.depth)
+pub(crate) fn put_shape(text: &mut Text, shape: Shape, controls: &[i32]) {
+    put_records(text, shape, controls);
+    text.add_phrase(b" depth", shape.depth);
 }
 
 // The basis and the records' x.
-pub(crate) fn put_records(text: &mut Text, at: usize, shape: Shape, controls: &[i32]) -> usize {
-    let past_basis = put_basis(text, at, shape.basis);
-    add_x(text, past_basis, controls, shape.count)
+pub(crate) fn put_records(text: &mut Text, shape: Shape, controls: &[i32]) {
+    put_basis(text, shape.basis);
+    text.add_x(controls, shape.count);
 }
 
-fn put_basis(text: &mut Text, at: usize, basis: usize) -> usize {
+fn put_basis(text: &mut Text, basis: usize) {
     match basis {
-        BEZIER => add_word(text, at, b"Bezier"),
-        B_SPLINE => add_word(text, at, b"B-spline"),
-        CARDINAL => add_word(text, at, b"cardinal"),
-        LOOP => add_word(text, at, b"loop"),
-        _ => add_word(text, at, b"Hermite"),
+        BEZIER => text.add_word(b"Bezier"),
+        B_SPLINE => text.add_word(b"B-spline"),
+        CARDINAL => text.add_word(b"cardinal"),
+        LOOP => text.add_word(b"loop"),
+        _ => text.add_word(b"Hermite"),
     }
 }
 
 // What is drawn: the x of all points, or only how many there are, and how many coordinates are exact; or the refusal.
-pub(crate) fn put_drawn(
-    text: &mut Text,
-    at: usize,
-    shape: Shape,
-    controls: &[i32],
-    all: bool,
-) -> usize {
+pub(crate) fn put_drawn(text: &mut Text, shape: Shape, controls: &[i32], all: bool) {
     let mut points = [0i32; ROOM];
     match by_weights(shape, controls, &mut points) {
         Drawn::Done(figures) => {
-            let end = if all {
-                add_x(text, at, &points, figures.points)
+            if all {
+                text.add_x(&points, figures.points);
             } else {
-                add_phrase(text, at, b" drawn", figures.points)
-            };
-            add_phrase(text, end, b" exact", figures.exact)
+                text.add_phrase(b" drawn", figures.points);
+            }
+            text.add_phrase(b" exact", figures.exact);
         }
-        Drawn::Refused(refusal) => put_refusal(text, at, refusal.number, refusal.place),
+        Drawn::Refused(refusal) => put_refusal(text, refusal.number, refusal.place),
     }
 }
 
 // A refusal: its number and its place.
-pub(crate) fn put_refusal(text: &mut Text, at: usize, number: usize, place: usize) -> usize {
-    let past_number = add_phrase(text, at, b" refused", number);
-    add_spaced_number(text, past_number, place)
+pub(crate) fn put_refusal(text: &mut Text, number: usize, place: usize) {
+    text.add_phrase(b" refused", number);
+    text.add_spaced_number(place);
 }
