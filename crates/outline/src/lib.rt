@@ -8,7 +8,11 @@ ghost use Rattle.outline.specs.Outline.{draws, draws_plan};
 ghost use Rattle.outline.specs.View.{part_of, viewed};
 
 use shape::{Checked, Judged, Plan, Refusal, Shape, check_lists, check_shape};
-use spans::run::{Way, fill_spans};
+use spans::halving::ByHalving;
+use spans::run::fill_spans;
+use spans::stepping::ByDifferences;
+use spans::way::Way;
+use spans::weights::ByWeights;
 
 // How many points stand in the list now, and how many of their coordinates are exact: the curve itself is there at a whole number. x and y are counted each by itself.
 #[derive(Clone, Copy)]
@@ -29,35 +33,35 @@ pub enum Drawn {
 pub fn by_weights(shape: Shape, controls: &[i32], points: &mut [i32]) -> Drawn
     ensures { outcome result points.new ≡ draws shape controls.now points.old }
 {
-    draw(Way::Weights, shape, controls, points)
+    draw::<ByWeights>(shape, controls, points)
 }
 
 // The same by halving: each span cut at its middle again and again.
 pub fn by_halving(shape: Shape, controls: &[i32], points: &mut [i32]) -> Drawn
     ensures { outcome result points.new ≡ draws shape controls.now points.old }
 {
-    draw(Way::Halving, shape, controls, points)
+    draw::<ByHalving>(shape, controls, points)
 }
 
 // The same by differences: three additions from point to point.
 pub fn by_differences(shape: Shape, controls: &[i32], points: &mut [i32]) -> Drawn
     ensures { outcome result points.new ≡ draws shape controls.now points.old }
 {
-    draw(Way::Differences, shape, controls, points)
+    draw::<ByDifferences>(shape, controls, points)
 }
 
 // The checks of the shape, rows 1, 2, 24, 3, and the rest where they pass.
-fn draw(way: Way, shape: Shape, controls: &[i32], points: &mut [i32]) -> Drawn
+fn draw<W: Way>(shape: Shape, controls: &[i32], points: &mut [i32]) -> Drawn
     ensures { outcome result points.new ≡ draws shape controls.now points.old }
 {
     match check_shape(shape) {
         Judged::Unsound(refusal) => Drawn::Refused(refusal),
-        Judged::Sound(plan) => draw_plan(way, shape, plan, controls, points),
+        Judged::Sound(plan) => draw_plan::<W>(shape, plan, controls, points),
     }
 }
 
 // The checks of the lists, rows 7 to 9, and the points where they pass.
-fn draw_plan(way: Way, shape: Shape, plan: Plan, controls: &[i32], points: &mut [i32]) -> Drawn
+fn draw_plan<W: Way>(shape: Shape, plan: Plan, controls: &[i32], points: &mut [i32]) -> Drawn
     requires { Good shape plan }
     ensures { outcome result points.new ≡ draws_plan shape.count plan controls.now points.old }
 {
@@ -65,7 +69,7 @@ fn draw_plan(way: Way, shape: Shape, plan: Plan, controls: &[i32], points: &mut 
     if let Checked::Bad(refusal) = check_lists(shape.count, controls, count, points.len()) {
         return Drawn::Refused(refusal);
     }
-    let exact = fill_spans(way, points, controls, plan, 0, plan.spans);
+    let exact = fill_spans::<W>(points, controls, plan, 0, plan.spans);
     Drawn::Done(Figures {
         points: count,
         exact,
