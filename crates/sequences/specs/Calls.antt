@@ -40,7 +40,7 @@ pub record Meets
 
 -- ---- drawing
 
--- The three ways of document 01.
+-- The three ways to draw.
 pub data Way : Type 0 where
   Weights : Way
   Halving : Way
