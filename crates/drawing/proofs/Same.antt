@@ -1,13 +1,12 @@
--- Two controls are the same exactly when the test says so, and the machine's bits of two numbers agree exactly when the numbers do.
-use mathlib.Core.Path.{◌≡◌, refl, sym, ap, ◌∙◌, subst}
-use mathlib.Core.Bool.{true, false}
+-- Two controls are the same exactly when the test says so, and the derived `==` is that test.
+use Rattle.std.specs.Ordering.{int_eq}
+use Rattle.std.proofs.lemmas.Bool.Decides.{same_from_decides, Decides-int_eq}
+use mathlib.Core.Path.{◌≡◌, refl, sym, subst}
+use mathlib.Core.Bool.{true, false, ◌&&◌}
 use mathlib.Core.Logic.{⊎_elim}
-use borrow.Author.Tests.{eq-eqb, eqb-true, eqb-false}
-use lib.Dec.{T, eqb}
+use borrow.Author.Tests.{eq-eqb}
+use lib.Dec.{T}
 use lib.IntN.{ℤ, pos, negsuc}
-use mir.Syntax.{Width}
-use mir.Val.{SFits, to_z, of_z}
-use Rattle.whole.proofs.Fit.{kept-is}
 use Rattle.curve.specs.Numbers.{equal}
 use Rattle.curve.proofs.Equal.{equal-same}
 use Rattle.shape.proofs.Tests.{passes, and-true}
@@ -32,14 +31,9 @@ same-is a b e =
     let h = and-true (equal a.x b.x) (equal a.y b.y) e in
     (λ k. record { x = equal_is a.x b.x h.0 k; y = equal_is a.y b.y h.1 k })
 
--- ---- the machine's bits
+-- the derived `==` of two controls is that test
+tests_numbers : (a b : ℤ) → int_eq a b ≡ equal a b
+tests_numbers a b = same_from_decides (int_eq a b) (equal a b) (Decides-int_eq a b) (equal_is a b, is-equal a b)
 
-module _ (w : Width) (a b : ℤ) (fa : SFits w a) (fb : SFits w b) where
-  pub same_bits : of_z w a ≡ of_z w b → a ≡ b
-  same_bits e = sym (kept-is w a fa) ∙ ap (to_z w) e ∙ kept-is w b fb
-
-  pub bits-test : eqb (of_z w a) (of_z w b) ≡ equal a b
-  bits-test =
-      ⊎_elim (λ t. t ∙ sym (is-equal a b (same_bits (eqb-true (of_z w a) (of_z w b) t))))
-      (λ f. f ∙ sym (is-unequal a b (λ e. eqb-false (of_z w a) (of_z w b) f (ap (of_z w) e))))
-      (passes (eqb (of_z w a) (of_z w b)))
+pub tests_same : (a b : Control) → (int_eq a.x b.x && int_eq a.y b.y) ≡ same a b
+tests_same a b = rw (tests_numbers a.x b.x, tests_numbers a.y b.y)
