@@ -1,4 +1,4 @@
-// Writes the sums that document 01 holds the outlines to, a line each: what is asked, and what the libraries answer.
+// Writes the worked sums that the outlines are held to, a line each: what is asked, and what the libraries answer.
 #![tactic(auto)]
 
 mod drawings;
@@ -8,26 +8,29 @@ mod loops;
 mod outlines;
 mod parameters;
 
-use console::{length_of, write_output};
+use arrayvec::ArrayString;
+use console::write_output;
+use std::fmt;
 
-// The text of the sums: as many bytes as a buffer has.
-pub(crate) type Text = [u8; 4096];
+// The most bytes that the sums have.
+const LONGEST: usize = 4096;
 
-// Every sum in the paper's order, and those of requests 7 and 8.
+// The text of the sums: a string in fixed memory, as wherever the programs write.
+pub(crate) type Text = ArrayString<LONGEST>;
+
+// Text that does not fit would end what is written.
 fn main(rt: HostRuntime) {
-    let mut text = [0u8; 4096];
-    let past_bases = outlines::put_bases(&mut text, 0);
-    let past_edits = edits::put_edits(&mut text, past_bases);
-    let past_millimetres = drawings::put_millimetres(&mut text, past_edits);
-    let past_limits = limits::put_limits(&mut text, past_millimetres);
-    let past_parameters = parameters::put_parameters(&mut text, past_limits);
-    let end = loops::put_loops(&mut text, past_parameters);
-    send(&rt, &text, end);
+    let mut text = Text::new();
+    let _ = put_sums(&mut text);
+    let _ = write_output(&rt, text.as_bytes());
 }
 
-// Writes the text up to its end.
-fn send(rt: &(impl Print + Eprint), text: &Text, end: usize) {
-    let bytes: &[u8] = text;
-    let length = length_of(end, bytes);
-    let _ = write_output(rt, &bytes[..length]);
+// Every sum: those of the bases, of edits and of a drawing's numbers, at the limits, with a parameter, and of loops.
+fn put_sums(text: &mut Text) -> fmt::Result {
+    outlines::put_bases(text)?;
+    edits::put_edits(text)?;
+    drawings::put_millimetres(text)?;
+    limits::put_limits(text)?;
+    parameters::put_parameters(text)?;
+    loops::put_loops(text)
 }
