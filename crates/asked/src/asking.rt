@@ -16,7 +16,8 @@ fn put_record(controls: &mut [i32], place: usize, x: i32, y: i32)
 
 // A new record (x, y) stands before record `place` of `count`, and the rest one record on.
 fn put_in(controls: &mut [i32], place: usize, count: usize, x: i32, y: i32)
-    requires { (place ≤ count) × (2 * count + 2 ≤ length controls.old) }
+    requires in_range { place ≤ count }
+    requires room { 2 * count + 2 ≤ length controls.old }
     ensures { controls.new ≡ asked (Edit.Insert x y) place controls.old (count + 1) }
 {
     controls.copy_within(2 * place..2 * count, 2 * place + 2);
@@ -25,7 +26,8 @@ fn put_in(controls: &mut [i32], place: usize, count: usize, x: i32, y: i32)
 
 // Record `place` of `count` is taken out, and the rest one record back.
 fn take_out(controls: &mut [i32], place: usize, count: usize)
-    requires { (place < count) × (2 * count ≤ length controls.old) }
+    requires in_range { place < count }
+    requires held { 2 * count ≤ length controls.old }
     ensures { controls.new ≡ asked Edit.Remove place controls.old (count - 1) }
 {
     controls.copy_within(2 * place + 2..2 * count, 2 * place);

@@ -1,2 +1,3 @@
 pub mod Argument
 pub mod Input
+pub mod Text

@@ -3,12 +3,10 @@
 
 mod argument;
 mod input;
-mod line;
-mod number;
 mod output;
+mod text;
 
 pub use argument::{number_of, read_argument};
 pub use input::read_input;
-pub use line::{add_numbers, add_patterns, add_spaced_numbers, add_x};
-pub use number::{add_number, add_phrase, add_spaced_number, add_word, end_line, length_of};
 pub use output::{tell, write_listing, write_output};
+pub use text::Text;

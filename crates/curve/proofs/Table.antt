@@ -2,7 +2,7 @@
 -- row, are the published weights there.
 use mathlib.Core.Path.{◌≡◌, sym, ap, ◌∙◌}
 use Prim.Native.Nat.{ℕ, zero, suc, ◌+◌, ◌*◌, ◌-◌, ◌/◌, ◌%◌, ◌^◌, ◌≤◌, ◌<◌}
-use native.Mathlib.Nat.{le_trans, le_of_eq, lt_of_lt_of_le, zero-add, mul_comm, suc-mul, mul-le-mul_right, mod-add-div, add-mod_right, add-div_right, div-lt_iff_lt-mul, div-eq_of_eq-mul_left}
+use native.Mathlib.Nat.{le_trans, zero-add, mul_comm, mul-le-mul_right, div-eq_of_eq-mul_left}
 use native.Mathlib.Omega.{arith}
 use lib.Dec.{ltb, ltb→lt, nltb→le, lit≤}
 use lib.Pow.{pow-add, pow_pos}
@@ -42,6 +42,13 @@ by-table k b q j =
     ap (λ (n : ℕ). weighted q (pos (row k j)) (pos n)) (rows_all k b)
     ∙ weighted-scale (pos (apart k)) q (pos j) (pos (2 ^ k))
     ∙ ap (λ (n : ℕ). pos n *ℤ weighted q (pos j) (pos (2 ^ k))) (sym (thrice (deepest - k)))
+
+-- as many rows as steps, and so far apart
+pub all-steps : (k : ℕ) → k ≤ deepest → 2 ^ deepest / apart k ≡ 2 ^ k
+all-steps k b = div-eq_of_eq-mul_left (pow_pos (deepest - k)) (rows_all k b)
+
+pub all-apart : (k : ℕ) → k ≤ deepest → 2 ^ deepest / 2 ^ k ≡ apart k
+all-apart k b = div-eq_of_eq-mul_left (pow_pos k) (rows_all k b ∙ mul_comm (2 ^ k) (apart k))
 
 -- the row of a step is in the table
 pub row-within : (k i : ℕ) → k ≤ deepest → i ≤ 2 ^ k → row k i ≤ 2 ^ deepest

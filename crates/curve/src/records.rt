@@ -1,5 +1,5 @@
 // Which records a span uses, and its Bezier controls, so many times that all are whole.
-ghost use Rattle.std.specs.Prelude.{◌≡◌, ◌+◌, ◌*◌, ◌^◌, ◌≤◌, ◌<◌, nat_abs, length};
+ghost use Rattle.std.specs.Prelude.{◌≡◌, [], ◌∷◌, ◌+◌, ◌*◌, ◌^◌, ◌≤◌, ◌<◌, nat_abs, length};
 ghost use Rattle.curve.specs.Published.{most_parameter};
 ghost use Rattle.curve.specs.Limits.{Inside, limit, parameter_of};
 ghost use Rattle.curve.specs.Inner.{Holds, HoldsFrom};
@@ -64,25 +64,41 @@ pub fn recounted(count: usize, basis: Basis) -> Basis
     }
 }
 
-// The coordinate of a record, as a basis counts them, on an axis: 0 is x, 1 is y.
-fn coordinate_of(controls: &[i32], basis: Basis, place: usize, axis: usize) -> i64
-    requires { (axis < 2) × (2 * record_at basis place + 2 ≤ length controls.now) }
-    ensures { result ≡ coordinate controls.now axis (record_at basis place) }
+// Four records from `first` on, as a basis counts them: those of an open one stand for themselves, and need not be counted.
+fn four_places(basis: Basis, first: usize) -> [usize; 4]
+    requires { first ≤ 3 * 2 ^ 62 }
+    ensures { result ≡ record_at basis first ∷ record_at basis (first + 1) ∷ record_at basis (first + 2) ∷ record_at basis (first + 3) ∷ [] }
 {
-    controls[2 * record_at(basis, place) + axis] as i64
+    match basis {
+        Basis::Loop(count) => [
+            round_end(count, first),
+            round_end(count, first + 1),
+            round_end(count, first + 2),
+            round_end(count, first + 3),
+        ],
+        _ => [first, first + 1, first + 2, first + 3],
+    }
 }
 
-// The four records of a span on an axis, each as the basis counts it.
+// The coordinate of a record on an axis: 0 is x, 1 is y.
+fn coordinate_of(controls: &[i32], place: usize, axis: usize) -> i64
+    requires { (axis < 2) × (2 * place + 2 ≤ length controls.now) }
+    ensures { result ≡ coordinate controls.now axis place }
+{
+    controls[2 * place + axis] as i64
+}
+
+// The four records of a span on an axis.
 pub fn four_records(controls: &[i32], basis: Basis, span: usize, axis: usize) -> Four
     requires { (span < 2 ^ 62) × (axis < 2) × Holds basis span (length controls.now) }
     ensures { result ≡ records basis span (coordinate controls.now axis) }
 {
-    let first = first_record(basis, span);
+    let [a, b, c, d] = four_places(basis, first_record(basis, span));
     Four {
-        a: coordinate_of(controls, basis, first, axis),
-        b: coordinate_of(controls, basis, first + 1, axis),
-        c: coordinate_of(controls, basis, first + 2, axis),
-        d: coordinate_of(controls, basis, first + 3, axis),
+        a: coordinate_of(controls, a, axis),
+        b: coordinate_of(controls, b, axis),
+        c: coordinate_of(controls, c, axis),
+        d: coordinate_of(controls, d, axis),
     }
 }
 

@@ -7,7 +7,7 @@ ghost use Rattle.shape.specs.Shape.{most_records};
 ghost use Rattle.shape.specs.Refusals.{judge_shape};
 ghost use Rattle.listing.specs.Written.{Within, written};
 ghost use Rattle.file_list.specs.Files.{refused_text, writes};
-ghost use Rattle.file_list.specs.Inner.{own_numbers, Copied};
+ghost use Rattle.file_list.specs.Inner.{Copied};
 ghost use Rattle.file_list.specs.Parts.{alone_basis, own_points, records_text, span_text, outline_part, only_part, shape_part, part_text, parts_of};
 
 use crate::{LINE, count_of, put_refusal};
@@ -36,14 +36,19 @@ pub fn parts_of(reading: Result<Shape, Refusal>) -> usize
         return 1;
     };
     match check_shape(shape) {
-        Err(_) => 1,
         Ok(plan) => plan.spans + 1,
+        Err(_) => 1,
     }
 }
 
 // Writes one part of the listing from the start of `text`, and answers how many characters it has: 0 where they do not fit, and where there is no such part. The controls are those that
 // reading the file left.
-pub fn list_part(reading: Result<Shape, Refusal>, part: usize, controls: &[i32], text: &mut [u8]) -> usize
+pub fn list_part(
+    reading: Result<Shape, Refusal>,
+    part: usize,
+    controls: &[i32],
+    text: &mut [u8],
+) -> usize
     ensures within { Within result text.new }
     ensures text_after { outcome result text.new ≡ writes (part_text reading controls.now part) text.old }
 {
@@ -51,7 +56,12 @@ pub fn list_part(reading: Result<Shape, Refusal>, part: usize, controls: &[i32],
 }
 
 // The part itself, by what reading the file came to.
-fn put_part(reading: Result<Shape, Refusal>, part: usize, controls: &[i32], text: &mut [u8]) -> Option<usize>
+fn put_part(
+    reading: Result<Shape, Refusal>,
+    part: usize,
+    controls: &[i32],
+    text: &mut [u8],
+) -> Option<usize>
     ensures { outcome result text.new ≡ written text.old 0 (part_text reading controls.now part) }
 {
     match reading {
@@ -115,31 +125,23 @@ fn put_span(
     requires span_lt_spans { span < plan.spans }
     ensures { outcome result text.new ≡ written text.old 0 (span_text shape plan controls.now span) }
 {
-    let basis = plan.basis;
-    let mut own = [0i32; OWN_NUMBERS];
-    if copy_span(controls, basis, span, &mut own) {
-        put_lines(shape, plan, span, &own, text)
-    } else {
-        Some(0)
+    match own_records(controls, plan.basis, span) {
+        Some(own) => put_lines(shape, plan, span, &own, text),
+        None => Some(0),
     }
 }
 
-// Copies the four records of a span, as its basis counts them, into a list of their length. It answers false where the list that has them ends before one.
-fn copy_span(controls: &[i32], basis: Basis, span: usize, own: &mut [i32]) -> bool
-    requires { (span < most_records) × (length own.old ≡ own_numbers) }
-    ensures { Copied basis controls.now span own.new result }
+// The numbers of a span's four records, as its basis counts them; none where the list that has them ends before one.
+fn own_records(controls: &[i32], basis: Basis, span: usize) -> Option<[i32; OWN_NUMBERS]>
+    requires { span < most_records }
+    ensures { Copied basis controls.now span result }
 {
     let first = first_record(basis, span);
-    let mut q = 0;
-    while q < own.len() {
-        let at = 2 * record_at(basis, first + q / 2) + q % 2;
-        if controls.len() <= at {
-            return false;
-        }
-        own[q] = controls[at];
-        q += 1;
+    let mut own = [0i32; OWN_NUMBERS];
+    for q in 0..OWN_NUMBERS {
+        own[q] = *controls.get(2 * record_at(basis, first + q / 2) + q % 2)?;
     }
-    true
+    Some(own)
 }
 
 // The number of the basis that a span has by itself: a loop's span is a B-spline's.
@@ -164,9 +166,8 @@ fn put_lines(
     let mut points = [0i32; SPAN_NUMBERS];
     let one = Shape {
         basis: alone_basis(shape.basis),
-        depth: shape.depth,
         count: LEAST_RECORDS,
-        parameter: shape.parameter,
+        ..shape
     };
     let Ok(_) = by_differences(one, records, &mut points) else {
         return Some(0);

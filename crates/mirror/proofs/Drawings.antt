@@ -15,7 +15,6 @@ use Rattle.shape.specs.declared.Plan.{Plan}
 use Rattle.shape.specs.declared.Refusal.{Refusal}
 use Rattle.shape.specs.Refusals.{First, NoRow, judge, shape_rows, point_rows, plan_of}
 use Rattle.shape.proofs.Refusals.{judge-first, judge-none, verdict}
-use Rattle.spans.specs.declared.run.Way.{Way}
 use Rattle.spans.specs.Numbers.{number}
 use Rattle.outline.specs.declared.Figures.{Figures}
 use Rattle.outline.specs.Outline.{points, draw_rows, drawn, figures_of, accepts, draws}
@@ -23,7 +22,7 @@ use Rattle.outline.specs.View.{empty_part, out_of_sight, part_of, viewed}
 use Rattle.outline.proofs.Views.{span_part}
 use Rattle.outline.proofs.Exactly.{done_none, none-drawn, done-figures}
 use Rattle.outline.proofs.Held.{held_number}
-use Rattle.sequences.specs.Calls.{MeetsDrawing}
+use Rattle.sequences.specs.Calls.{Way, MeetsDrawing}
 use Rattle.sequences.proofs.Calls.{meets-draws}
 use Rattle.mirror.specs.Mirror.{Axis, across, mirror, mirror_drawn}
 use Rattle.mirror.proofs.Lists.{length-mirrored, mirrored-rule, mirrored-take, mirrored-drop, control_rows-mirror, judge-mirror}

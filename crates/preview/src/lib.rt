@@ -1,7 +1,7 @@
 // The preview of document 01: the outline of basis 1 in doubles, by halving at midpoints. The one public call, `preview`, has no `requires`.
 #![tactic(auto)]
 
-ghost use Rattle.std.specs.Prelude.{Err, ◌≡◌, ◌+◌, ◌*◌, ◌^◌, ◌≤◌, ◌<◌, length, set};
+ghost use Rattle.std.specs.Prelude.{Err, ◌≡◌, ◌+◌, ◌*◌, ◌^◌, ◌≤◌, ◌<◌, length};
 ghost use Rattle.std.proofs.lemmas.List.Edits.{sets};
 ghost use Rattle.whole.specs.Outcome.{outcome, refuses};
 ghost use Rattle.curve.specs.Span.{first_record};
@@ -78,7 +78,8 @@ impl Piece {
 
 // The first points of the 2^left pieces of a piece: it is cut until no cut is left.
 fn fill_pieces(points: &mut [f64], left: usize, piece: Piece)
-    requires { (left ≤ deepest) × (length points.old ≡ 2 * 2 ^ left) }
+    requires deep { left ≤ deepest }
+    requires own_part { length points.old ≡ 2 * 2 ^ left }
     ensures { points.new ≡ pieces left piece }
 {
     if left == 0 {
@@ -93,8 +94,10 @@ fn fill_pieces(points: &mut [f64], left: usize, piece: Piece)
 
 // The points of a span but its end.
 fn fill_span(controls: &[i32], span: usize, depth: usize, points: &mut [f64])
-    requires room { (depth ≤ deepest) × (length points.old ≡ 2 * 2 ^ depth) }
-    requires span_lt_most_records { (span < most_records) × (2 * first_record Basis.Bezier span + 8 ≤ length controls.now) }
+    requires deep { depth ≤ deepest }
+    requires own_part { length points.old ≡ 2 * 2 ^ depth }
+    requires few { span < most_records }
+    requires held { 2 * first_record Basis.Bezier span + 8 ≤ length controls.now }
     ensures { points.new ≡ span_pieces controls.now depth span }
 {
     let first = first_record(Basis::Bezier, span);

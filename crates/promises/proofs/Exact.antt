@@ -24,13 +24,12 @@ use Rattle.shape.specs.declared.Shape.{Shape}
 use Rattle.shape.specs.declared.Plan.{Plan}
 use Rattle.shape.specs.Refusals.{plan_of}
 use Rattle.shape.proofs.Tests.{passes}
-use Rattle.spans.specs.declared.run.Way.{Way}
 use Rattle.spans.specs.Numbers.{sum_of, remainder_of, nought, noughts, exact_in}
 use Rattle.spans.proofs.Rounds.{not-nought}
 use Rattle.outline.specs.declared.Figures.{Figures}
 use Rattle.outline.specs.Outline.{figures_of, draws}
 use Rattle.outline.proofs.Exactly.{done-figures}
-use Rattle.sequences.specs.Calls.{MeetsDrawing}
+use Rattle.sequences.specs.Calls.{Way, MeetsDrawing}
 use Rattle.sequences.proofs.Calls.{meets-draws}
 use Rattle.promises.specs.Points.{published_divisor, published_value, published_number, is_whole, whole_values}
 use Rattle.promises.proofs.Points.{three_ways, drawn-published}

@@ -10,7 +10,6 @@ use lib.ListN.{get_or, length}
 use Rattle.whole.specs.Outcome.{Outcome, outcome}
 use Rattle.shape.specs.declared.Shape.{Shape}
 use Rattle.shape.specs.declared.Plan.{Plan}
-use Rattle.spans.specs.declared.run.Way.{Way}
 use Rattle.spans.specs.Numbers.{remainder_of}
 use Rattle.outline.specs.declared.Figures.{Figures}
 use Rattle.outline.specs.Outline.{draws}
@@ -19,7 +18,7 @@ use Rattle.tolerance.specs.Reading.{chooses}
 use Rattle.asked.specs.declared.Edit.{Edit}
 use Rattle.edit.specs.Reading.{edits}
 use Rattle.sequences.specs.Played.{State, Call, played}
-use Rattle.sequences.specs.Calls.{MeetsDrawing, Ends}
+use Rattle.sequences.specs.Calls.{Way, MeetsDrawing, Ends}
 use Rattle.doubles.specs.Number.{measure}
 use Rattle.drawing.specs.declared.State as drawing
 use Rattle.drawing.specs.declared.Step.{Step}

@@ -8,11 +8,10 @@ use Rattle.whole.specs.Outcome.{outcome}
 use Rattle.shape.specs.declared.Shape.{Shape}
 use Rattle.shape.specs.declared.Refusal.{Refusal}
 use Rattle.shape.specs.Refusals.{plan_of}
-use Rattle.spans.specs.declared.run.Way.{Way}
 use Rattle.outline.specs.declared.Figures.{Figures}
 use Rattle.outline.specs.Outline.{draws}
 use Rattle.sequences.specs.Played.{State, Call, state, answered, called, played, Outlined, Redraws}
-use Rattle.sequences.specs.Calls.{MeetsDrawing, Ends}
+use Rattle.sequences.specs.Calls.{Way, MeetsDrawing, Ends}
 use Rattle.sequences.proofs.Played as sequences
 use Rattle.sequences.proofs.Again as again
 use Rattle.sequences.proofs.Calls as calls

@@ -19,7 +19,6 @@ use Rattle.shape.specs.declared.Shape.{Shape}
 use Rattle.shape.specs.declared.Plan.{Plan}
 use Rattle.shape.specs.Depth.{shape_at, plan_at}
 use Rattle.shape.specs.Refusals.{plan_of}
-use Rattle.spans.specs.declared.run.Way.{Way}
 use Rattle.spans.specs.Numbers.{sum_of, remainder_of}
 use Rattle.outline.specs.declared.Figures.{Figures}
 use Rattle.outline.specs.Outline.{points, draws}
@@ -27,7 +26,7 @@ use Rattle.pieces.specs.Tree.{finest, flat_on}
 use Rattle.tolerance.specs.declared.Steps.{Steps}
 use Rattle.tolerance.specs.Reading.{chooses}
 use Rattle.tolerance.specs.Steps.{steps_along}
-use Rattle.sequences.specs.Calls.{MeetsDrawing}
+use Rattle.sequences.specs.Calls.{Way, MeetsDrawing}
 use Rattle.sequences.proofs.Calls.{meets-draws}
 use Rattle.stray.specs.Chord.{Bound, Within, Meets, bend_bound, span_bound, micrometres, half_more, off_chord, finer}
 use Rattle.stray.proofs.Again as again

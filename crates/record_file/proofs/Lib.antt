@@ -1,6 +1,6 @@
 pub mod Words
+pub mod Bytes
 pub mod Records
-pub mod Filling
 pub mod Outside
 pub mod Readings
 pub mod Exactly

@@ -33,8 +33,8 @@ module _ (file : List ℕ) (controls : List ℤ) where
       ∙ judge-none (length_rows (length file)) (refuses Err controls) (judge (records ++ later) (refuses Err controls) accepted) h
       ∙ judge-append records later (refuses Err controls) accepted
 
-  pub record-fails : NoRow (length_rows (length file)) → (r : Refusal) → judge records Err (Ok tt) ≡ Err r → reading file controls ≡ refuses Err controls r
-  record-fails h r e = length-passes h ∙ judge-first records (refuses Err controls) (judge later (refuses Err controls) accepted) r (rows-first records r e)
+  pub record-fails : NoRow (length_rows (length file)) → (r : Refusal) → ◌≡◌ {A = Result (Unit {0}) Refusal} (judge records Err (Ok tt)) (Err r) → reading file controls ≡ refuses Err controls r
+  record-fails h r e = length-passes h ∙ judge-first records (refuses Err controls) (judge later (refuses Err controls) accepted) r (rows-first records tt r e)
 
-  pub records-pass : NoRow (length_rows (length file)) → judge records Err (Ok tt) ≡ Ok tt → reading file controls ≡ judge later (refuses Err controls) accepted
-  records-pass h e = length-passes h ∙ judge-none records (refuses Err controls) (judge later (refuses Err controls) accepted) (rows_none records e)
+  pub records-pass : NoRow (length_rows (length file)) → ◌≡◌ {A = Result (Unit {0}) Refusal} (judge records Err (Ok tt)) (Ok tt) → reading file controls ≡ judge later (refuses Err controls) accepted
+  records-pass h e = length-passes h ∙ judge-none records (refuses Err controls) (judge later (refuses Err controls) accepted) (rows_none records tt e)

@@ -3,9 +3,12 @@ use mathlib.Core.Path.{◌≡◌, sym, ap, ◌∙◌}
 use Prim.Native.Nat.{ℕ, suc, ◌+◌, ◌*◌, ◌-◌, ◌/◌, ◌%◌, ◌^◌, ◌≤◌, ◌<◌}
 use native.Mathlib.Nat.{div-div-eq-div-mul, mod-eq_of_lt}
 use native.Mathlib.Omega.{arith}
+use mathlib.Core.Logic.{⊎_elim}
 use borrow.Author.Tests.{lt-ltb, le-ltb}
+use lib.Dec.{ltb}
+use Rattle.shape.proofs.Tests.{passes}
 use lib.IntN.{ℤ, pos, negsuc, nat_abs, ◌-ℤ◌}
-use mir.Syntax.{w64}
+use mir.Syntax.{w32}
 use mir.Val.{to_z}
 use Rattle.whole.proofs.Order.{subℕ-negsuc}
 use Rattle.record_file.specs.Format.{signed, unsigned}
@@ -21,12 +24,10 @@ pub signed_high : (n : ℕ) → 2 ^ 31 ≤ n → n < 2 ^ 32 → signed n ≡ neg
 unfolding signed
 signed_high n h k = simp (le-ltb n (2 ^ 31) h) (less-whole n k)
 
--- a word as a number of 64 bits, and what is left of it
-pub wide : (n : ℕ) → n < 2 ^ 32 → to_z w64 n ≡ pos n
-wide n h = let k : n < 2 ^ 63 = omega arith in simp (lt-ltb n (2 ^ 63) k)
-
-pub wide-less : (n : ℕ) → n < 2 ^ 32 → to_z w64 n -ℤ pos (2 ^ 32) ≡ negsuc (2 ^ 32 - suc n)
-wide-less n h = ap (λ z. z -ℤ pos (2 ^ 32)) (wide n h) ∙ less-whole n h
+-- as the machine has it
+pub machine : (n : ℕ) → n < 2 ^ 32 → to_z w32 n ≡ signed n
+unfolding signed
+machine n h = ⊎_elim (λ t. rw t) (λ f. rw f (sym (less-whole n h))) (passes (ltb n (2 ^ 31)))
 
 -- ---- a word as four bytes, low byte first, and a number of 32 bits as a word: both come back
 

@@ -1,6 +1,6 @@
 -- What reading a record file answers and leaves: the refusal table's rows in the order of document 01 (3 for the length, 13, then record by record 14 and 15, then
 -- 1, 2, 24, 3 for the shape, 7, 8), and one total reading over them. Definitions only.
-use Rattle.std.specs.Prelude.{not, cond, ◌&&◌, ◌||◌, List, [], ◌∷◌, ◌++◌, ℕ, zero, suc, ◌*◌, ◌/◌, ◌%◌, ltb, eqb, ℤ, pos, length, Err, Ok, Result}
+use Rattle.std.specs.Prelude.{not, ◌&&◌, ◌||◌, List, [], ◌∷◌, ◌++◌, ℕ, zero, suc, ◌*◌, ◌/◌, ◌%◌, ltb, eqb, ℤ, pos, length, Err, Ok, Result}
 use Rattle.std.proofs.lemmas.List.Edits.{sets}
 use Rattle.whole.specs.Outcome.{Outcome, outcome, refuses}
 use Rattle.shape.specs.declared.Shape.{Shape}

@@ -42,6 +42,7 @@ use Rattle.edit.proofs.Worked.{fresh_at}
 use Rattle.sequences.specs.Touched.{record_in, Touched, InRun, Fresh, old_span}
 use Rattle.shape.specs.declared.Refusal.{Refusal}
 use Rattle.sequences.proofs.Touched.{AtPlace, run-touched, nought-touched, held-fresh}
+use Rattle.shape.proofs.Refusals.{ok-same}
 use Rattle.sequences.proofs.OldSpans.{in-some-span, stale-at}
 use Rattle.sequences.proofs.Kept.{at, old-records}
 use Rattle.sequences.proofs.Needed.{touched-needs}
@@ -53,9 +54,6 @@ old-room : (e : Edit) (j n len : ℕ) → Askable e j n len → 2 * n ≤ len
 old-room (Move x y) j n len can = can.1
 old-room (Insert x y) j n len can = omega (arith, can.1)
 old-room Remove j n len can = can.1
-
-done-same : (c d : Change) → Ok c ≡ Ok d → c ≡ d
-done-same c d h = cc
 
 module _ (e : Edit) (s : Shape) (j : ℕ) (controls lent : List ℤ) (c : Change) (new held : List ℤ) (done : edits e s j controls lent ≡ outcome (Ok c) (new, held)) where
   abbrev before : Plan
@@ -86,7 +84,7 @@ module _ (e : Edit) (s : Shape) (j : ℕ) (controls lent : List ℤ) (c : Change
   by_answer P fact =
       let q = plan_of (shape_after e s) in
       let is : ◌≡◌ {A = Outcome (Result Change Refusal) (List ℤ × List ℤ)} _ (outcome (Ok c) (new, held)) = sym (none_done e s j controls lent none) ∙ done in
-      let same = done-same (changed q) c (λ i. (is i).answer) in
+      let same = ok-same (changed q) c (λ i. (is i).answer) in
       subst (λ l. P c (plan_of c.shape) new l) (λ i. (is i).held.1)
       (subst (λ l. P c (plan_of c.shape) l (points_after e s q j controls lent)) (λ i. (is i).held.0)
       (subst (λ d. P d (plan_of d.shape) (controls_after e s j controls) (points_after e s q j controls lent)) same

@@ -8,13 +8,11 @@ use lib.IntN.{ℤ}
 use denote.Ref.{Bor, MutBor}
 use Rattle.whole.specs.Outcome.{Outcome}
 use Rattle.shape.specs.declared.Shape.{Shape}
-use Rattle.spans.specs.declared.run.Way.{Way}
-use Rattle.spans.specs.declared.run.Way.TheVariants.{Weights, Halving, Differences}
 use Rattle.outline.specs.Outline.{draws}
 use Rattle.asked.specs.declared.Edit.{Edit}
 use Rattle.asked.specs.declared.Edit.TheVariants.{Move, Insert, Remove}
 use Rattle.sequences.specs.Played.{State, Call, state_then, answered, called, played}
-use Rattle.sequences.specs.Calls.{MeetsDrawing, MeetsCall, Ends}
+use Rattle.sequences.specs.Calls.{Way, Weights, Halving, Differences, MeetsDrawing, MeetsCall, Ends}
 use Rattle.edit.specs.declared.Change.{Change}
 use Rattle.outline.specs.declared.Figures.{Figures}
 use Rattle.shape.specs.declared.Refusal.{Refusal}

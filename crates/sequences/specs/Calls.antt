@@ -7,8 +7,6 @@ use Rattle.whole.specs.Outcome.{Outcome, outcome}
 use Rattle.asked.specs.declared.Edit.{Edit}
 use Rattle.asked.specs.declared.Edit.TheVariants.{Move, Insert, Remove}
 use Rattle.shape.specs.declared.Shape.{Shape}
-use Rattle.spans.specs.declared.run.Way.{Way}
-use Rattle.spans.specs.declared.run.Way.TheVariants.{Weights, Halving, Differences}
 use Rattle.outline.proofs.by_weights.Kinds as by_weights
 use Rattle.outline.proofs.by_weights.Reads as by-weights-reads
 use Rattle.outline.proofs.by_halving.Kinds as by-halving
@@ -42,6 +40,12 @@ pub record Meets
   pub meets : post lifetimes arguments result (at_exit (ended_of n ps r) lifetimes arguments last)
 
 -- ---- drawing
+
+-- The three ways of document 01: each has a drawing call.
+pub data Way : Type 0 where
+  Weights : Way
+  Halving : Way
+  Differences : Way
 
 -- The drawing call of a way. Its arguments in their order are the shape, the controls and the points.
 abbrev pub MeetsDrawing : Way → Shape × List ℤ × List ℤ → Outcome (Result Figures Refusal) (List ℤ) → Type 0

@@ -11,8 +11,7 @@ use Rattle.shape.specs.declared.Shape.{Shape}
 use Rattle.shape.specs.declared.Plan.{Plan}
 use Rattle.shape.specs.Inner.{Good, Lent}
 use Rattle.shape.proofs.Refusals.{good-records, lent-inside}
-use Rattle.spans.specs.Ready.{Ready}
-use Rattle.spans.specs.Inner.{Drawable}
+use Rattle.spans.specs.Inner.{Ready, Drawable}
 use Rattle.spans.proofs.Numbers.{span_controls}
 
 pub span-ready : (p : Plan) (controls : List ℤ) → Drawable p controls → (s axis : ℕ) → s < p.spans → axis < 2 → Ready p.depth (divisor p.basis p.depth) (span_controls p.basis controls s axis)

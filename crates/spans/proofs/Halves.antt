@@ -25,8 +25,7 @@ use Rattle.curve.proofs.Span.{weighted-start}
 use Rattle.curve.proofs.Powers.{doubled, half-width}
 use Rattle.curve.proofs.Ways.{eightfold, left-half, right-half}
 use Rattle.spans.specs.Numbers.{per_span}
-use Rattle.spans.specs.Ready.{Ready}
-use Rattle.spans.specs.Inner.{on_axis, paired, rounds, Cuttable}
+use Rattle.spans.specs.Inner.{Ready, on_axis, paired, rounds, Cuttable}
 use Rattle.spans.proofs.Pairs.{paired-x, paired-y}
 use Rattle.spans.proofs.Rounds.{onward, rounds-append}
 

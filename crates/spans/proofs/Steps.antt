@@ -17,7 +17,7 @@ use Rattle.curve.specs.Span.{weighted}
 use Rattle.curve.specs.Ways.{deepest, differences, advance}
 use Rattle.curve.proofs.Powers.{shift_one}
 use Rattle.curve.proofs.Ways.{state, begins, advances, state-small}
-use Rattle.spans.specs.Ready.{Ready}
+use Rattle.spans.specs.Inner.{Ready}
 
 -- the shifted 1 as a signed number
 steps-is : (k : ℕ) → k ≤ deepest → to_z w64 (1 * 2 ^ k % 2 ^ 64) ≡ pos (2 ^ k)

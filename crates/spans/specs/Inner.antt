@@ -1,6 +1,7 @@
 -- For contracts inside the project alone: no public contract uses what is here.
 -- One span by each of the three ways, and the controls that it can be drawn from.
 use Rattle.std.specs.Prelude.{◌≡◌, true, cond, ◌⊎◌, List, [], ◌∷◌, map, ℕ, ◌*◌, ◌-◌, ◌/◌, ◌%◌, ◌^◌, ◌+◌, ◌≤◌, ◌<◌, eqb, ℤ, pos, nat_abs, length}
+use Rattle.std.specs.Coded.{le_prop}
 use Rattle.std.proofs.lemmas.List.Edits.{sets}
 use Rattle.whole.specs.Nearest.{nearest, remainder}
 use Rattle.whole.specs.Outcome.{Outcome, outcome}
@@ -41,6 +42,24 @@ abbrev pub ending : ℕ → Four → Four → List ℤ
 ending k x y = weighted x (pos (2 ^ k)) (pos (2 ^ k)) ∷ weighted y (pos (2 ^ k)) (pos (2 ^ k)) ∷ []
 
 -- ---- what it can be drawn from
+
+-- Controls of one axis that a span can be drawn from: whole controls of records inside the limits, so that each sum, of 2^k steps, is within its divisor d times the farthest reach.
+pub record Ready (k d : ℕ) (q : Four) : Type 0 where
+  pub inside : Inside widest q
+  pub near : (i : ℕ) → i ≤ 2 ^ k → nat_abs (weighted q (pos i) (pos (2 ^ k))) ≤ d * far_reach
+
+-- It holds in one way at most.
+pub Ready-prop : (k d : ℕ) (q : Four) → IsProp (Ready k d q)
+Ready-prop k d q r s i =
+    record {
+      inside = record {
+        a = le_prop r.inside.a s.inside.a i;
+        b = le_prop r.inside.b s.inside.b i;
+        c = le_prop r.inside.c s.inside.c i;
+        d = le_prop r.inside.d s.inside.d i;
+      };
+      near = λ j h. le_prop (r.near j h) (s.near j h) i;
+    }
 
 -- The same for halving, with `left` more cuts to make: eight times as large with each cut made.
 pub record Cuttable (left d : ℕ) (q : Four) : Type 0 where

@@ -1,4 +1,3 @@
 pub mod Numbers
 pub mod Filled
-pub mod Ready
 pub mod Inner

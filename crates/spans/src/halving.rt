@@ -39,6 +39,7 @@ fn fill_pieces(points: &mut [i32], at: usize, left: usize, bits: u32, x: Four, y
 }
 
 impl Way for ByHalving {
+    #[inline(always)]
     fn fill_span(points: &mut [i32], at: usize, span: Span) -> usize {
         fill_pieces(points, at, span.depth, span.bits, span.x, span.y)
     }

@@ -8,16 +8,20 @@ use curve::rounding::rounded;
 use whole::is_multiple;
 
 // One number, from the sum of its axis over 6 · 2^bits: rounded once, and counted where nothing is left over. It answers how many numbers are exact: `exact` before it, and this one where it is.
-// Few sums are multiples of 2^bits, and of any other something is left over, so that nobody need look at how much.
+// Few sums are multiples of 2^bits, and of any other something is left over, so that nobody need look at how much. Each of the two has a rounding of its own: with one for both a point costs up to four fifths more.
 fn put_number(points: &mut [i32], at: usize, bits: u32, sum: i64, exact: usize) -> usize
     requires bits_le_most_bits { bits ≤ most_bits }
     requires sum_bound { nat_abs sum ≤ divisor_of bits * far_reach }
     requires at_in_bounds { (at < length points.old) × (exact ≤ at) }
     ensures { outcome result points.new ≡ rounds (divisor_of bits) (sum ∷ []) at exact points.old }
 {
+    if !is_multiple(sum, bits) {
+        points[at] = rounded(sum, bits).whole as i32;
+        return exact;
+    }
     let rounding = rounded(sum, bits);
     points[at] = rounding.whole as i32;
-    if is_multiple(sum, bits) && rounding.remainder == 0 {
+    if rounding.remainder == 0 {
         exact + 1
     } else {
         exact

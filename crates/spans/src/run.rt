@@ -75,11 +75,15 @@ pub fn fill_spans<W: Way>(
     ensures { outcome result points.new ≡ fills_run plan from to controls.now points.old }
 {
     let stride = 2usize << plan.depth;
+    let last = to - 1;
     let mut exact = 0;
-    for span in from..to {
+    for span in from..last {
         exact += W::fill_span(points, span * stride, span_of(controls, plan, span));
     }
-    exact + put_end(points, to * stride, span_of(controls, plan, to - 1))
+    // The last span's controls give its end too.
+    let ending = span_of(controls, plan, last);
+    exact += W::fill_span(points, last * stride, ending);
+    exact + put_end(points, to * stride, ending)
 }
 
 // The same by weights, the way that edits draw by.

@@ -2,7 +2,7 @@
 ghost use Rattle.std.specs.Prelude.{◌≤◌};
 ghost use Rattle.curve.specs.Inner.{divisor_of, most_bits};
 ghost use Rattle.curve.specs.Ways.{deepest};
-ghost use Rattle.spans.specs.Ready.{Ready, Ready-prop};
+ghost use Rattle.spans.specs.Inner.{Ready, Ready-prop};
 
 use curve::Four;
 

@@ -8,6 +8,7 @@ use curve::Differences;
 pub struct ByDifferences;
 
 impl Way for ByDifferences {
+    #[inline(always)]
     fn fill_span(points: &mut [i32], at: usize, span: Span) -> usize {
         let steps = 1 << span.depth;
         let mut x = Differences::begin(span.x, steps);

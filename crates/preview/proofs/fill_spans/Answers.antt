@@ -18,8 +18,8 @@ slice_bounds-fill_span-end c =
     let s = c.loop-s.s in
     omega (arith, start-at s a.depth (omega arith), shift_two a.depth (omega arith), points-are a.depth a.spans, starts-inside s a.spans a.depth (omega arith))
 
-pub fill_span-requires-clause-span_lt_most_records : goal.fill_span-requires-clause-span_lt_most_records
-fill_span-requires-clause-span_lt_most_records c = (omega arith, omega (arith, records-before c.loop-s.s c.args.spans (omega arith)))
+pub fill_span-requires-clause-held : goal.fill_span-requires-clause-held
+fill_span-requires-clause-held c = omega (arith, records-before c.loop-s.s c.args.spans (omega arith))
 
 pub loop-s-preserved : goal.loop-s-preserved
 loop-s-preserved c =

@@ -1,51 +1,77 @@
 -- Each return is where a row is the first that holds, or where what is left of the table is the callee's.
-use mathlib.Core.Path.{◌≡◌, refl, sym, ◌∙◌}
-use mathlib.Core.Bool.{false, ◌||◌}
+use Rattle.std.specs.Prelude.{Err, Ok, Result}
+use Rattle.std.specs.List.{concat}
+use Rattle.std.specs.Simd.{first_chunks}
+use Rattle.std.proofs.Common.{rules, ◌≡◌, ◌∙◌, refl, sym, ap, List, ℕ, length, true, false, ◌/◌, ◌%◌, ◌≤◌, ◌<◌, arith}
+use Rattle.std.specs.Prelude.{◌||◌, eqb, ltb}
 use mathlib.Core.Logic.{inl, inr}
-use Prim.Native.Nat.{ℕ, ◌%◌, ◌≤◌}
-use borrow.Author.Tests.{eq-eqb, ne_eqb, lt-ltb, le-ltb}
-use lib.Dec.{ltb, eqb}
-use lib.ListN.{length}
-use Rattle.shape.specs.Refusals.{NoRow}
-use Rattle.record_file.specs.Rows.{most_bytes, length_rows}
+use borrow.Author.Tests.{eqb-true, lt-ltb, le-ltb}
+use Rattle.std.proofs.Math.Bool.{or-true}
+use Rattle.whole.specs.Outcome.{refuses}
+use Rattle.shape.specs.declared.Refusal.{Refusal}
+use Rattle.shape.specs.Refusals.{judge, NoRow}
+use Rattle.record_file.specs.Rows.{most_bytes, length_rows, record_rows, later_rows, accepts}
+use Rattle.record_file.proofs.Bytes.{chunks-joined}
 use Rattle.record_file.proofs.Readings.{length-fails, record-fails, records-pass}
-use borrow.Author.Rules.{rules}
 use Rattle.record_file.proofs.read.Goals as goal
+use Rattle.record_file.proofs.read.Goals.{then-is_empty-via-then-is_empty, then-is_empty-via-else-is_empty+then-file-gt-MOST_BYTES}
 
--- row 3 for the length did not hold
-length-passed : (n : ℕ) → (n ≡ 0 → ⊥) → n ≤ most_bytes → (eqb n 0 || ltb most_bytes n) ≡ false
-length-passed n h k = simp (ne_eqb n 0 h, le-ltb most_bytes n k)
+-- ---- rows 3 and 13, of a file of n bytes
 
-passed : (n : ℕ) → (n ≡ 0 → ⊥) → n ≤ most_bytes → n % 12 ≡ 0 → NoRow (length_rows n)
-passed n h k whole = (length-passed n h k, (simp (eq-eqb (n % 12) 0 whole), tt))
+long : (n : ℕ) → most_bytes < n → (eqb n 0 || ltb most_bytes n) ≡ true
+long n h = rw (lt-ltb most_bytes n h) (or-true (eqb n 0))
 
-pub returns-then-length-eq0 : goal.returns-then-length-eq0
-returns-then-length-eq0 c =
-    let a = c.args in
-    let n = length a.file.now in
-    sym (length-fails a.file.now a.controls.now (record { number = 3; place = 0 }) (inl (simp (eq-eqb n 0 c.if-length-eq0.true), refl)))
+fair : (n : ℕ) → eqb n 0 ≡ false → n ≤ most_bytes → (eqb n 0 || ltb most_bytes n) ≡ false
+fair n e h = rw (e, le-ltb most_bytes n h)
 
-pub returns-then-length-gt-MOST_BYTES : goal.returns-then-length-gt-MOST_BYTES
-returns-then-length-gt-MOST_BYTES c =
-    let a = c.args in
-    let n = length a.file.now in
-    sym (length-fails a.file.now a.controls.now (record { number = 3; place = 0 }) (inl (simp (ne_eqb n 0 c.if-length-eq0.false, lt-ltb most_bytes n c.if-length-gt-MOST_BYTES.true), refl)))
+passed : (n : ℕ) → eqb n 0 ≡ false → n ≤ most_bytes → eqb (n % 12) 0 ≡ true → NoRow (length_rows n)
+passed n e h whole = (fair n e h, (rw whole, tt))
 
-pub returns-then-length-ne0 : goal.returns-then-length-ne0
-returns-then-length-ne0 c =
-    let a = c.args in
-    let n = length a.file.now in
-    sym
-    (length-fails a.file.now a.controls.now (record { number = 13; place = 0 })
-    (inr (length-passed n c.if-length-eq0.false c.if-length-gt-MOST_BYTES.false, inl (simp (ne_eqb (n % 12) 0 c.if-length-ne0.true), refl))))
+-- ---- the records of a file that is whole
 
-pub returns-in-Bad : goal.returns-in-Bad
-returns-in-Bad c =
-    let a = c.args in
-    sym (record-fails a.file.now a.controls.now (passed (length a.file.now) c.if-length-eq0.false c.if-length-gt-MOST_BYTES.false c.if-length-ne0.false) c.in-Bad.refusal (sym c.check_records.ensures ∙ c.in-Bad.is))
+module _ (file : List ℕ) (rs : List (List ℕ)) (front : rs ≡ first_chunks 12 (length file / 12) file) (whole : eqb (length file % 12) 0 ≡ true) where
+  joined : concat rs ≡ file
+  joined =
+      let none : length file % 12 ≡ 0 = eqb-true (length file % 12) 0 whole in
+      ap concat front ∙ chunks-joined (length file / 12) file (omega arith)
 
-pub returns-in-Fine : goal.returns-in-Fine
-returns-in-Fine c =
-    let a = c.args in
+pub returns-then-is_empty : goal.returns-then-is_empty
+returns-then-is_empty c =
+    let n = length c.args.file.now in
+    let holds : (eqb n 0 || ltb most_bytes n) ≡ true = elim c.then-is_empty.branch [
+      | then-is_empty-via-then-is_empty w ↦ rw (sym c.is_empty.ensures ∙ w.if-is_empty.true)
+      | then-is_empty-via-else-is_empty+then-file-gt-MOST_BYTES w ↦ long n w.if-file-gt-MOST_BYTES.true
+    ] in
+    rw c.into.ensures (sym (length-fails c.args.file.now c.args.controls.now (record { number = 3; place = 0 }) (inl (holds, refl))))
+
+pub returns-then-not-is_empty : goal.returns-then-not-is_empty
+returns-then-not-is_empty c =
+    let n = length c.args.file.now in
+    let some : eqb (n % 12) 0 ≡ false = ap (λ m. eqb m 0) (sym c.as_chunks.ensures.back_len) ∙ sym c.is_empty-2.ensures ∙ c.if-not-is_empty.true in
+    rw c.into-then-not-is_empty.ensures
+    (sym
+    (length-fails c.args.file.now c.args.controls.now (record { number = 13; place = 0 })
+    (inr (fair n (sym c.is_empty.ensures ∙ c.if-is_empty.false) c.if-file-gt-MOST_BYTES.false, inl (rw some, refl)))))
+
+pub returns-in_err-check_records : goal.returns-in_err-check_records
+returns-in_err-check_records c =
+    let file = c.args.file.now in
+    let n = length file in
+    let r = c.in_err-check_records.field-0.0 in
+    let out : c.from_residual.result ≡ Err r = search rules in
+    let whole : eqb (n % 12) 0 ≡ true = ap (λ m. eqb m 0) (sym c.as_chunks.ensures.back_len) ∙ sym c.is_empty-2.ensures ∙ c.if-not-is_empty.false in
+    let is = joined file c.as_chunks.result.0.now c.as_chunks.ensures.front whole in
+    let checked = sym (c.check_records.ensures ∙ (λ k. judge {A = Result (Unit {0}) Refusal} (record_rows (is k) 0 (c.as_chunks.ensures.front_len k)) Err (Ok tt))) ∙ c.in_err-check_records.was in
+    rw out (sym (record-fails file c.args.controls.now (passed n (sym c.is_empty.ensures ∙ c.if-is_empty.false) c.if-file-gt-MOST_BYTES.false whole) r checked))
+
+pub returns : goal.returns
+returns c =
+    let file = c.args.file.now in
+    let l = c.args.controls.now in
+    let n = length file in
+    let whole : eqb (n % 12) 0 ≡ true = ap (λ m. eqb m 0) (sym c.as_chunks.ensures.back_len) ∙ sym c.is_empty-2.ensures ∙ c.if-not-is_empty.false in
+    let is = joined file c.as_chunks.result.0.now c.as_chunks.ensures.front whole in
+    let checked = sym (c.check_records.ensures ∙ (λ k. judge {A = Result (Unit {0}) Refusal} (record_rows (is k) 0 (c.as_chunks.ensures.front_len k)) Err (Ok tt))) ∙ c.in_ok-check_records.was in
     c.read_records.ensures
-    ∙ sym (records-pass a.file.now a.controls.now (passed (length a.file.now) c.if-length-eq0.false c.if-length-gt-MOST_BYTES.false c.if-length-ne0.false) (sym c.check_records.ensures ∙ c.in-Fine.is))
+    ∙ (λ k. judge (later_rows (is k) (c.as_chunks.ensures.front_len k) l) (refuses Err l) (accepts (is k) (c.as_chunks.ensures.front_len k) l))
+    ∙ sym (records-pass file l (passed n (sym c.is_empty.ensures ∙ c.if-is_empty.false) c.if-file-gt-MOST_BYTES.false whole) checked)

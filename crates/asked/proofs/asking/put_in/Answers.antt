@@ -11,4 +11,4 @@ returns c =
     let copied = c.copy_within.ensures in
     c.put_record.ensures
     ∙ (λ i. put later a.place (kept-is w32 a.x c.ranges.x i) (kept-is w32 a.y c.ranges.y i))
-    ∙ inserted-is a.place a.count a.controls.now a.x a.y later c.requires.0 c.requires.1 copied.len copied.by_index
+    ∙ inserted-is a.place a.count a.controls.now a.x a.y later c.requires.in_range c.requires.room copied.len copied.by_index

@@ -6,4 +6,4 @@ pub returns : goal.returns
 returns c =
     let a = c.args in
     let copied = c.copy_within.ensures in
-    removed-is a.place a.count a.controls.now c.copy_within.new.self c.requires.0 c.requires.1 copied.len copied.by_index
+    removed-is a.place a.count a.controls.now c.copy_within.new.self c.requires.in_range c.requires.held copied.len copied.by_index

@@ -1,19 +1,18 @@
--- A turn's span is the next of the run (`running-span`), and the end of the last is left (`running-end`).
+-- A turn's span is the next of the run (`running-span`), and so is the last, which leaves its end (`running-end`).
 use mathlib.Core.List.{List}
-use mathlib.Core.Path.{◌≡◌, ◌∙◌}
+use mathlib.Core.Path.{◌≡◌, refl, sym, ap, ◌∙◌, subst}
 use Prim.Native.Nat.{ℕ, ◌+◌, ◌*◌, ◌-◌, ◌%◌, ◌^◌, ◌≤◌, ◌<◌}
 use native.Mathlib.Omega.{arith}
 use lib.IntN.{ℤ}
 use lib.ListN.{length}
-use lib.Pow.{pow_mono}
 use Rattle.whole.specs.Outcome.{outcome}
 use Rattle.curve.specs.declared.Four.{Four}
 use Rattle.curve.specs.Inner.{divisor_of}
 use Rattle.curve.specs.Span.{divisor}
 use Rattle.curve.specs.Tab.{tab}
 use Rattle.curve.specs.Ways.{deepest}
-use Rattle.curve.proofs.Tab.{length-tab}
 use Rattle.shape.specs.declared.Plan.{Plan}
+use Rattle.shape.specs.Shape.{most_records}
 use Rattle.spans.specs.Numbers.{per_span}
 use Rattle.spans.specs.Filled.{fills_run}
 use Rattle.spans.specs.Inner.{paired, ending, rounds, Fillable}
@@ -22,45 +21,47 @@ use Rattle.spans.proofs.Rounds.{rounds-most}
 use Rattle.spans.proofs.Runs.{Running, running-none, running-span, running-end, place-small}
 use Rattle.spans.proofs.run.fill_spans.Goals as goal
 
--- what a span is drawn from, by its depth, its divisor and its controls
+-- what span s is drawn from: its depth, its divisor and its controls
 record Drawn (p : Plan) (controls : List ℤ) (s k d : ℕ) (x y : Four) : Type 0 where
   depth : k ≡ p.depth
   over : d ≡ divisor p.basis p.depth
   on_x : x ≡ span_controls p.basis controls s 0
   on_y : y ≡ span_controls p.basis controls s 1
 
-module _ (p : Plan) (controls : List ℤ) (from to len : ℕ) (f : Fillable p from to controls len) (start : List ℤ) (n : ℕ) (held : List ℤ) where
-  turn : (s : ℕ) → Running p controls from to start s n held → s < to
-      → (k d : ℕ) (x y : Four) → Drawn p controls s k d x y
+module _ (p : Plan) (controls : List ℤ) (from to len : ℕ) (f : Fillable p from to controls len) (start : List ℤ) (s n : ℕ) (held : List ℤ) (so_far : Running p controls from to start s n held) where
+  turn : s < to → (k d : ℕ) (x y : Four) → Drawn p controls s k d x y
       → (m : ℕ) (new : List ℤ) → length new ≡ length held
       → outcome m new ≡ rounds d (tab (paired k x y) 0 (per_span k)) (s * (2 * 2 ^ p.depth % 2 ^ 64)) 0 held
       → Running p controls from to start (s + 1) (n + m) new
-  turn s so_far below k d x y drawn m new same done =
+  turn below k d x y drawn m new same done =
       running-span p controls from to start s n held so_far below (omega (arith, f.there)) m new same
       (done ∙ (λ i. rounds (drawn.over i) (tab (paired (drawn.depth i) (drawn.on_x i) (drawn.on_y i)) 0 (per_span (drawn.depth i))) (s * stride-is p.depth f.deep i) 0 held))
 
-  end : (s : ℕ) → Running p controls from to start s n held → s ≡ to
-      → (k d : ℕ) (x y : Four) → Drawn p controls (to - 1) k d x y
+  -- the last span's turn
+  final : s ≡ to - 1 → (k d : ℕ) (x y : Four) → Drawn p controls (to - 1) k d x y
+      → (m : ℕ) (new : List ℤ) → length new ≡ length held
+      → outcome m new ≡ rounds d (tab (paired k x y) 0 (per_span k)) ((to - 1) * (2 * 2 ^ p.depth % 2 ^ 64)) 0 held
+      → Running p controls from to start to (n + m) new
+  final last k d x y drawn m new same done =
+      let all : s + 1 ≡ to = omega (arith, f.some) in
+      subst (λ (t : ℕ). Running p controls from to start t (n + m) new) all
+      (turn (omega (arith, f.some)) k d x y (subst (λ (t : ℕ). Drawn p controls t k d x y) (sym last) drawn) m new same
+      (done ∙ ap (λ (t : ℕ). rounds d (tab (paired k x y) 0 (per_span k)) (t * (2 * 2 ^ p.depth % 2 ^ 64)) 0 held) (sym last)))
+
+  end : s ≡ to → (k d : ℕ) (x y : Four) → Drawn p controls (to - 1) k d x y
       → (m : ℕ) (new : List ℤ)
       → outcome m new ≡ rounds d (ending k x y) (to * (2 * 2 ^ p.depth % 2 ^ 64)) 0 held
       → outcome (n + m) new ≡ fills_run p from to controls start
-  end s so_far last k d x y drawn m new done =
+  end last k d x y drawn m new done =
       running-end p controls from to start s n held so_far last (omega (arith, f.some)) f.there m new
       (done ∙ (λ i. rounds (drawn.over i) (ending (drawn.depth i) (drawn.on_x i) (drawn.on_y i)) (to * stride-is p.depth f.deep i) 0 held))
 
+  -- no more are exact than a run has numbers
+  few : s ≤ to → n ≤ most_records * per_span deepest
+  few h = omega (arith, so_far.few, place-small p.depth s f.deep (omega (arith, f.there, f.drawable.few)))
+
 pub loop-span-init : goal.loop-span-init
 loop-span-init g c = running-none c.args.plan c.args.controls.now c.args.from c.args.to c.args.points.now
-
-pub overflow_add-exact : goal.overflow_add-exact
-overflow_add-exact g c =
-    let a = c.args in
-    let l = c.loop-span in
-    let sp = c.span_of.result in
-    let sums = tab (paired sp.depth sp.x sp.y) 0 (per_span sp.depth) in
-    let most = rounds-most (divisor_of sp.bits) sums (l.span * (2 * 2 ^ a.plan.depth % 2 ^ 64)) 0 l.points (outcome c.fill_span-exact.result c.fill_span-exact.new.points) c.fill_span-exact.ensures in
-    let deep : 2 ^ sp.depth ≤ 2 ^ deepest = pow_mono {i = sp.depth} {j = deepest} sp.shallow in
-    let place = place-small a.plan.depth l.span c.requires.deep (omega (arith, c.loop-span-test.true, c.requires.there, c.requires.drawable.few)) in
-    omega (arith, l.invariant.few, place, most, length-tab (paired sp.depth sp.x sp.y) 0 (per_span sp.depth), deep)
 
 pub loop-span-preserved : goal.loop-span-preserved
 loop-span-preserved g c =
@@ -68,26 +69,52 @@ loop-span-preserved g c =
     let l = c.loop-span in
     let sp = c.span_of.result in
     let e = c.span_of.ensures in
-    turn a.plan a.controls.now a.from a.to (length a.points.now) c.requires a.points.now l.exact l.points l.span l.invariant c.loop-span-test.true sp.depth (divisor_of sp.bits) sp.x sp.y
+    turn a.plan a.controls.now a.from a.to (length a.points.now) c.requires a.points.now l.span l.exact l.points l.invariant (omega (arith, c.loop-span-test.true)) sp.depth (divisor_of sp.bits) sp.x sp.y
     (record { depth = e.depth_value.0; over = e.depth_value.1; on_x = e.x_value; on_y = e.y_value })
     c.fill_span-exact.result c.fill_span-exact.new.points c.fill_span-exact.auto.points c.fill_span-exact.ensures
+
+pub overflow_add-exact : goal.overflow_add-exact
+overflow_add-exact g c =
+    let a = c.args in
+    let l = c.loop-span in
+    let sp = c.span_of.result in
+    let e = c.span_of.ensures in
+    let next = turn a.plan a.controls.now a.from a.to (length a.points.now) c.requires a.points.now l.span l.exact l.points l.invariant (omega (arith, c.loop-span-test.true)) sp.depth (divisor_of sp.bits) sp.x sp.y
+    (record { depth = e.depth_value.0; over = e.depth_value.1; on_x = e.x_value; on_y = e.y_value })
+    c.fill_span-exact.result c.fill_span-exact.new.points c.fill_span-exact.auto.points c.fill_span-exact.ensures in
+    omega (arith, few a.plan a.controls.now a.from a.to (length a.points.now) c.requires a.points.now (l.span + 1) (l.exact + c.fill_span-exact.result) c.fill_span-exact.new.points next (omega (arith, c.loop-span-test.true)))
+
+pub overflow_add-exact-2 : goal.overflow_add-exact-2
+overflow_add-exact-2 g c =
+    let a = c.args in
+    let l = c.loop-span in
+    let sp = c.span_of-ending.result in
+    let e = c.span_of-ending.ensures in
+    let drawn : Drawn a.plan a.controls.now (a.to - 1) sp.depth (divisor_of sp.bits) sp.x sp.y = record { depth = e.depth_value.0; over = e.depth_value.1; on_x = e.x_value; on_y = e.y_value } in
+    let all = final a.plan a.controls.now a.from a.to (length a.points.now) c.requires a.points.now l.span l.exact l.points l.invariant (omega (arith, l.auto.span-end, c.loop-span-test.false, c.requires.some)) sp.depth (divisor_of sp.bits) sp.x sp.y drawn
+    c.fill_span-exact-2.result c.fill_span-exact-2.new.points c.fill_span-exact-2.auto.points c.fill_span-exact-2.ensures in
+    omega (arith, few a.plan a.controls.now a.from a.to (length a.points.now) c.requires a.points.now a.to (l.exact + c.fill_span-exact-2.result) c.fill_span-exact-2.new.points all (omega arith))
 
 pub overflow_add-result : goal.overflow_add-result
 overflow_add-result g c =
     let a = c.args in
     let l = c.loop-span in
-    let sp = c.span_of-2.result in
-    let most = rounds-most (divisor_of sp.bits) (ending sp.depth sp.x sp.y) (a.to * (2 * 2 ^ a.plan.depth % 2 ^ 64)) 0 l.points (outcome c.put_end.result c.put_end.new.points) c.put_end.ensures in
-    let last : l.span ≡ a.to = omega (arith, l.auto.span-end, c.loop-span-test.false, c.requires.some) in
-    let place = place-small a.plan.depth l.span c.requires.deep (omega (arith, last, c.requires.there, c.requires.drawable.few)) in
-    omega (arith, l.invariant.few, place, most)
+    let sp = c.span_of-ending.result in
+    let e = c.span_of-ending.ensures in
+    let drawn : Drawn a.plan a.controls.now (a.to - 1) sp.depth (divisor_of sp.bits) sp.x sp.y = record { depth = e.depth_value.0; over = e.depth_value.1; on_x = e.x_value; on_y = e.y_value } in
+    let all = final a.plan a.controls.now a.from a.to (length a.points.now) c.requires a.points.now l.span l.exact l.points l.invariant (omega (arith, l.auto.span-end, c.loop-span-test.false, c.requires.some)) sp.depth (divisor_of sp.bits) sp.x sp.y drawn
+    c.fill_span-exact-2.result c.fill_span-exact-2.new.points c.fill_span-exact-2.auto.points c.fill_span-exact-2.ensures in
+    let most = rounds-most (divisor_of sp.bits) (ending sp.depth sp.x sp.y) (a.to * (2 * 2 ^ a.plan.depth % 2 ^ 64)) 0 c.fill_span-exact-2.new.points (outcome c.put_end.result c.put_end.new.points) c.put_end.ensures in
+    omega (arith, most, few a.plan a.controls.now a.from a.to (length a.points.now) c.requires a.points.now a.to (l.exact + c.fill_span-exact-2.result) c.fill_span-exact-2.new.points all (omega arith))
 
 pub returns : goal.returns
 returns g c =
     let a = c.args in
     let l = c.loop-span in
-    let sp = c.span_of-2.result in
-    let e = c.span_of-2.ensures in
-    end a.plan a.controls.now a.from a.to (length a.points.now) c.requires a.points.now l.exact l.points l.span l.invariant (omega (arith, l.auto.span-end, c.loop-span-test.false, c.requires.some)) sp.depth (divisor_of sp.bits) sp.x sp.y
-    (record { depth = e.depth_value.0; over = e.depth_value.1; on_x = e.x_value; on_y = e.y_value })
+    let sp = c.span_of-ending.result in
+    let e = c.span_of-ending.ensures in
+    let drawn : Drawn a.plan a.controls.now (a.to - 1) sp.depth (divisor_of sp.bits) sp.x sp.y = record { depth = e.depth_value.0; over = e.depth_value.1; on_x = e.x_value; on_y = e.y_value } in
+    let all = final a.plan a.controls.now a.from a.to (length a.points.now) c.requires a.points.now l.span l.exact l.points l.invariant (omega (arith, l.auto.span-end, c.loop-span-test.false, c.requires.some)) sp.depth (divisor_of sp.bits) sp.x sp.y drawn
+    c.fill_span-exact-2.result c.fill_span-exact-2.new.points c.fill_span-exact-2.auto.points c.fill_span-exact-2.ensures in
+    end a.plan a.controls.now a.from a.to (length a.points.now) c.requires a.points.now a.to (l.exact + c.fill_span-exact-2.result) c.fill_span-exact-2.new.points all refl sp.depth (divisor_of sp.bits) sp.x sp.y drawn
     c.put_end.result c.put_end.new.points c.put_end.ensures

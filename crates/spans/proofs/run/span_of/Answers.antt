@@ -9,8 +9,7 @@ use Rattle.curve.specs.Span.{divisor}
 use Rattle.curve.specs.Inner.{bits_of, divisor_of, most_bits}
 use Rattle.curve.proofs.Bits.{divisor-bits, bits_most}
 use Rattle.shape.specs.declared.Plan.{Plan}
-use Rattle.spans.specs.Inner.{Drawable}
-use Rattle.spans.specs.Ready.{Ready}
+use Rattle.spans.specs.Inner.{Ready, Drawable}
 use Rattle.spans.proofs.Drawables.{span-ready}
 use Rattle.spans.proofs.Numbers.{span_controls}
 use Rattle.spans.proofs.run.span_of.Goals as goal

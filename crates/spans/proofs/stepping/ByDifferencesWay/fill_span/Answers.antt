@@ -10,7 +10,7 @@ use Rattle.curve.specs.declared.Differences.{Differences}
 use Rattle.curve.specs.Inner.{divisor_of, far_reach}
 use Rattle.curve.specs.Ways.{deepest}
 use Rattle.curve.proofs.Powers.{shift_one}
-use Rattle.spans.specs.Ready.{Ready}
+use Rattle.spans.specs.Inner.{Ready}
 use Rattle.spans.proofs.Pairs.{filling-none, filling-step, filling-done}
 use Rattle.spans.proofs.Steps.{step_state, first-state, next-state, small-state, state-sum}
 use Rattle.spans.proofs.stepping.ByDifferencesWay.fill_span.Goals as goal

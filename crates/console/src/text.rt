@@ -1,0 +1,132 @@
+// A text that a program writes: a line, or several. Words and numbers go behind what stands there; one that does not fit is left out, and what comes next stands in its place.
+
+use itoa::{Buffer, Integer};
+use listing::put_word;
+use std::marker::Model;
+
+// The bit pattern that stands for every NaN: the quiet one's.
+const QUIET_NAN: u64 = 0x7ff8_0000_0000_0000;
+
+// A text of up to N characters.
+#[derive(Drop)]
+pub struct Text<const N: usize> {
+    bytes: [u8; N],
+    end: usize,
+}
+
+impl<const N: usize> Model for Text<N> {
+    ghost use Rattle.std.specs.Prelude.{◌≤◌, ℕ, List, take};
+
+    ghost Value = { List ℕ };
+
+    ghost view = { λ t. take t.end t.bytes };
+
+    ghost invariant = { λ t. t.end ≤ N };
+}
+
+impl<const N: usize> Text<N> {
+    ghost use Rattle.std.specs.Prelude.{◌≡◌, [], ◌∷◌};
+    ghost use Rattle.std.specs.Fmt.{decimal};
+    ghost use Rattle.console.specs.Text.{with_word, with_spaced};
+
+    // No character.
+    pub fn new() -> Self
+        ensures { result ≡ [] }
+    {
+        Text {
+            bytes: [0; N],
+            end: 0,
+        }
+    }
+
+    // The characters.
+    pub fn written(&self) -> &[u8]
+        ensures { result.now ≡ self.now }
+    {
+        &self.bytes[..self.end]
+    }
+
+    // A word as it is.
+    pub fn add_word(&mut self, word: &[u8])
+        ensures { self.new ≡ with_word N self.old word.now }
+    {
+        let at = self.end;
+        self.end = put_word(&mut self.bytes, at, word).unwrap_or(at);
+    }
+
+    // The end of a line.
+    pub fn end_line(&mut self)
+        ensures { self.new ≡ with_word N self.old (10 ∷ []) }
+    {
+        self.add_word(b"\n");
+    }
+
+    // A whole number, with a minus sign where it is negative.
+    pub fn add_number<I: Integer>(&mut self, n: I)
+        ensures { self.new ≡ with_word N self.old (I.text n) }
+    {
+        self.add_word(Buffer::new().format(n).as_bytes());
+    }
+
+    // A space and a whole number.
+    pub fn add_spaced_number<I: Integer>(&mut self, n: I)
+        ensures { self.new ≡ with_spaced N self.old (I.text n) }
+    {
+        self.add_word(b" ");
+        self.add_number(n);
+    }
+
+    // A word, a space and a natural number.
+    pub fn add_phrase(&mut self, word: &[u8], n: usize)
+        ensures { self.new ≡ with_spaced N (with_word N self.old word.now) (decimal n) }
+    {
+        self.add_word(word);
+        self.add_spaced_number(n);
+    }
+
+    // Whole numbers, a space before each.
+    pub fn add_spaced_numbers<I: Integer>(&mut self, numbers: &[I]) {
+        self.add_each(numbers, |n| n);
+    }
+
+    // Whole numbers with a space between them.
+    pub fn add_numbers<I: Integer>(&mut self, numbers: &[I]) {
+        self.add_between(numbers, |n| n);
+    }
+
+    // The bit patterns of doubles with a space between them; of every NaN the quiet one's.
+    pub fn add_patterns(&mut self, doubles: &[f64]) {
+        self.add_between(doubles, pattern_of);
+    }
+
+    // The x of the first `count` pairs that a list holds, a space before each.
+    pub fn add_x(&mut self, pairs: &[i32], count: usize) {
+        let (pairs, _) = pairs.as_chunks::<2>();
+        let most = count.min(pairs.len());
+        self.add_each(&pairs[..most], |[x, _]| x);
+    }
+
+    // The number that each item has, a space before each.
+    fn add_each<T: Copy, I: Integer, F: Fn(T) -> I>(&mut self, items: &[T], number: F)
+        requires { F.IsAlwaysCallable number }
+    {
+        for item in items {
+            self.add_spaced_number(number(*item));
+        }
+    }
+
+    // The number that each item has, with a space between them.
+    fn add_between<T: Copy, I: Integer, F: Fn(T) -> I>(&mut self, items: &[T], number: F)
+        requires { F.IsAlwaysCallable number }
+    {
+        if let Some((first, others)) = items.split_first() {
+            self.add_number(number(*first));
+            self.add_each(others, number);
+        }
+    }
+}
+
+// A double's bit pattern.
+fn pattern_of(x: f64) -> u64 {
+    if x.is_nan() { QUIET_NAN } else { x.to_bits() }
+}
