@@ -10,13 +10,14 @@ ghost use Rattle.list_output.specs.Written.{Fitting, Handed};
 
 use console::write_output;
 use file_list::{MOST_PART, list_part, parts_of};
-use record_file::{MOST_CONTROLS, Reading, read};
+use record_file::{MOST_CONTROLS, read};
+use shape::{Refusal, Shape};
 use std::io;
 
 // What a file was read as, and how writing its listing ended: all of it was handed on, so many characters; or a write failed, which was said.
 #[derive(Drop)]
 pub struct Listed {
-    pub reading: Reading,
+    pub reading: Result<Shape, Refusal>,
     pub written: io::Result<usize>,
 }
 
@@ -32,7 +33,11 @@ pub fn write_file(rt: &(impl Print + Eprint), file: &[u8]) -> Listed
 }
 
 // Writes each part once, in order, by what reading the file came to and the controls that it left.
-fn write_parts(rt: &(impl Print + Eprint), reading: Reading, controls: &[i32]) -> io::Result<usize>
+fn write_parts(
+    rt: &(impl Print + Eprint),
+    reading: Result<Shape, Refusal>,
+    controls: &[i32],
+) -> io::Result<usize>
     requires { Fitting reading controls.now }
     ensures { Handed result (joined (part_text reading controls.now) 0 (parts_of reading)) }
 {

@@ -21,7 +21,7 @@ use Rattle.doubles.specs.Exact.{dyadic, Value}
 use Rattle.shape.specs.declared.Shape.{Shape}
 use Rattle.shape.specs.Shape.{points_of}
 use Rattle.shape.specs.Refusals.{NoRow, judge, shape_rows, point_rows, plan_of}
-use Rattle.shape.proofs.Refusals.{row-fails}
+use Rattle.shape.proofs.Refusals.{row-fails, ok-same}
 use Rattle.preview.specs.Preview.{sum, value, bezier_row, preview_rows, accepts, previewing}
 use Rattle.preview.proofs.Curve.{drawn-exact}
 use Rattle.preview.proofs.Exactly.{drawn-none, none-drawn}
@@ -127,7 +127,7 @@ module _ (axis : Axis) (s : Shape) (controls : List ℤ) (lent : List Float) whe
       subst (λ (len : ℕ). NoRow (preview_rows s (mirror axis controls) len)) (sym long) (subst NoRow (sym (mirror-rows axis s controls (length lent))) none) in
       let here = sym (none-drawn s controls lent none) ∙ answered in
       let l' = (accepts p (mirror axis controls) other).held in
-      let count : points ≡ n = same (λ j. (here j).answer) in (
+      let count : points ≡ n = ok-same points n (λ j. (here j).answer) in (
         l',
         none-drawn s (mirror axis controls) other none' ∙ ap (λ (m : ℕ). outcome (Ok m) l') count,
         λ q h.
@@ -136,6 +136,3 @@ module _ (axis : Axis) (s : Shape) (controls : List ℤ) (lent : List Float) whe
             ∙ mirror-number s controls lent none axis q b
             ∙ ap (across opposite axis q) (sym (number-drawn s controls lent none q b) ∙ (λ j. get_or (here j).held q nan)),
       )
-    where
-      same : {m n : ℕ} → Ok m ≡ Ok n → m ≡ n
-      same e = cc

@@ -4,7 +4,7 @@
 use console::{read_input, tell};
 use file_list::{MOST_PART, MOST_READ, list_part};
 use list_output::write_file;
-use record_file::Reading;
+use shape::{Refusal, Shape};
 
 fn main(rt: HostRuntime) {
     let mut file = [0u8; MOST_READ];
@@ -22,10 +22,10 @@ fn list(rt: &(impl Print + Eprint), file: &[u8]) {
 }
 
 // The line of a refusal is the only part, whatever the controls.
-fn tell_refusal(rt: &impl Eprint, reading: Reading) {
-    let Reading::Refused(_) = reading else {
+fn tell_refusal(rt: &impl Eprint, reading: Result<Shape, Refusal>) {
+    if reading.is_ok() {
         return;
-    };
+    }
     let mut text = [0u8; MOST_PART];
     let end = list_part(reading, 0, &[], &mut text);
     tell(rt, &text[..end]);

@@ -15,7 +15,7 @@ use Rattle.curve.proofs.Span.{weighted-end}
 use Rattle.curve.proofs.Tab.{length-tab}
 use Rattle.shape.specs.declared.Plan.{Plan}
 use Rattle.shape.specs.Depth.{plan_at}
-use Rattle.spans.specs.Ready.{Ready}
+use Rattle.spans.specs.Inner.{Ready}
 use Rattle.spans.proofs.Drawables.{span-ready}
 use Rattle.spans.proofs.Halves.{ready-cuttable}
 use Rattle.pieces.specs.declared.Filled.{Filled}
