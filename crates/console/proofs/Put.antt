@@ -8,7 +8,7 @@ use borrow.Author.Tests.{leb-true, leb-false}
 use lib.Dec.{leb}
 use lib.ListN.{length, take, drop, length-append}
 use lib.Seq.{length-take-le, take_at}
-use Rattle.std.specs.Prelude.{Option, Some, None, unwrap_or}
+use Rattle.std.specs.Prelude.{Option, None, unwrap_or}
 use Rattle.whole.specs.Outcome.{Outcome, outcome}
 use Rattle.listing.specs.Written.{written}
 use Rattle.listing.proofs.Fitting.{fits, stays}

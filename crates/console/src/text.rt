@@ -25,9 +25,9 @@ impl<const N: usize> Model for Text<N> {
 }
 
 impl<const N: usize> Text<N> {
-    ghost use Rattle.std.specs.Prelude.{◌≡◌, [], ◌∷◌};
+    ghost use Rattle.std.specs.Prelude.{◌≡◌, [], ◌∷◌, ℕ, List};
     ghost use Rattle.std.specs.Fmt.{decimal};
-    ghost use Rattle.console.specs.Text.{with_word, with_spaced};
+    ghost use Rattle.console.specs.Text.{with_word, with_spaced, with_each, with_between};
 
     // No character.
     pub fn new() -> Self
@@ -85,12 +85,16 @@ impl<const N: usize> Text<N> {
     }
 
     // Whole numbers, a space before each.
-    pub fn add_spaced_numbers<I: Integer>(&mut self, numbers: &[I]) {
+    pub fn add_spaced_numbers<I: Integer>(&mut self, numbers: &[I])
+        ensures { self.new ≡ with_each N I.text self.old numbers.now }
+    {
         self.add_each(numbers, |n| n);
     }
 
     // Whole numbers with a space between them.
-    pub fn add_numbers<I: Integer>(&mut self, numbers: &[I]) {
+    pub fn add_numbers<I: Integer>(&mut self, numbers: &[I])
+        ensures { self.new ≡ with_between N I.text self.old numbers.now }
+    {
         self.add_between(numbers, |n| n);
     }
 
@@ -109,6 +113,7 @@ impl<const N: usize> Text<N> {
     // The number that each item has, a space before each.
     fn add_each<T: Copy, I: Integer, F: Fn(T) -> I>(&mut self, items: &[T], number: F)
         requires { F.IsAlwaysCallable number }
+        ensures { (text : T → List ℕ) → ((x : T) (n : I) → F.post number x n → I.text n ≡ text x) → self.new ≡ with_each N text self.old items.now }
     {
         for item in items {
             self.add_spaced_number(number(*item));
@@ -118,6 +123,7 @@ impl<const N: usize> Text<N> {
     // The number that each item has, with a space between them.
     fn add_between<T: Copy, I: Integer, F: Fn(T) -> I>(&mut self, items: &[T], number: F)
         requires { F.IsAlwaysCallable number }
+        ensures { (text : T → List ℕ) → ((x : T) (n : I) → F.post number x n → I.text n ≡ text x) → self.new ≡ with_between N text self.old items.now }
     {
         if let Some((first, others)) = items.split_first() {
             self.add_number(number(*first));

@@ -1,4 +1,5 @@
-// The halving way: one cut of four scaled controls at the middle of their span, into the controls of its two halves, eight times as large.
+// The halving way: one cut of four scaled controls at the middle of their span, into the controls of its two halves, eight times as large. Each half is written out as its splitting matrix is: one by
+// the other, turned round twice, would be no plainer.
 ghost use Rattle.std.specs.Prelude.{◌≡◌, ◌^◌};
 ghost use Rattle.curve.specs.Limits.{Inside};
 ghost use Rattle.curve.specs.Ways.{left_half, right_half};

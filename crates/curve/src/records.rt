@@ -80,7 +80,7 @@ fn four_places(basis: Basis, first: usize) -> [usize; 4]
     }
 }
 
-// The coordinate of a record on an axis: 0 is x, 1 is y.
+// The coordinate of a record on an axis: 0 is x, 1 is y. An axis is a number here and above, since it is the place of its coordinate in a record; an enum would be counted out again at each read.
 fn coordinate_of(controls: &[i32], place: usize, axis: usize) -> i64
     requires { (axis < 2) × (2 * place + 2 ≤ length controls.now) }
     ensures { result ≡ coordinate controls.now axis place }

@@ -31,7 +31,8 @@ use Rattle.drawing.specs.declared.Step.TheVariants.{Move, Line, Cubic, Close}
 use Rattle.drawing.specs.Drawing.{numbers, at, opens, same, line, added, grown, next, flat}
 use Rattle.drawing.specs.Reading.{reached, state_rows, number_rows, space_rows, rows, accepts, stepped, state_after}
 use Rattle.drawing.specs.Inner.{judge_state}
-use Rattle.drawing.proofs.Tables.{or_true_right, none-fine, fine-open, fine-empty, fine-begun, reached-facts}
+use Rattle.std.proofs.Math.Bool.{or-true}
+use Rattle.drawing.proofs.Tables.{none-fine, fine-open, fine-empty, fine-begun, reached-facts}
 use Rattle.drawing.proofs.Same.{same-is}
 use Rattle.drawing.proofs.Records.{Kept, opened, all_more, AllInside}
 use Rattle.drawing.specs.Sequences.{Held, begin, after, drawn, Inside, Sound}
@@ -59,7 +60,7 @@ at-inside x y = record { x = number_small x; y = number_small y }
 
 by-threes : (n : ℕ) → n ≤ most_records → n % 3 ≡ 1 → reached n ≡ true
 unfolding reached
-by-threes n h e = simp (le-leb n most_records h, eq-eqb (n % 3) 1 e, or_true_right)
+by-threes n h e = simp (le-leb n most_records h, eq-eqb (n % 3) 1 e, or-true)
 
 begun-count : (n : ℕ) → 0 < n → reached n ≡ true → n % 3 ≡ 1
 begun-count n h e = ⊎_elim (λ z. absurd (omega arith)) (λ w. w.1) (reached-facts n e)

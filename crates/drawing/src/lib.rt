@@ -5,9 +5,8 @@
 mod controls;
 mod numbers;
 
-ghost use Rattle.std.specs.Prelude.{Ok, ◌≡◌, [], ◌∷◌, ◌≤◌};
+ghost use Rattle.std.specs.Prelude.{◌≡◌};
 ghost use Rattle.whole.specs.Outcome.{outcome};
-ghost use Rattle.shape.specs.Shape.{most_records};
 ghost use Rattle.drawing.specs.declared.Step.TheVariants.{Move, Line, Cubic, Close};
 ghost use Rattle.drawing.specs.Drawing.{empty, opens, line};
 ghost use Rattle.drawing.specs.Reading.{miscounted, astray, out_of_turn, stepped};
@@ -100,7 +99,7 @@ impl State {
     }
 
     // The checks of the state in the paper's order: 3, 8, 12.
-    #[tactic(auto, unfolding(crate::specs::Inner::judge_state))]
+    #[tactic(auto, unfolding(crate::specs::Inner::judge_state, shape::specs::Refusals::judge))]
     fn check(self, opening: bool) -> Result<(), Refusal>
         ensures { result ≡ judge_state self opening }
     {
@@ -116,7 +115,8 @@ impl State {
         Ok(())
     }
 
-    // Records more: the checks 6 and 7, the writing, and the next state.
+    // The records that a step adds: the checks 6 and 7, the writing, and the next state. Of any state, since a count that is too large stays so.
+    #[tactic(auto, unfolding(crate::specs::Inner::extends, shape::specs::Refusals::judge))]
     fn add(
         self,
         records: &[Control],
@@ -143,6 +143,7 @@ impl State {
     }
 
     // Move gives the first control, and is start and current from then on.
+    #[tactic(auto, unfolding(crate::specs::Inner::goes_on, crate::specs::Inner::extends, crate::specs::Inner::judge_control, crate::specs::Drawing::added, shape::specs::Refusals::judge))]
     fn move_to(self, first: Point, controls: &mut [i32]) -> Result<State, Refusal>
         ensures { outcome result controls.new ≡ goes_on self (Move first.x first.y) controls.old }
     {
@@ -151,6 +152,7 @@ impl State {
     }
 
     // Line adds a line from current to its end.
+    #[tactic(auto, unfolding(crate::specs::Inner::goes_on, crate::specs::Inner::extends, crate::specs::Inner::judge_control, crate::specs::Drawing::added, shape::specs::Refusals::judge))]
     fn line_to(self, end: Point, controls: &mut [i32]) -> Result<State, Refusal>
         ensures { outcome result controls.new ≡ goes_on self (Line end.x end.y) controls.old }
     {
@@ -159,6 +161,7 @@ impl State {
     }
 
     // Cubic adds its three controls.
+    #[tactic(auto, unfolding(crate::specs::Inner::goes_on, crate::specs::Inner::extends, crate::specs::Inner::judge_control, crate::specs::Drawing::added, shape::specs::Refusals::judge))]
     fn cubic_to(
         self,
         first: Point,
@@ -187,6 +190,7 @@ impl State {
 
     // One step of a drawing. It is refused by the first check that fails, 3, 8, 12, then its numbers in order, 6, 7, and then no lent number changes and no state.
     // Else the records that it adds are written from record number count on, every other lent number stays, and the next state comes back.
+    #[tactic(auto, unfolding(crate::specs::Inner::goes_on, crate::specs::Reading::stepped, crate::specs::Inner::judge_state, shape::specs::Refusals::judge))]
     pub fn step(self, step: Step, controls: &mut [i32]) -> Result<State, Refusal>
         ensures { outcome result controls.new ≡ stepped self step controls.old }
     {

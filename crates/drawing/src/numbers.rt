@@ -15,6 +15,7 @@ pub(crate) struct Point {
 
 impl Point {
     // The control at the point, or the first of its numbers that is none: x has an index among the step's numbers, and y the next.
+    #[tactic(auto, unfolding(crate::specs::Inner::judge_number, crate::specs::Inner::judge_control, shape::specs::Refusals::judge))]
     pub(crate) fn control(self, place: usize) -> Result<Control, Refusal>
         requires { place ≤ 4 }
         ensures { result ≡ judge_control place self.x self.y }
@@ -26,7 +27,7 @@ impl Point {
 }
 
 // One number of a step, at its index: micrometres, or refused with the index.
-#[tactic(auto, unfolding(crate::specs::Inner::judge_number))]
+#[tactic(auto, unfolding(crate::specs::Inner::judge_number, shape::specs::Refusals::judge))]
 fn number(mm: f64, place: usize) -> Result<i32, Refusal>
     ensures { result ≡ judge_number place mm }
 {

@@ -56,10 +56,10 @@ by_digits P f g n = upto n n (omega arith)
     upto zero n h = f n (omega arith)
     upto (suc k) n h = cases n (f n) (λ many. g n many (upto k (n / 10) (omega arith)))
 
-pub width_few : (n : ℕ) → n < 10 → length (natural n) ≡ 1
+width_few : (n : ℕ) → n < 10 → length (natural n) ≡ 1
 width_few n h = ap length (natural-few n h)
 
-pub width-more : (n : ℕ) → 10 ≤ n → length (natural n) ≡ length (natural (n / 10)) + 1
+width-more : (n : ℕ) → 10 ≤ n → length (natural n) ≡ length (natural (n / 10)) + 1
 width-more n h = ap length (natural-more n h) ∙ length-append (natural (n / 10)) (digit (n % 10) ∷ [])
 
 -- a number below 10 ^ k, k at least one, has at most k digits
@@ -71,13 +71,6 @@ at_most (suc k) n h =
     (λ many.
     let smaller : n / 10 < 10 ^ suc k = (div-lt_iff_lt-mul (omega arith)).1 (rw (pow-suc 10 (suc k)) at h) in
     omega (arith, width-more n many, at_most k (n / 10) smaller))
-
--- 2 ^ 64 is below 10 ^ 20, and 2 ^ 63 below 10 ^ 19
-pub width-64 : (n : ℕ) → n < 2 ^ 64 → length (natural n) ≤ 20
-width-64 n h = at_most 19 n (omega arith)
-
-pub width-63 : (n : ℕ) → n ≤ 2 ^ 63 → length (natural n) ≤ 19
-width-63 n h = at_most 18 n (omega arith)
 
 pub some-digit : (n : ℕ) → 0 < length (natural n)
 some-digit n = cases n (λ few. omega (arith, width_few n few)) (λ many. omega (arith, width-more n many))

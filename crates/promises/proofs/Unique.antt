@@ -8,6 +8,10 @@ use Rattle.whole.specs.Unique.{Unique}
 use Rattle.shape.proofs.Unique as shape
 use Rattle.shape.proofs.check_shape.Kinds as check-shape-kinds
 use Rattle.shape.proofs.check_shape.Reads as check-shape-reads
+use Rattle.shape.proofs.Reason.number.Kinds as reason-number-kinds
+use Rattle.shape.proofs.Reason.number.Reads as reason-number-reads
+use Rattle.shape.proofs.Reason.at.Kinds as reason-at-kinds
+use Rattle.shape.proofs.Reason.at.Reads as reason-at-reads
 use Rattle.outline.proofs.Unique as outline
 use Rattle.outline.proofs.by_weights.Kinds as by-weights-kinds
 use Rattle.outline.proofs.by_weights.Reads as by-weights-reads
@@ -74,6 +78,12 @@ use Rattle.listing.proofs.list_refusal.Reads as list-refusal-reads
 
 pub check-shape : Unique 0 check-shape-kinds.ps check-shape-kinds.r check-shape-reads.Post
 check-shape = shape.check-shape-unique
+
+pub reason-number : Unique 0 reason-number-kinds.ps reason-number-kinds.r reason-number-reads.Post
+reason-number = shape.number-unique
+
+pub reason-at : Unique 0 reason-at-kinds.ps reason-at-kinds.r reason-at-reads.Post
+reason-at = shape.at-unique
 
 -- ---- drawing, three ways and by tolerance, and the view
 

@@ -7,9 +7,14 @@ use lib.ListN.{length, get_or, drop, length-drop, get_or-append}
 use Rattle.std.specs.List.{concat}
 use Rattle.std.specs.Simd.{first_chunks}
 use Rattle.std.proofs.lemmas.List.{get_or-append-add, take-append-drop}
-use Rattle.record_file.specs.Format.{word, signed, number}
+use lib.IntN.{pos}
+use Rattle.curve.specs.Tab.{tab}
+use Rattle.curve.specs.Span.{coordinate}
+use Rattle.curve.proofs.Tab.{get_or-tab}
+use Rattle.shape.specs.Refusals.{outside}
+use Rattle.record_file.specs.Format.{word, signed, number, numbers}
 use Rattle.record_file.specs.Rows.{zeros_row, alike_row, shape_of}
-use Rattle.record_file.specs.Inner.{unlike}
+use Rattle.record_file.specs.Inner.{unlike, strays}
 
 -- whole chunks of 12 leave nothing out
 pub chunks-joined : (n : ℕ) (file : List ℕ) → length file ≡ 12 * n → concat (first_chunks 12 n file) ≡ file
@@ -61,6 +66,21 @@ module _ (rs : List (List ℕ)) (w : (i : ℕ) → i < length rs → length (get
       let some : 0 < length rs = omega arith in
       rw
       (byte-joined rs w i 0 h (omega arith), byte-joined rs w i 1 h (omega arith), byte-joined rs w i 2 h (omega arith), byte-joined rs w 0 0 some (omega arith), byte-joined rs w 0 1 some (omega arith), byte-joined rs w 0 2 some (omega arith))
+
+  pub strays-joined : outside (numbers (concat rs) (length rs)) i ≡ strays bytes
+  unfolding outside coordinate strays
+  strays-joined =
+      let f = number (concat rs) in
+      let n = 2 * length rs in
+      let x : get_or (tab f 0 n) (2 * i + 0) (pos 0) ≡ signed (word bytes 4) = rw (get_or-tab f 0 n (2 * i + 0) (omega arith) (pos 0)) (even ∙ x-joined) in
+      let y : get_or (tab f 0 n) (2 * i + 1) (pos 0) ≡ signed (word bytes 8) = rw (get_or-tab f 0 n (2 * i + 1) (omega arith) (pos 0)) (odd ∙ y-joined) in
+      rw (x, y)
+    where
+      even : number (concat rs) (0 + (2 * i + 0)) ≡ number (concat rs) (2 * i)
+      even = let e : 0 + (2 * i + 0) ≡ 2 * i = omega arith in rw e
+
+      odd : number (concat rs) (0 + (2 * i + 1)) ≡ number (concat rs) (2 * i + 1)
+      odd = let e : 0 + (2 * i + 1) ≡ 2 * i + 1 = omega arith in rw e
 
 pub shape-joined : (rs : List (List ℕ)) → ((i : ℕ) → i < length rs → length (get_or rs i []) ≡ 12) → 1 ≤ length rs
     → shape_of (concat rs) (length rs) ≡ record { basis = get_or (get_or rs 0 []) 0 0; depth = get_or (get_or rs 0 []) 1 0; count = length rs; parameter = get_or (get_or rs 0 []) 2 0 }

@@ -9,9 +9,11 @@ ghost use Rattle.shape.specs.Refusals.{judge};
 ghost use Rattle.shape.specs.Shape.{most_records};
 ghost use Rattle.record_file.specs.Format.{record_bytes, word, signed, numbers};
 ghost use Rattle.record_file.specs.Rows.{reading, zeros_row, record_rows, later_rows, list_rows, accepts};
-ghost use Rattle.record_file.specs.Inner.{unlike, rows_of};
+ghost use Rattle.record_file.specs.Inner.{unlike, rows_of, strays, limits_rows};
 
-use shape::{MOST_RECORDS, Reason, Refusal, Shape, check_shape, first_outside};
+use curve::LIMIT;
+use curve::bounds::is_beyond;
+use shape::{MOST_RECORDS, Reason, Refusal, Shape, check_shape};
 
 // The bytes of a record, and of the longest file.
 const RECORD_BYTES: usize = 12;
@@ -89,21 +91,36 @@ fn check_records(records: &[Record]) -> Result<(), Refusal>
     Ok(())
 }
 
-// Rows 7 and 8, and then the controls. The records are looked at in a list of our own first, so that a refusal writes nothing.
+// Whether a coordinate of the record is outside the limits.
+#[tactic(auto, unfolding(crate::specs::Inner::strays))]
+fn is_outside(bytes: &Record) -> bool
+    ensures { result ≡ strays bytes.now }
+{
+    is_beyond(coordinate(bytes, X), LIMIT) || is_beyond(coordinate(bytes, Y), LIMIT)
+}
+
+// Row 8: the first of the records that is outside the limits.
+fn check_limits(records: &[Record]) -> Result<(), Refusal>
+    ensures { result ≡ judge (limits_rows (concat records.now) (length records.now)) Err (Ok tt) }
+{
+    for (place, record) in records.iter().enumerate() {
+        if is_outside(record) {
+            return Err(Reason::OutsideLimits.at(place));
+        }
+    }
+    Ok(())
+}
+
+// Rows 7 and 8, and then the controls.
+#[tactic(auto, unfolding(shape::specs::Refusals::judge))]
 fn read_numbers(records: &[Record], shape: Shape, controls: &mut [i32]) -> Result<Shape, Refusal>
     requires { length records.now ≤ most_records }
     ensures { outcome result controls.new ≡ judge (list_rows (concat records.now) (length records.now) controls.old) (refuses Err controls.old) (outcome (Ok shape) (sets controls.old 0 (numbers (concat records.now) (length records.now)))) }
 {
-    let count = records.len();
-    if controls.len() < 2 * count {
+    if controls.len() < 2 * records.len() {
         return Err(Reason::ShortControls.into());
     }
-    let mut own = [0i32; MOST_CONTROLS];
-    write_numbers(records, &mut own);
-    let at = first_outside(&own, count);
-    if at < count {
-        return Err(Reason::OutsideLimits.at(at));
-    }
+    check_limits(records)?;
     write_numbers(records, controls);
     Ok(shape)
 }

@@ -12,7 +12,7 @@ use crate::span::Span;
 use crate::way::Way;
 use curve::Four;
 
-// The way of document 01 that halves.
+// The way that halves.
 pub struct ByHalving;
 
 // The 2^left starts of the pieces of a piece with `left` more cuts to make, from number `at` on. It answers how many of their numbers are exact.

@@ -4,7 +4,7 @@ use crate::span::Span;
 use crate::way::Way;
 use curve::Differences;
 
-// The way of document 01 that adds.
+// The way that adds.
 pub struct ByDifferences;
 
 impl Way for ByDifferences {

@@ -11,7 +11,7 @@ use crate::way::Way;
 use curve::weights::weighted_sum;
 use curve::{DEEPEST, Four, MOST_STEPS};
 
-// The way of document 01 that reads the table.
+// The way that reads the table of weights.
 pub struct ByWeights;
 
 // The sum of a span at a step. Depth k uses every 2^(8-k)-th row of the table, and such a row gives the sum 2^(3(8-k)) times as large, so that nothing is lost by the shift.
@@ -25,7 +25,7 @@ fn table_sum(q: Four, depth: usize, step: usize) -> i64
 }
 
 impl Way for ByWeights {
-    // Steps and rows are counted by the table's: by a shifted 1 the compiled loop shifts once more a point, which costs a fifth.
+    // Steps and rows are counted by the table's: where both are a shifted 1, the compiled loop shifts twice more a point, and a point costs a fifth more.
     #[inline(always)]
     fn fill_span(points: &mut [i32], at: usize, span: Span) -> usize {
         let mut exact = 0;

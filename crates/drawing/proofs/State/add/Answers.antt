@@ -1,10 +1,10 @@
--- The rows 6 and 7 are tested in their order; where neither holds, the records are written and the last of them is current.
+-- Where neither row 6 nor row 7 holds, the records are written and the last of them is current.
 use Rattle.std.specs.List.{slice_get}
 use Rattle.std.specs.Option.{unwrap_or}
 use Rattle.std.proofs.Common.{◌≡◌, ◌∙◌, ap, sym, refl, List, [], ◌∷◌, length, ◌+◌, ◌-◌, arith}
 use Rattle.drawing.specs.declared.Control.{Control}
 use Rattle.drawing.specs.Drawing.{last_of}
-use Rattle.drawing.proofs.Tables.{too_many, too_short, roomy}
+use Rattle.drawing.proofs.Tables.{roomy}
 use Rattle.drawing.proofs.State.add.Goals as goal
 
 last-at : (c d a : Control) (cs : List Control) → unwrap_or (slice_get (a ∷ cs) (length cs)) d ≡ last_of c (a ∷ cs)
@@ -14,16 +14,6 @@ last-at c d a (b ∷ cs) = last-at a d b cs
 last-is : (c : Control) (cs : List Control) → unwrap_or (slice_get cs (length cs - 1)) c ≡ last_of c cs
 last-is c [] = refl
 last-is c (a ∷ cs) = let less : length (a ∷ cs) - 1 ≡ length cs = omega arith in rw less (last-at c c a cs)
-
-pub returns-then-count-gt-MOST_RECORDS : goal.returns-then-count-gt-MOST_RECORDS
-returns-then-count-gt-MOST_RECORDS c =
-    let t = c.args in
-    rw c.into.ensures (sym (too_many t.self t.records.now t.start t.closed t.controls.now (omega arith)))
-
-pub returns-then-controls-count : goal.returns-then-controls-count
-returns-then-controls-count c =
-    let t = c.args in
-    rw c.into-then-controls-count.ensures (sym (too_short t.self t.records.now t.start t.closed t.controls.now (omega arith) (omega arith)))
 
 pub returns : goal.returns
 returns c =

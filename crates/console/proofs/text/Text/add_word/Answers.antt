@@ -1,5 +1,5 @@
 -- A word that fits stands behind the text, and one that does not is left out.
-use Rattle.std.proofs.Common.{◌≡◌, ℕ, List, take, arith, ap, ◌∙◌}
+use Rattle.std.proofs.Common.{ℕ, List, take, arith, ap, ◌∙◌}
 use Rattle.std.specs.Prelude.{unwrap_or}
 use Rattle.console.specs.Text.{with_word}
 use Rattle.console.proofs.Put.{Put, put}
