@@ -8,21 +8,20 @@ mod loops;
 mod outlines;
 mod parameters;
 
-use arrayvec::ArrayString;
 use console::write_output;
 use std::fmt;
 
 // The most bytes that the sums have.
 const LONGEST: usize = 4096;
 
-// The text of the sums: a string in fixed memory, as wherever the programs write.
-pub(crate) type Text = ArrayString<LONGEST>;
+// The text of the sums.
+pub(crate) type Text = console::Text<LONGEST>;
 
 // Text that does not fit would end what is written.
 fn main(rt: HostRuntime) {
     let mut text = Text::new();
     let _ = put_sums(&mut text);
-    let _ = write_output(&rt, text.as_bytes());
+    let _ = write_output(&rt, text.written());
 }
 
 // Every sum: those of the bases, of edits and of a drawing's numbers, at the limits, with a parameter, and of loops.

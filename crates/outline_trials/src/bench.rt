@@ -41,14 +41,16 @@ impl From<io::Error> for Stop {
 }
 
 // A list becomes so many times the same number.
-fn fill<T: Copy + Drop + MadeWith<()>, const N: usize>(
+fn fill<T: Copy + MadeWith<()>, const N: usize>(
     list: &mut ArrayVec<T, N>,
     length: usize,
     number: T,
 ) -> Result<(), Stop> {
     list.clear();
-    list.extend(iter::repeat_n(number, length))
-        .map_err(|_| Stop::Bad)
+    for _ in 0..length {
+        list.try_push(number).map_err(|_| Stop::Bad)?;
+    }
+    Ok(())
 }
 
 impl Bench {

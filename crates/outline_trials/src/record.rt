@@ -145,8 +145,8 @@ impl<'a> Record<'a> {
     // The first so many of the bytes that stand in the record, one at least.
     fn more_file(self) -> Option<&'a [u8]> {
         let more = self.a.natural().filter(|n| *n != 0)?;
-        let bytes = &self.bytes[..];
-        bytes.get(FILE_BYTES..FILE_BYTES + more)
+        let bytes = self.bytes;
+        bytes[FILE_BYTES..].get(..more)
     }
 
     // The last number says whether the drawing is closed.
