@@ -1,17 +1,15 @@
 -- For contracts inside the project alone: no public contract uses what is here.
 -- Runs of spans and carrying them by one span, and what is known once the checks of an edit have passed.
 use Rattle.std.specs.Prelude.{cond, true, false, List, ◌≡◌, ℕ, ◌+◌, ◌*◌, ◌-◌, ◌≤◌, ◌<◌, ltb, ℤ, pos, get_or, length, Err, Ok, Result}
-use Rattle.std.specs.Coded.{Unit-prop, le_prop}
+use Rattle.std.specs.Coded.{le_prop}
 use native.Mathlib.Nat.{ℕ_set}
 use Rattle.asked.specs.declared.Edit.{Edit}
 use Rattle.asked.specs.declared.Edit.TheVariants.{Move, Insert, Remove}
 use Rattle.whole.specs.Outcome.{Outcome, outcome, refuses}
-use Rattle.curve.specs.declared.Basis.{Basis}
-use Rattle.curve.specs.declared.Basis.TheVariants.{Bezier, BSpline, Cardinal, Hermite, Loop}
 use Rattle.curve.specs.Span.{is_loop}
 use Rattle.shape.specs.declared.Shape.{Shape}
 use Rattle.shape.specs.declared.Plan.{Plan}
-use Rattle.shape.specs.Inner.{Good, RunsRound}
+use Rattle.shape.specs.Inner.{Good, runs_round-prop}
 use Rattle.shape.specs.Shape.{most_records}
 use Rattle.spans.specs.Numbers.{number, per_span}
 use Rattle.spans.specs.Filled.{filled, fills}
@@ -44,13 +42,6 @@ fills_ends p controls from to l =
     outcome (last.answer + first.answer) first.held
 
 -- That a plan's spans can be drawn from controls is so in one way: a struct may keep it.
-runs_round-prop : (b : Basis) (m : ℕ) → IsProp (RunsRound b m)
-runs_round-prop Bezier m = Unit-prop
-runs_round-prop BSpline m = Unit-prop
-runs_round-prop (Cardinal c) m = Unit-prop
-runs_round-prop Hermite m = Unit-prop
-runs_round-prop (Loop n) m = hlevel (le_prop, ℕ_set)
-
 pub drawable-prop : (p : Plan) (controls : List ℤ) → IsProp (Drawable p controls)
 drawable-prop p controls = hlevel (le_prop, ℕ_set, runs_round-prop)
 
