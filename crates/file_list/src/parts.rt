@@ -2,7 +2,6 @@
 ghost use Rattle.std.specs.Prelude.{◌≡◌, ◌≤◌, ◌<◌, length};
 ghost use Rattle.whole.specs.Outcome.{outcome};
 ghost use Rattle.curve.specs.Ways.{deepest};
-ghost use Rattle.shape.specs.Inner.{Good};
 ghost use Rattle.shape.specs.Shape.{most_records};
 ghost use Rattle.shape.specs.Refusals.{judge_shape};
 ghost use Rattle.listing.specs.Written.{Within, written};
@@ -15,7 +14,7 @@ use curve::records::{first_record, record_at};
 use curve::{Basis, MOST_STEPS};
 use listing::{list_heading, list_points};
 use outline::by_differences;
-use shape::{B_SPLINE, LEAST_RECORDS, LOOP, Plan, Refusal, Shape, check_shape};
+use shape::{B_SPLINE, LEAST_RECORDS, LOOP, Plan, Refusal, Shape, SoundShape, check_shape};
 
 // The points of a span at the deepest, its start and its end among them, and their numbers.
 const SPAN_POINTS: usize = MOST_STEPS + 1;
@@ -85,48 +84,40 @@ fn put_only(refusal: Refusal, part: usize, text: &mut [u8]) -> Option<usize>
 fn put_shape_part(shape: Shape, part: usize, controls: &[i32], text: &mut [u8]) -> Option<usize>
     ensures { outcome result text.new ≡ written text.old 0 (shape_part shape controls.now (judge_shape shape) part) }
 {
-    match check_shape(shape) {
+    match SoundShape::try_from(shape) {
         Err(refusal) => put_only(refusal, part, text),
-        Ok(plan) => put_outline_part(shape, plan, part, controls, text),
+        Ok(sound) => put_outline_part(sound, part, controls, text),
     }
 }
 
 // A part of an outline: the first line, or a span's lines.
 fn put_outline_part(
-    shape: Shape,
-    plan: Plan,
+    sound: SoundShape,
     part: usize,
     controls: &[i32],
     text: &mut [u8],
 ) -> Option<usize>
-    requires { Good shape plan }
-    ensures { outcome result text.new ≡ written text.old 0 (outline_part shape plan controls.now part) }
+    ensures { outcome result text.new ≡ written text.old 0 (outline_part sound.shape sound.plan controls.now part) }
 {
+    let SoundShape { shape, plan } = sound;
     if part == 0 {
         return list_heading(text, shape.basis, shape.depth, plan.spans, plan.points());
     }
     let span = part - 1;
     if span < plan.spans {
-        put_span(shape, plan, span, controls, text)
+        put_span(sound, span, controls, text)
     } else {
         Some(0)
     }
 }
 
 // The lines of a span, drawn from a copy of its four records; none where the list lacks one of them.
-fn put_span(
-    shape: Shape,
-    plan: Plan,
-    span: usize,
-    controls: &[i32],
-    text: &mut [u8],
-) -> Option<usize>
-    requires good { Good shape plan }
-    requires span_lt_spans { span < plan.spans }
-    ensures { outcome result text.new ≡ written text.old 0 (span_text shape plan controls.now span) }
+fn put_span(sound: SoundShape, span: usize, controls: &[i32], text: &mut [u8]) -> Option<usize>
+    requires { span < sound.plan.spans }
+    ensures { outcome result text.new ≡ written text.old 0 (span_text sound.shape sound.plan controls.now span) }
 {
-    match own_records(controls, plan.basis, span) {
-        Some(own) => put_lines(shape, plan, span, &own, text),
+    match own_records(controls, sound.plan.basis, span) {
+        Some(own) => put_lines(sound, span, &own, text),
         None => Some(0),
     }
 }
@@ -152,17 +143,11 @@ fn alone_basis(number: usize) -> usize
 }
 
 // The span drawn by itself, and the lines of its own points, numbered as in the outline; none where it is refused.
-fn put_lines(
-    shape: Shape,
-    plan: Plan,
-    span: usize,
-    records: &[i32],
-    text: &mut [u8],
-) -> Option<usize>
-    requires good { Good shape plan }
-    requires span_lt_spans { span < plan.spans }
-    ensures { outcome result text.new ≡ written text.old 0 (records_text shape plan records.now span) }
+fn put_lines(sound: SoundShape, span: usize, records: &[i32], text: &mut [u8]) -> Option<usize>
+    requires { span < sound.plan.spans }
+    ensures { outcome result text.new ≡ written text.old 0 (records_text sound.shape sound.plan records.now span) }
 {
+    let SoundShape { shape, plan } = sound;
     let mut points = [0i32; SPAN_NUMBERS];
     let one = Shape {
         basis: alone_basis(shape.basis),

@@ -3,11 +3,10 @@
 
 ghost use Rattle.std.specs.Prelude.{◌≡◌, ◌+◌, ◌*◌};
 ghost use Rattle.whole.specs.Outcome.{outcome};
-ghost use Rattle.shape.specs.Inner.{Good};
 ghost use Rattle.outline.specs.Outline.{draws, draws_plan};
 ghost use Rattle.outline.specs.View.{part_of, viewed};
 
-use shape::{Plan, Refusal, Shape, check_lists, check_shape};
+use shape::{Refusal, Shape, SoundShape, check_lists, check_shape};
 use spans::draft::Draft;
 use spans::halving::ByHalving;
 use spans::stepping::ByDifferences;
@@ -51,20 +50,19 @@ pub fn by_differences(
 fn draw<W: Way>(shape: Shape, controls: &[i32], points: &mut [i32]) -> Result<Figures, Refusal>
     ensures { outcome result points.new ≡ draws shape controls.now points.old }
 {
-    let plan = check_shape(shape)?;
-    draw_plan::<W>(shape, plan, controls, points)
+    let sound = SoundShape::try_from(shape)?;
+    draw_plan::<W>(sound, controls, points)
 }
 
 // The checks of the lists, rows 7 to 9, and the points where they pass.
 fn draw_plan<W: Way>(
-    shape: Shape,
-    plan: Plan,
+    sound: SoundShape,
     controls: &[i32],
     points: &mut [i32],
 ) -> Result<Figures, Refusal>
-    requires { Good shape plan }
-    ensures { outcome result points.new ≡ draws_plan shape.count plan controls.now points.old }
+    ensures { outcome result points.new ≡ draws_plan sound.shape.count sound.plan controls.now points.old }
 {
+    let SoundShape { shape, plan } = sound;
     let count = plan.points();
     check_lists(shape.count, controls, count, points.len())?;
     let draft = Draft { plan, controls };

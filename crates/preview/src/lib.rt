@@ -8,14 +8,13 @@ ghost use Rattle.curve.specs.Span.{first_record};
 ghost use Rattle.curve.specs.Ways.{deepest};
 ghost use Rattle.shape.specs.Refusals.{judge};
 ghost use Rattle.shape.specs.Shape.{most_records, points_of};
-ghost use Rattle.shape.specs.Inner.{Good};
 ghost use Rattle.preview.specs.Halving.{control, halved, left_half, pieces, right_half, span_pieces, two};
 ghost use Rattle.preview.specs.Preview.{later_rows, accepts, previewing};
 
 use curve::Basis;
 use curve::records::first_record;
 use doubles::{Pair, double_of, midpoint_pair};
-use shape::{Plan, Reason, Refusal, Shape, check_lists, check_shape};
+use shape::{Reason, Refusal, Shape, SoundShape, check_lists};
 
 // The basis that the preview is offered for.
 const BEZIER: usize = 1;
@@ -127,10 +126,10 @@ fn fill_spans(controls: &[i32], spans: usize, depth: usize, points: &mut [f64])
 }
 
 // Rows 4, 7, 8, 9 for a shape that was found sound, and then the points.
-fn preview_plan(shape: Shape, plan: Plan, controls: &[i32], points: &mut [f64]) -> Result<usize, Refusal>
-    requires { Good shape plan }
-    ensures { outcome result points.new ≡ judge (later_rows shape plan controls.now (length points.old)) (refuses Err points.old) (accepts plan controls.now points.old) }
+fn preview_plan(sound: SoundShape, controls: &[i32], points: &mut [f64]) -> Result<usize, Refusal>
+    ensures { outcome result points.new ≡ judge (later_rows sound.shape sound.plan controls.now (length points.old)) (refuses Err points.old) (accepts sound.plan controls.now points.old) }
 {
+    let SoundShape { shape, plan } = sound;
     let basis = shape.basis;
     if basis != BEZIER {
         return Err(Reason::NotOffered.into());
@@ -147,6 +146,6 @@ fn preview_plan(shape: Shape, plan: Plan, controls: &[i32], points: &mut [f64]) 
 pub fn preview(shape: Shape, controls: &[i32], points: &mut [f64]) -> Result<usize, Refusal>
     ensures { outcome result points.new ≡ previewing shape controls.now points.old }
 {
-    let plan = check_shape(shape)?;
-    preview_plan(shape, plan, controls, points)
+    let sound = SoundShape::try_from(shape)?;
+    preview_plan(sound, controls, points)
 }

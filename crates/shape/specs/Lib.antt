@@ -6,3 +6,4 @@ pub mod Refusals
 pub mod Exactly
 pub mod Lists
 pub mod Inner
+pub mod Sound

@@ -1,7 +1,5 @@
-// A shape that was found sound, with its plan: what the calls inside the project take once its checks have passed.
-ghost use Rattle.std.specs.Prelude.{◌≡◌, Err, MatchResult, Ok};
+// A shape that was found sound, with its plan: what the functions inside the project take once its checks have passed.
 ghost use Rattle.shape.specs.Inner.{Good, good-prop};
-ghost use Rattle.shape.specs.Refusals.{judge_shape};
 
 use crate::{Plan, Refusal, Shape, check_shape};
 
@@ -15,9 +13,11 @@ pub struct SoundShape {
 
 // The checks of a shape in the paper's order: the refusal, or the shape with its plan.
 impl TryFrom<Shape> for SoundShape {
+    ghost use Rattle.shape.specs.Sound.{Found};
+
     type Error = Refusal;
 
-    ghost try_from_gives = { λ shape r. MatchResult r (λ sound. (sound.shape ≡ shape) × (judge_shape shape ≡ Ok sound.plan)) (λ refusal. judge_shape shape ≡ Err refusal) };
+    ghost try_from_gives = { Found };
 
     fn try_from(shape: Shape) -> Result<SoundShape, Refusal> {
         let plan = check_shape(shape)?;

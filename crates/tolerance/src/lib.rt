@@ -4,14 +4,13 @@
 
 ghost use Rattle.std.specs.Prelude.{◌≡◌};
 ghost use Rattle.whole.specs.Outcome.{outcome};
-ghost use Rattle.shape.specs.Inner.{Good};
 ghost use Rattle.tolerance.specs.Reading.{chooses, chooses_last, chooses_plan, cuts_of};
 ghost use Rattle.tolerance.specs.Inner.{Choosable};
 
 mod spanwise;
 
 use pieces::MOST_TOLERANCE;
-use shape::{Plan, Reason, Refusal, Shape, check_controls, check_shape};
+use shape::{Reason, Refusal, Shape, SoundShape, check_controls};
 use spans::draft::Draft;
 use spanwise::{count_all, fill_all};
 
@@ -34,22 +33,21 @@ pub fn by_tolerance(
 ) -> Result<Steps, Refusal>
     ensures { outcome result points.new ≡ chooses shape tolerance most controls.now points.old }
 {
-    let plan = check_shape(shape)?;
-    choose_plan(shape, plan, tolerance, most, controls, points)
+    let sound = SoundShape::try_from(shape)?;
+    choose_plan(sound, tolerance, most, controls, points)
 }
 
 // The checks of the controls and of the tolerance, rows 7, 8 and 20, the walk, rows 21 and 22, and the rest where they pass.
 fn choose_plan(
-    shape: Shape,
-    plan: Plan,
+    sound: SoundShape,
     tolerance: usize,
     most: usize,
     controls: &[i32],
     points: &mut [i32],
 ) -> Result<Steps, Refusal>
-    requires { Good shape plan }
-    ensures { outcome result points.new ≡ chooses_plan shape.count plan tolerance most controls.now points.old }
+    ensures { outcome result points.new ≡ chooses_plan sound.shape.count sound.plan tolerance most controls.now points.old }
 {
+    let SoundShape { shape, plan } = sound;
     check_controls(shape.count, controls)?;
     if MOST_TOLERANCE < tolerance {
         return Err(Reason::TooCoarse.into());

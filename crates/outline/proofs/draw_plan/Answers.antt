@@ -26,46 +26,46 @@ use Rattle.outline.proofs.draw_plan.Goals.{After-check_lists, In_ok-check_lists}
 
 pub check_lists-requires : goal.check_lists-requires
 check_lists-requires g c =
-    let p = c.args.plan in
-    (omega (arith, c.requires.records-most), subst (λ (n : ℕ). n ≤ most_points) (sym c.points-count.ensures) (points-at-most p.depth p.spans c.requires.depth-most (omega (arith, c.requires.spans-most, c.requires.records-most))))
+    let p = c.args.sound.plan in
+    (omega (arith, c.args.sound.good.records-most), subst (λ (n : ℕ). n ≤ most_points) (sym c.points-count.ensures) (points-at-most p.depth p.spans c.args.sound.good.depth-most (omega (arith, c.args.sound.good.spans-most, c.args.sound.good.records-most))))
 
 -- what the list checks found, for the outline's own number of points
 listed : (g : Over) (c : After-check_lists g) → c.check_lists.result
-    ≡ judge_lists c.args.shape.count c.args.controls.now (points c.args.plan) (length c.args.points.now)
+    ≡ judge_lists c.args.sound.shape.count c.args.controls.now (points c.args.sound.plan) (length c.args.points.now)
 listed g c =
     let a = c.args in
-    c.check_lists.ensures ∙ ap (λ (n : ℕ). judge_lists a.shape.count a.controls.now n (length a.points.now)) c.points-count.ensures
+    c.check_lists.ensures ∙ ap (λ (n : ℕ). judge_lists a.sound.shape.count a.controls.now n (length a.points.now)) c.points-count.ensures
 
 pub returns-in_err-check_lists : goal.returns-in_err-check_lists
 returns-in_err-check_lists g c =
     let a = c.args in
     let r = c.in_err-check_lists.field-0.0 in
     let out : c.from_residual.result ≡ Err r = search rules in
-    ap (λ x. outcome x a.points.now) out ∙ sym (plan-bad a.shape.count a.plan a.controls.now a.points.now r (sym (listed g c.before.before.before) ∙ c.in_err-check_lists.was))
+    ap (λ x. outcome x a.points.now) out ∙ sym (plan-bad a.sound.shape.count a.sound.plan a.controls.now a.points.now r (sym (listed g c.before.before.before) ∙ c.in_err-check_lists.was))
 
 -- the lists are fine
 module _ (g : Over) (c : In_ok-check_lists g) where
   abbrev plan : Plan
-  plan = c.args.plan
+  plan = c.args.sound.plan
 
-  is-fine : judge_lists c.args.shape.count c.args.controls.now (points plan) (length c.args.points.now) ≡ Ok tt
+  is-fine : judge_lists c.args.sound.shape.count c.args.controls.now (points plan) (length c.args.points.now) ≡ Ok tt
   is-fine = sym (listed g c.before.before) ∙ c.in_ok-check_lists.was
 
-  lent : Lent c.args.shape.count c.args.controls.now (points plan) (length c.args.points.now)
-  lent = fine-facts c.args.shape.count c.args.controls.now (points plan) (length c.args.points.now) is-fine
+  lent : Lent c.args.sound.shape.count c.args.controls.now (points plan) (length c.args.points.now)
+  lent = fine-facts c.args.sound.shape.count c.args.controls.now (points plan) (length c.args.points.now) is-fine
 
 pub invariant_of-draft : goal.invariant_of-draft
 invariant_of-draft g c =
     let s = c.args in
     record {
-      deep = c.requires.depth-most;
-      some = c.requires.spans-least;
-      drawable = drawable s.shape s.plan c.requires s.controls.now (points s.plan) (length s.points.now) (lent g c);
+      deep = s.sound.good.depth-most;
+      some = s.sound.good.spans-least;
+      drawable = drawable s.sound.shape s.sound.plan s.sound.good s.controls.now (points s.sound.plan) (length s.points.now) (lent g c);
     }
 
 pub fill-exact-requires-clause-room : goal.fill-exact-requires-clause-room
 fill-exact-requires-clause-room g c =
-    let p = c.args.plan in
+    let p = c.args.sound.plan in
     omega (arith, all-numbers p.depth p.spans, (lent g c.before.before.before).points-room)
 
 -- the run from span 0 on is the whole outline
@@ -80,8 +80,8 @@ pub returns : goal.returns
 returns g c =
     let t = c.before.before.before.before.before in
     let a = c.args in
-    let p = a.plan in
+    let p = a.sound.plan in
     let count = c.points-count.ensures in
     let filled = c.fill-exact.ensures ∙ whole_run p a.controls.now a.points.now in
     (λ i. outcome (Ok (record { points = count i; exact = (filled i).answer })) (filled i).held)
-    ∙ sym (plan-drawn a.shape.count p a.controls.now a.points.now (is-fine g t))
+    ∙ sym (plan-drawn a.sound.shape.count p a.controls.now a.points.now (is-fine g t))

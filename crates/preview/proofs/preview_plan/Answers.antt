@@ -16,12 +16,12 @@ use Rattle.preview.proofs.preview_plan.Goals as goal
 pub returns-then-basis-ne-BEZIER : goal.returns-then-basis-ne-BEZIER
 returns-then-basis-ne-BEZIER c =
     let a = c.args in
-    ap (λ r. outcome (Err r) a.points.now) c.into.ensures ∙ not-offered a.shape a.plan a.controls.now a.points.now c.if-basis-ne-BEZIER.true
+    ap (λ r. outcome (Err r) a.points.now) c.into.ensures ∙ not-offered a.sound.shape a.sound.plan a.controls.now a.points.now c.if-basis-ne-BEZIER.true
 
 pub check_lists-requires : goal.check_lists-requires
 check_lists-requires c =
-    let p = c.args.plan in
-    let g = c.requires in
+    let p = c.args.sound.plan in
+    let g = c.args.sound.good in
     (g.records-most, subst (λ (n : ℕ). n ≤ most_points) (sym c.points-count.ensures) (points-at-most p.depth p.spans g.depth-most (omega (arith, g.spans-most, g.records-most))))
 
 pub returns-in_err-check_lists : goal.returns-in_err-check_lists
@@ -30,26 +30,26 @@ returns-in_err-check_lists c =
     let r = c.in_err-check_lists.field-0.0 in
     let out : c.from_residual.result ≡ Err r = search rules in
     ap (λ x. outcome x a.points.now) out
-    ∙ lists-fail a.shape a.plan a.controls.now a.points.now c.if-basis-ne-BEZIER.false c.points-count.result c.points-count.ensures r (sym c.check_lists.ensures ∙ c.in_err-check_lists.was)
+    ∙ lists-fail a.sound.shape a.sound.plan a.controls.now a.points.now c.if-basis-ne-BEZIER.false c.points-count.result c.points-count.ensures r (sym c.check_lists.ensures ∙ c.in_err-check_lists.was)
 
 pub fill_spans-requires-clause-depth_le_deepest : goal.fill_spans-requires-clause-depth_le_deepest
 unfolding first_record
 fill_spans-requires-clause-depth_le_deepest c =
     let a = c.args in
-    (c.requires.depth-most, omega (arith, bezier-count a.shape a.plan a.controls.now a.points.now c.requires c.if-basis-ne-BEZIER.false, c.requires.records-most))
+    (c.args.sound.good.depth-most, omega (arith, bezier-count a.sound.shape a.sound.plan a.controls.now a.points.now c.args.sound.good c.if-basis-ne-BEZIER.false, c.args.sound.good.records-most))
 
 pub fill_spans-requires-clause-spans_in_bounds : goal.fill_spans-requires-clause-spans_in_bounds
 unfolding first_record
 fill_spans-requires-clause-spans_in_bounds c =
     let a = c.args in
-    let l = fine-facts a.shape.count a.controls.now c.points-count.result (length a.points.now) (sym c.check_lists.ensures ∙ c.in_ok-check_lists.was) in
-    (omega (arith, bezier-count a.shape a.plan a.controls.now a.points.now c.requires c.if-basis-ne-BEZIER.false, l.room), omega (arith, l.points-room, c.points-count.ensures))
+    let l = fine-facts a.sound.shape.count a.controls.now c.points-count.result (length a.points.now) (sym c.check_lists.ensures ∙ c.in_ok-check_lists.was) in
+    (omega (arith, bezier-count a.sound.shape a.sound.plan a.controls.now a.points.now c.args.sound.good c.if-basis-ne-BEZIER.false, l.room), omega (arith, l.points-room, c.points-count.ensures))
 
 pub returns : goal.returns
 returns c =
     let a = c.args in
     let n = c.points-count.result in
     let fine = sym c.check_lists.ensures ∙ c.in_ok-check_lists.was in
-    let l = fine-facts a.shape.count a.controls.now n (length a.points.now) fine in
-    drawn-is a.shape a.plan a.controls.now a.points.now c.requires c.if-basis-ne-BEZIER.false n (length a.points.now) l n c.points-count.ensures c.fill_spans.new.points c.fill_spans.ensures
-    ∙ lists-pass a.shape a.plan a.controls.now a.points.now c.if-basis-ne-BEZIER.false n c.points-count.ensures fine
+    let l = fine-facts a.sound.shape.count a.controls.now n (length a.points.now) fine in
+    drawn-is a.sound.shape a.sound.plan a.controls.now a.points.now c.args.sound.good c.if-basis-ne-BEZIER.false n (length a.points.now) l n c.points-count.ensures c.fill_spans.new.points c.fill_spans.ensures
+    ∙ lists-pass a.sound.shape a.sound.plan a.controls.now a.points.now c.if-basis-ne-BEZIER.false n c.points-count.ensures fine

@@ -23,26 +23,26 @@ returns-in_err-check_controls c =
     let r = c.in_err-check_controls.field-0.0 in
     let out : c.from_residual.result ≡ Err r = search rules in
     ap (λ x. outcome x a.points.now) out
-    ∙ sym (plan-bad a.shape.count a.plan a.tolerance a.most a.controls.now a.points.now r (sym c.check_controls.ensures ∙ c.in_err-check_controls.was))
+    ∙ sym (plan-bad a.sound.shape.count a.sound.plan a.tolerance a.most a.controls.now a.points.now r (sym c.check_controls.ensures ∙ c.in_err-check_controls.was))
 
 -- the controls are fine
-fine : (c : In_ok-check_controls) → judge_controls c.args.shape.count c.args.controls.now ≡ Ok tt
+fine : (c : In_ok-check_controls) → judge_controls c.args.sound.shape.count c.args.controls.now ≡ Ok tt
 fine c = sym c.check_controls.ensures ∙ c.in_ok-check_controls.was
 
 pub returns-then-tolerance-gt-MOST_TOLERANCE : goal.returns-then-tolerance-gt-MOST_TOLERANCE
 returns-then-tolerance-gt-MOST_TOLERANCE c =
     let a = c.args in
     ap (λ r. outcome (Err r) a.points.now) c.into.ensures
-    ∙ sym (plan-far a.shape.count a.plan a.tolerance a.most a.controls.now a.points.now (fine c.before.before) c.if-tolerance-gt-MOST_TOLERANCE.true)
+    ∙ sym (plan-far a.sound.shape.count a.sound.plan a.tolerance a.most a.controls.now a.points.now (fine c.before.before) c.if-tolerance-gt-MOST_TOLERANCE.true)
 
 pub invariant_of-draft : goal.invariant_of-draft
 invariant_of-draft c =
     let a = c.args in
-    let none = controls-none a.shape.count a.controls.now (fine c.before) in
+    let none = controls-none a.sound.shape.count a.controls.now (fine c.before) in
     record {
-      deep = c.requires.depth-most;
-      some = c.requires.spans-least;
-      drawable = drawable a.shape a.plan c.requires a.controls.now 0 0 (controls-facts a.shape.count a.controls.now 0 0 none (omega arith));
+      deep = a.sound.good.depth-most;
+      some = a.sound.good.spans-least;
+      drawable = drawable a.sound.shape a.sound.plan a.sound.good a.controls.now 0 0 (controls-facts a.sound.shape.count a.controls.now 0 0 none (omega arith));
     }
 
 pub returns-in_err-cuts : goal.returns-in_err-cuts
@@ -51,18 +51,18 @@ returns-in_err-cuts c =
     let why = c.in_err-cuts.field-0.0 in
     let out : c.from_residual-in_err-cuts.result ≡ Err (refusal_of why) = search rules in
     ap (λ x. outcome x a.points.now) out
-    ∙ sym (plan-ended a.shape.count a.plan a.tolerance a.most a.controls.now a.points.now (sym c.check_controls.ensures ∙ c.in_ok-check_controls.was) why (omega (arith, c.if-tolerance-gt-MOST_TOLERANCE.false)) (sym c.count_all.ensures ∙ c.in_err-cuts.was))
+    ∙ sym (plan-ended a.sound.shape.count a.sound.plan a.tolerance a.most a.controls.now a.points.now (sym c.check_controls.ensures ∙ c.in_ok-check_controls.was) why (omega (arith, c.if-tolerance-gt-MOST_TOLERANCE.false)) (sym c.count_all.ensures ∙ c.in_err-cuts.was))
 
 -- what the walk counted
 counted : (c : In_ok-cuts)
     → Counted c.args.most 0
-    ((s : ℕ) → 0 ≤ s → s < 0 + c.args.plan.spans
-    → Sound (tree_of c.args.plan c.args.tolerance c.args.controls.now s))
-    (all_cuts (trees_of c.args.plan c.args.tolerance c.args.controls.now))
+    ((s : ℕ) → 0 ≤ s → s < 0 + c.args.sound.plan.spans
+    → Sound (tree_of c.args.sound.plan c.args.tolerance c.args.controls.now s))
+    (all_cuts (trees_of c.args.sound.plan c.args.tolerance c.args.controls.now))
     c.in_ok-cuts.cuts
 counted c =
     let a = c.args in
-    walk-all-counted (tree_of a.plan a.tolerance a.controls.now) a.most 0 c.in_ok-cuts.cuts 0 a.plan.spans (sym c.count_all.ensures ∙ c.in_ok-cuts.was)
+    walk-all-counted (tree_of a.sound.plan a.tolerance a.controls.now) a.most 0 c.in_ok-cuts.cuts 0 a.sound.plan.spans (sym c.count_all.ensures ∙ c.in_ok-cuts.was)
 
 pub fill_plan-requires-clause-choosable : goal.fill_plan-requires-clause-choosable
 fill_plan-requires-clause-choosable c =
@@ -76,4 +76,4 @@ pub returns : goal.returns
 returns c =
     let a = c.args in
     c.fill_plan.ensures
-    ∙ sym (plan-last a.shape.count a.plan a.tolerance a.most a.controls.now a.points.now (sym c.check_controls.ensures ∙ c.in_ok-check_controls.was) c.in_ok-cuts.cuts (omega (arith, c.if-tolerance-gt-MOST_TOLERANCE.false)) (sym c.count_all.ensures ∙ c.in_ok-cuts.was))
+    ∙ sym (plan-last a.sound.shape.count a.sound.plan a.tolerance a.most a.controls.now a.points.now (sym c.check_controls.ensures ∙ c.in_ok-check_controls.was) c.in_ok-cuts.cuts (omega (arith, c.if-tolerance-gt-MOST_TOLERANCE.false)) (sym c.count_all.ensures ∙ c.in_ok-cuts.was))

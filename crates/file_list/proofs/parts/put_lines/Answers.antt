@@ -28,12 +28,12 @@ returns-in_default c =
     let a = c.args in
     let d = c.by_differences in
     let held = d.new.points in
-    no_text a.text.now _ (records-then a.shape a.plan a.span a.records.now (outcome _ held) (drew a.shape c.alone_basis.result a.records.now held d.result c.alone_basis.ensures d.ensures ∙ ap (λ r. outcome r held) c.in_default.is))
+    no_text a.text.now _ (records-then a.sound.shape a.sound.plan a.span a.records.now (outcome _ held) (drew a.sound.shape c.alone_basis.result a.records.now held d.result c.alone_basis.ensures d.ensures ∙ ap (λ r. outcome r held) c.in_default.is))
 
 pub overflow_mul-first : goal.overflow_mul-first
 overflow_mul-first c =
     let a = c.args in
-    omega (arith, ap (λ (n : ℕ). a.span * n) c.steps.ensures, first_small a.shape a.plan c.requires.good a.span c.requires.span_lt_spans)
+    omega (arith, ap (λ (n : ℕ). a.span * n) c.steps.ensures, first_small a.sound.shape a.sound.plan c.args.sound.good a.span c.requires)
 
 pub returns : goal.returns
 returns c =
@@ -42,4 +42,4 @@ returns c =
     let held = d.new.points in
     c.list_points.ensures
     ∙ (λ i. listed_by (point_lines (a.span * c.steps.ensures i)) a.text.now held (c.own_points.ensures i))
-    ∙ drawn-lines a.shape a.plan a.span c.requires.good.depth-most a.records.now _ held (drew a.shape c.alone_basis.result a.records.now held d.result c.alone_basis.ensures d.ensures ∙ ap (λ r. outcome r held) c.in-Ok.is) a.text.now
+    ∙ drawn-lines a.sound.shape a.sound.plan a.span c.args.sound.good.depth-most a.records.now _ held (drew a.sound.shape c.alone_basis.result a.records.now held d.result c.alone_basis.ensures d.ensures ∙ ap (λ r. outcome r held) c.in-Ok.is) a.text.now

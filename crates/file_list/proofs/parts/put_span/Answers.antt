@@ -12,9 +12,9 @@ pub returns-in-Some : goal.returns-in-Some
 returns-in-Some c =
     let a = c.args in
     c.put_lines.ensures
-    ∙ ap (λ (r : List ℤ). written a.text.now 0 (records_text a.shape a.plan r a.span)) (subst (Copied a.plan.basis a.controls.now a.span) c.in-Some.is c.own_records.ensures)
+    ∙ ap (λ (r : List ℤ). written a.text.now 0 (records_text a.sound.shape a.sound.plan r a.span)) (subst (Copied a.sound.plan.basis a.controls.now a.span) c.in-Some.is c.own_records.ensures)
 
 pub returns-in-None : goal.returns-in-None
 returns-in-None c =
     let a = c.args in
-    no_text a.text.now _ (too_few a.shape a.plan a.span (own_records a.plan.basis a.controls.now a.span) (subst (Copied a.plan.basis a.controls.now a.span) c.in-None.is c.own_records.ensures))
+    no_text a.text.now _ (too_few a.sound.shape a.sound.plan a.span (own_records a.sound.plan.basis a.controls.now a.span) (subst (Copied a.sound.plan.basis a.controls.now a.span) c.in-None.is c.own_records.ensures))
