@@ -1,17 +1,13 @@
 -- For contracts inside the project alone: no public contract uses what is here.
 -- Runs of spans and carrying them by one span, and what is known once the checks of an edit have passed.
 use Rattle.std.specs.Prelude.{cond, true, false, List, ◌≡◌, ℕ, ◌+◌, ◌*◌, ◌-◌, ◌≤◌, ◌<◌, ltb, ℤ, pos, get_or, length, Err, Ok, Result}
-use Rattle.std.specs.Coded.{Unit-prop, le_prop}
-use native.Mathlib.Nat.{ℕ_set}
 use Rattle.asked.specs.declared.Edit.{Edit}
 use Rattle.asked.specs.declared.Edit.TheVariants.{Move, Insert, Remove}
 use Rattle.whole.specs.Outcome.{Outcome, outcome, refuses}
-use Rattle.curve.specs.declared.Basis.{Basis}
-use Rattle.curve.specs.declared.Basis.TheVariants.{Bezier, BSpline, Cardinal, Hermite, Loop}
 use Rattle.curve.specs.Span.{is_loop}
 use Rattle.shape.specs.declared.Shape.{Shape}
 use Rattle.shape.specs.declared.Plan.{Plan}
-use Rattle.shape.specs.Inner.{Good, RunsRound}
+use Rattle.shape.specs.Inner.{Good}
 use Rattle.shape.specs.Shape.{most_records}
 use Rattle.spans.specs.Numbers.{number, per_span}
 use Rattle.spans.specs.Filled.{filled, fills}
@@ -43,22 +39,10 @@ fills_ends p controls from to l =
     let first = fills p controls (0 * w) ((to - 0) * w + 2) last.held in
     outcome (last.answer + first.answer) first.held
 
--- That a plan's spans can be drawn from controls is so in one way: a struct may keep it.
-runs_round-prop : (b : Basis) (m : ℕ) → IsProp (RunsRound b m)
-runs_round-prop Bezier m = Unit-prop
-runs_round-prop BSpline m = Unit-prop
-runs_round-prop (Cardinal c) m = Unit-prop
-runs_round-prop Hermite m = Unit-prop
-runs_round-prop (Loop n) m = hlevel (le_prop, ℕ_set)
-
-pub drawable-prop : (p : Plan) (controls : List ℤ) → IsProp (Drawable p controls)
-drawable-prop p controls = hlevel (le_prop, ℕ_set, runs_round-prop)
-
 -- A stretch of a loop's spans in a list of `len` numbers: some spans, or none at one of the places of the joint.
 pub record StretchOf (p : Plan) (from to len : ℕ) : Type 0 where
   pub low : from ≤ to
   pub high : to ≤ p.spans
-  pub some : 1 ≤ p.spans
   pub joint : to ≤ from → Joint p (from * per_span p.depth)
   pub room : to * per_span p.depth + 2 ≤ len
 

@@ -8,8 +8,8 @@ ghost use Rattle.outline.specs.Outline.{draws, draws_plan};
 ghost use Rattle.outline.specs.View.{part_of, viewed};
 
 use shape::{Plan, Refusal, Shape, check_lists, check_shape};
+use spans::draft::Draft;
 use spans::halving::ByHalving;
-use spans::run::fill_spans;
 use spans::stepping::ByDifferences;
 use spans::way::Way;
 use spans::weights::ByWeights;
@@ -67,7 +67,8 @@ fn draw_plan<W: Way>(
 {
     let count = plan.points();
     check_lists(shape.count, controls, count, points.len())?;
-    let exact = fill_spans::<W>(points, controls, plan, 0, plan.spans);
+    let draft = Draft { plan, controls };
+    let exact = draft.fill::<W>(points, 0..plan.spans);
     Ok(Figures {
         points: count,
         exact,

@@ -1,10 +1,13 @@
 -- For contracts inside the project alone: no public contract uses what is here.
 -- One span by each of the three ways, and the controls that it can be drawn from.
 use Rattle.std.specs.Prelude.{◌≡◌, true, cond, ◌⊎◌, List, [], ◌∷◌, map, ℕ, ◌*◌, ◌-◌, ◌/◌, ◌%◌, ◌^◌, ◌+◌, ◌≤◌, ◌<◌, eqb, ℤ, pos, nat_abs, length}
-use Rattle.std.specs.Coded.{le_prop}
+use Rattle.std.specs.Coded.{Unit-prop, le_prop}
+use native.Mathlib.Nat.{ℕ_set}
 use Rattle.std.proofs.lemmas.List.Edits.{sets}
 use Rattle.whole.specs.Nearest.{nearest, remainder}
 use Rattle.whole.specs.Outcome.{Outcome, outcome}
+use Rattle.curve.specs.declared.Basis.{Basis}
+use Rattle.curve.specs.declared.Basis.TheVariants.{Bezier, BSpline, Cardinal, Hermite, Loop}
 use Rattle.curve.specs.declared.Four.{Four}
 use Rattle.curve.specs.Span.{coordinate, is_loop, records, weighted}
 use Rattle.curve.specs.Ways.{deepest}
@@ -74,13 +77,16 @@ pub record Drawable (p : Plan) (controls : List ℤ) : Type 0 where
   pub held : (s : ℕ) → s < p.spans → Holds p.basis s (length controls)
   pub inside : (s axis : ℕ) → s < p.spans → axis < 2 → Inside limit (records p.basis s (coordinate controls axis))
 
--- A run of spans, from one up to, and not with, another, that can be drawn into a list of n numbers.
-pub record Fillable (p : Plan) (from to : ℕ) (controls : List ℤ) (n : ℕ) : Type 0 where
-  pub deep : p.depth ≤ deepest
-  pub some : from < to
-  pub there : to ≤ p.spans
-  pub drawable : Drawable p controls
-  pub room : to * per_span p.depth + 2 ≤ n
+-- It holds in one way at most.
+runs_round-prop : (b : Basis) (m : ℕ) → IsProp (RunsRound b m)
+runs_round-prop Bezier m = Unit-prop
+runs_round-prop BSpline m = Unit-prop
+runs_round-prop (Cardinal c) m = Unit-prop
+runs_round-prop Hermite m = Unit-prop
+runs_round-prop (Loop n) m = hlevel (le_prop, ℕ_set)
+
+pub Drawable-prop : (p : Plan) (controls : List ℤ) → IsProp (Drawable p controls)
+Drawable-prop p controls = hlevel (le_prop, ℕ_set, runs_round-prop)
 
 -- A place of the point where the first and the last span of a loop meet: the list's start, and again past its last span.
 abbrev pub Joint : Plan → ℕ → Type 0

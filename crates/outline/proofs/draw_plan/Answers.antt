@@ -2,7 +2,7 @@
 use mathlib.Core.Path.{◌≡◌, sym, ap, ◌∙◌, subst}
 use mathlib.Core.List.{List}
 use Prim.Native.Nat.{ℕ, ◌+◌, ◌*◌, ◌-◌, ◌≤◌}
-use native.Mathlib.Nat.{le_refl, zero-mul}
+use native.Mathlib.Nat.{zero-mul}
 use native.Mathlib.Omega.{arith}
 use borrow.Author.Rules.{rules}
 use lib.IntN.{ℤ}
@@ -54,18 +54,19 @@ module _ (g : Over) (c : In_ok-check_lists g) where
   lent : Lent c.args.shape.count c.args.controls.now (points plan) (length c.args.points.now)
   lent = fine-facts c.args.shape.count c.args.controls.now (points plan) (length c.args.points.now) is-fine
 
-pub fill_spans-exact-requires : goal.fill_spans-exact-requires
-fill_spans-exact-requires g c =
-    let t = c.before in
+pub invariant_of-draft : goal.invariant_of-draft
+invariant_of-draft g c =
     let s = c.args in
-    let p = s.plan in
     record {
       deep = c.requires.depth-most;
-      some = omega (arith, c.requires.spans-least);
-      there = le_refl p.spans;
-      drawable = drawable s.shape p c.requires s.controls.now (points p) (length s.points.now) (lent g t);
-      room = omega (arith, all-numbers p.depth p.spans, (lent g t).points-room);
+      some = c.requires.spans-least;
+      drawable = drawable s.shape s.plan c.requires s.controls.now (points s.plan) (length s.points.now) (lent g c);
     }
+
+pub fill-exact-requires-clause-room : goal.fill-exact-requires-clause-room
+fill-exact-requires-clause-room g c =
+    let p = c.args.plan in
+    omega (arith, all-numbers p.depth p.spans, (lent g c.before.before.before).points-room)
 
 -- the run from span 0 on is the whole outline
 whole_run : (p : Plan) (controls l : List ℤ) → fills_run p 0 p.spans controls l ≡ fills p controls 0 (2 * points p) l
@@ -77,10 +78,10 @@ whole_run p controls l =
 
 pub returns : goal.returns
 returns g c =
-    let t = c.before.before.before in
+    let t = c.before.before.before.before.before in
     let a = c.args in
     let p = a.plan in
     let count = c.points-count.ensures in
-    let filled = c.fill_spans-exact.ensures ∙ whole_run p a.controls.now a.points.now in
+    let filled = c.fill-exact.ensures ∙ whole_run p a.controls.now a.points.now in
     (λ i. outcome (Ok (record { points = count i; exact = (filled i).answer })) (filled i).held)
     ∙ sym (plan-drawn a.shape.count p a.controls.now a.points.now (is-fine g t))

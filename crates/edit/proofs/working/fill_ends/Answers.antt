@@ -12,7 +12,7 @@ use Rattle.spans.specs.Numbers.{per_span, remainder_of}
 use Rattle.spans.specs.Filled.{fills}
 use Rattle.spans.proofs.Rounds.{noughts-most}
 use Rattle.edit.specs.Inner.{fills_ends}
-use Rattle.edit.proofs.working.Draft.fill_ends.Goals as goal
+use Rattle.edit.proofs.working.fill_ends.Goals as goal
 
 -- no more are exact than are drawn
 exact-few : (p : Plan) (controls l : List ℤ) (q n : ℕ) (o : Outcome ℕ (List ℤ)) → o ≡ fills p controls q n l → o.answer ≤ n
@@ -26,7 +26,7 @@ stretch-few k n deep few = mul-le-mul few (mul-le-mul (le_refl 2) (pow_mono {i =
 pub overflow_add-result : goal.overflow_add-result
 overflow_add-result c =
     let a = c.args in
-    let d = a.self.now in
+    let d = a.draft.now in
     let p = d.plan in
     let w = per_span p.depth in
     let last = c.fill_stretch-last in
@@ -42,7 +42,7 @@ overflow_add-result c =
 pub returns : goal.returns
 unfolding fills_ends
 returns c =
-    let d = c.args.self.now in
+    let d = c.args.draft.now in
     let w = per_span d.plan.depth in
     let first : List ℤ → Outcome ℕ (List ℤ) = λ l. fills d.plan d.controls.now (0 * w) ((c.args.to - 0) * w + 2) l in
     ap (λ (o : Outcome ℕ (List ℤ)). outcome (c.fill_stretch-last.result + o.answer) o.held) c.fill_stretch.ensures

@@ -16,7 +16,7 @@ use Rattle.curve.specs.Inner.{widest, most_bits}
 use Rattle.curve.specs.Ways.{deepest}
 use Rattle.curve.proofs.Powers.{cube, thrice, shift_one}
 use Rattle.curve.proofs.Span.{weighted-end}
-use Rattle.spans.proofs.run.end_sum.Goals as goal
+use Rattle.spans.proofs.draft.end_sum.Goals as goal
 
 module _ (k : ℕ) (q : Four) (h : k ≤ deepest) (inside : Inside widest q) where
   power : 2 ^ (3 * k) ≤ 2 ^ most_bits

@@ -12,7 +12,7 @@ use Rattle.shape.specs.declared.Plan.{Plan}
 use Rattle.spans.specs.Inner.{Ready, Drawable}
 use Rattle.spans.proofs.Drawables.{span-ready}
 use Rattle.spans.proofs.Numbers.{span_controls}
-use Rattle.spans.proofs.run.span_of.Goals as goal
+use Rattle.spans.proofs.draft.Draft.span.Goals as goal
 
 over : (p : Plan) {bits : ℕ} → bits ≡ bits_of p.basis p.depth → divisor_of bits ≡ divisor p.basis p.depth
 over p e = ap divisor_of e ∙ sym (divisor-bits p.basis p.depth)
@@ -24,15 +24,15 @@ ready p controls d s axis there two {bits} e {q} f =
 
 pub invariant_of-result : goal.invariant_of-result
 invariant_of-result c =
-    let p = c.args.plan in
+    let d = c.args.self.now in
+    let p = d.plan in
     let bits = c.divisor_bits.ensures in
-    let there = c.requires.span_lt_spans.1 in
     record {
-      shallow = c.requires.span_lt_spans.0;
-      few = subst (λ (n : ℕ). n ≤ most_bits) (sym bits) (bits_most p.basis p.depth c.requires.span_lt_spans.0);
-      ready_x = ready p c.args.controls.now c.requires.drawable c.args.span 0 there (lit< tt) bits c.span_controls.ensures;
-      ready_y = ready p c.args.controls.now c.requires.drawable c.args.span 1 there (lit< tt) bits c.span_controls-2.ensures;
+      shallow = d.deep;
+      few = subst (λ (n : ℕ). n ≤ most_bits) (sym bits) (bits_most p.basis p.depth d.deep);
+      ready_x = ready p d.controls.now d.drawable c.args.span 0 c.requires (lit< tt) bits c.span_controls.ensures;
+      ready_y = ready p d.controls.now d.drawable c.args.span 1 c.requires (lit< tt) bits c.span_controls-2.ensures;
     }
 
 pub returns-clause-depth_value : goal.returns-clause-depth_value
-returns-clause-depth_value c = (refl, over c.args.plan c.divisor_bits.ensures)
+returns-clause-depth_value c = (refl, over c.args.self.now.plan c.divisor_bits.ensures)

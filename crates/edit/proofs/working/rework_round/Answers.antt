@@ -6,13 +6,13 @@ use Rattle.spans.specs.Numbers.{per_span}
 use Rattle.spans.specs.Filled.{fills}
 use Rattle.asked.proofs.Fresh.{Ends, loop-whole, loop-stretch, loop-ends, loop-start}
 use Rattle.edit.proofs.Worked.{stretch-refreshed, ends-refreshed}
-use Rattle.edit.proofs.working.Draft.rework_round.Goals as goal
+use Rattle.edit.proofs.working.rework_round.Goals as goal
 
 pub returns-then-spans-run : goal.returns-then-spans-run
 returns-then-spans-run c =
     let a = c.args in
-    let d = a.self.now in
-    c.fill_by_weights.ensures
+    let d = a.draft.now in
+    c.fill.ensures
     ∙ stretch-refreshed a.run d.plan d.controls.now a.points.now c.requires.room 0 d.plan.spans (loop-whole a.run d.plan c.requires.closed c.requires.among.0 c.requires.among.1 (omega arith))
 
 -- a run begins past span 0, or where the last span ends
@@ -26,11 +26,11 @@ begins first spans from is =
 pub returns-then-past-spans : goal.returns-then-past-spans
 returns-then-past-spans c =
     let a = c.args in
-    let d = a.self.now in
+    let d = a.draft.now in
     let w = per_span d.plan.depth in
     let from = c.first_or_end-from.result in
     let own = ⊎_elim (λ (own : (from ≡ a.run.first) × (0 < a.run.first)). own) (λ (is, none). absurd (omega (arith, is))) (begins a.run.first d.plan.spans from c.first_or_end-from.ensures) in
-    c.fill_by_weights-then-past-spans.ensures
+    c.fill-then-past-spans.ensures
     ∙ ap (λ (n : ℕ). fills d.plan d.controls.now (n * w) ((n + a.run.count - n) * w + 2) a.points.now) own.0
     ∙ stretch-refreshed a.run d.plan d.controls.now a.points.now c.requires.room a.run.first (a.run.first + a.run.count)
     (loop-stretch a.run d.plan c.requires.closed c.requires.among.0 c.requires.among.1 own.1 (omega (arith, own.0)))
@@ -38,7 +38,7 @@ returns-then-past-spans c =
 pub returns : goal.returns
 returns c =
     let a = c.args in
-    let d = a.self.now in
+    let d = a.draft.now in
     let n = d.plan.spans in
     let from = c.first_or_end-from.result in
     let few : a.run.count < n = omega arith in
