@@ -2,7 +2,7 @@
 use Rattle.std.specs.Prelude.{Err, Ok, Result}
 use mathlib.Core.Path.{◌≡◌, refl, sym, ap, ◌∙◌, subst}
 use mathlib.Core.Bool.{false}
-use mathlib.Core.List.{List, ◌∷◌}
+use mathlib.Core.List.{List}
 use Prim.Native.Nat.{ℕ, ◌+◌, ◌*◌, ◌≤◌, ◌<◌}
 use native.Mathlib.Nat.{zero-add}
 use native.Mathlib.Omega.{arith}
@@ -14,18 +14,17 @@ use Rattle.shape.specs.declared.Shape.{Shape}
 use Rattle.shape.specs.declared.Plan.{Plan}
 use Rattle.shape.specs.Inner.{Good}
 use Rattle.shape.specs.Lists.{Keeps}
-use Rattle.shape.specs.Refusals.{Row, NoRow, shape_rows, control_rows, plan_of}
+use Rattle.shape.specs.Refusals.{Row, NoRow, shape_rows, plan_of}
 use Rattle.shape.proofs.Lists.{sets-keeps}
-use Rattle.shape.proofs.Refusals.{none-earlier, none-later, row-fails, good-plan, controls-facts}
+use Rattle.shape.proofs.Refusals.{none-earlier, none-later, row-fails, good-plan}
 use Rattle.shape.proofs.Tests.{true-is-not-false}
-use Rattle.spans.proofs.Drawables.{drawable}
 use Rattle.pieces.specs.Tree.{most_tolerance, Sound}
 use Rattle.pieces.specs.Values.{numbers}
 use Rattle.pieces.proofs.Walks.{Counted, walk-all-counted}
 use Rattle.pieces.proofs.Writes.{length-numbers}
 use Rattle.tolerance.specs.declared.Steps.{Steps}
-use Rattle.tolerance.specs.Reading.{tree_of, walk_of, values_of, cuts_of, points_for, steps_of, tolerance_row, is_too_deep, is_too_many, last_rows, plan_rows, choose_rows, chosen, chooses}
-use Rattle.tolerance.specs.Inner.{Walkable, Choosable}
+use Rattle.tolerance.specs.Reading.{tree_of, walk_of, values_of, cuts_of, points_for, steps_of, is_too_deep, is_too_many, plan_rows, choose_rows, chosen, chooses}
+use Rattle.tolerance.specs.Inner.{Choosable}
 use Rattle.pieces.specs.declared.Uncut.{Uncut}
 use Rattle.pieces.specs.declared.Uncut.TheVariants.{TooDeep, TooMany}
 use Rattle.tolerance.proofs.Left.{values_length}
@@ -56,14 +55,6 @@ module _ (s : Shape) (tolerance most : ℕ) (controls lent : List ℤ) (none : N
   pub room : 2 * points_for p (cuts_of p tolerance controls) ≤ length lent
   room = ltb-false (length lent) (2 * points_for p (cuts_of p tolerance controls)) (row-fails 9 rows left)
 
-  walkable : Walkable p tolerance controls
-  walkable =
-      record {
-        some = good.spans-least;
-        drawable = drawable s p good controls 0 0 (controls-facts s.count controls 0 0 (none-earlier (control_rows s.count s.count controls) (tolerance_row tolerance ∷ last_rows p tolerance most controls (length lent)) left) (omega arith));
-        near = near;
-      }
-
   walked : (n : ℕ) × (walk_of p tolerance most controls ≡ Ok n)
   walked = counted (walk_of p tolerance most controls) (row-fails 21 rows left) (row-fails 22 rows left)
 
@@ -72,7 +63,7 @@ module _ (s : Shape) (tolerance most : ℕ) (controls lent : List ℤ) (none : N
 
   -- every piece of every span is flat or cut
   pub choosable : Choosable p tolerance controls
-  choosable = record { walkable = walkable; sound = λ t h. all-counted.all_sound t (omega arith) (omega arith) }
+  choosable = record { near = near; sound = λ t h. all-counted.all_sound t (omega arith) (omega arith) }
 
   -- by no more cuts than the caller's most
   pub within-most : cuts_of p tolerance controls ≤ most

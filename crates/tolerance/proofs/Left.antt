@@ -15,7 +15,7 @@ use Rattle.curve.proofs.Span.{weighted-end}
 use Rattle.curve.proofs.Tab.{length-tab}
 use Rattle.shape.specs.declared.Plan.{Plan}
 use Rattle.shape.specs.Depth.{plan_at}
-use Rattle.spans.specs.Inner.{Ready}
+use Rattle.spans.specs.Inner.{Ready, Drawable}
 use Rattle.spans.proofs.Drawables.{span-ready}
 use Rattle.spans.proofs.Halves.{ready-cuttable}
 use Rattle.pieces.specs.declared.Filled.{Filled}
@@ -27,14 +27,12 @@ use Rattle.pieces.specs.Inner.{tree_at}
 use Rattle.pieces.specs.Inner as pieces
 use Rattle.pieces.proofs.Starts.{length-starts, cuts-most}
 use Rattle.tolerance.specs.Reading.{controls_of, tree_of, trees_of, values_of, cuts_of, points_for}
-use Rattle.tolerance.specs.Inner.{Walkable}
 
 -- ---- one span
 
-module _ (p : Plan) (tolerance : ℕ) (controls : List ℤ) (w : Walkable p tolerance controls) (s : ℕ) (h : s < p.spans) where
+module _ (p : Plan) (controls : List ℤ) (d : Drawable p controls) (s : ℕ) (h : s < p.spans) where
   ready : (k axis : ℕ) → axis < 2 → Ready k (divisor p.basis k) (controls_of p controls s axis)
   ready k axis a =
-      let d = w.drawable in
       span-ready (plan_at k p) controls (record { few = d.few; offered = d.offered; round = d.round; held = d.held; inside = d.inside }) s axis h a
 
   pub span-walkable : pieces.Walkable p.basis 0 (controls_of p controls s 0) (controls_of p controls s 1)

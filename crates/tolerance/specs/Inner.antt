@@ -2,17 +2,10 @@
 -- What a caller knows once the walk has found every piece flat or cut.
 use Rattle.std.specs.Prelude.{List, ℕ, ◌<◌, ◌≤◌, ℤ}
 use Rattle.shape.specs.declared.Plan.{Plan}
-use Rattle.spans.specs.Inner.{Drawable}
 use Rattle.pieces.specs.Tree.{most_tolerance, Sound}
 use Rattle.tolerance.specs.Reading.{tree_of}
 
--- A plan's spans that can be walked.
-pub record Walkable (p : Plan) (tolerance : ℕ) (controls : List ℤ) : Type 0 where
-  pub some : 0 < p.spans
-  pub drawable : Drawable p controls
-  pub near : tolerance ≤ most_tolerance
-
--- And whose pieces the walk has found flat or cut.
+-- A plan's spans whose pieces the walk has found flat or cut.
 pub record Choosable (p : Plan) (tolerance : ℕ) (controls : List ℤ) : Type 0 where
-  pub walkable : Walkable p tolerance controls
+  pub near : tolerance ≤ most_tolerance
   pub sound : (s : ℕ) → s < p.spans → Sound (tree_of p tolerance controls s)

@@ -12,6 +12,7 @@ mod spanwise;
 
 use pieces::MOST_TOLERANCE;
 use shape::{Plan, Reason, Refusal, Shape, check_controls, check_shape};
+use spans::draft::Draft;
 use spanwise::{count_all, fill_all};
 
 // How many points stand in the list now, how many cuts chose them, and how many of their coordinates are exact.
@@ -53,27 +54,27 @@ fn choose_plan(
     if MOST_TOLERANCE < tolerance {
         return Err(Reason::TooCoarse.into());
     }
-    let cuts = count_all(controls, plan, tolerance, most)?;
-    fill_plan(plan, tolerance, cuts, controls, points)
+    let draft = Draft { plan, controls };
+    let cuts = count_all(&draft, tolerance, most)?;
+    fill_plan(&draft, tolerance, cuts, points)
 }
 
 // Room for the points, row 9, and the points where there is.
 fn fill_plan(
-    plan: Plan,
+    draft: &Draft,
     tolerance: usize,
     cuts: usize,
-    controls: &[i32],
     points: &mut [i32],
 ) -> Result<Steps, Refusal>
-    requires choosable { Choosable plan tolerance controls.now }
-    requires cuts_value { cuts ≡ cuts_of plan tolerance controls.now }
-    ensures { outcome result points.new ≡ chooses_last plan tolerance controls.now points.old }
+    requires choosable { Choosable draft.now.plan tolerance draft.now.controls.now }
+    requires cuts_value { cuts ≡ cuts_of draft.now.plan tolerance draft.now.controls.now }
+    ensures { outcome result points.new ≡ chooses_last draft.now.plan tolerance draft.now.controls.now points.old }
 {
-    let count = plan.spans + cuts + 1;
+    let count = draft.plan.spans + cuts + 1;
     if points.len() < 2 * count {
         return Err(Reason::ShortPoints.into());
     }
-    let exact = fill_all(points, controls, plan, tolerance);
+    let exact = fill_all(draft, tolerance, points);
     Ok(Steps {
         points: count,
         cuts,

@@ -13,10 +13,9 @@ use Rattle.pieces.specs.Walk.{refusal_of}
 use Rattle.pieces.specs.Tree.{Sound, all_cuts}
 use Rattle.pieces.proofs.Walks.{Counted, walk-all-counted}
 use Rattle.tolerance.specs.Reading.{tree_of, trees_of}
-use Rattle.tolerance.specs.Inner.{Walkable}
 use Rattle.tolerance.proofs.Chooses.{plan-bad, plan-far, plan-ended, plan-last}
 use Rattle.tolerance.proofs.choose_plan.Goals as goal
-use Rattle.tolerance.proofs.choose_plan.Goals.{Else-tolerance-gt-MOST_TOLERANCE, In_ok-check_controls, In_ok-cuts}
+use Rattle.tolerance.proofs.choose_plan.Goals.{In_ok-check_controls, In_ok-cuts}
 
 pub returns-in_err-check_controls : goal.returns-in_err-check_controls
 returns-in_err-check_controls c =
@@ -36,19 +35,15 @@ returns-then-tolerance-gt-MOST_TOLERANCE c =
     ap (λ r. outcome (Err r) a.points.now) c.into.ensures
     ∙ sym (plan-far a.shape.count a.plan a.tolerance a.most a.controls.now a.points.now (fine c.before.before) c.if-tolerance-gt-MOST_TOLERANCE.true)
 
--- so the spans can be walked
-walkable : (c : Else-tolerance-gt-MOST_TOLERANCE) → Walkable c.args.plan c.args.tolerance c.args.controls.now
-walkable c =
+pub invariant_of-draft : goal.invariant_of-draft
+invariant_of-draft c =
     let a = c.args in
     let none = controls-none a.shape.count a.controls.now (fine c.before) in
     record {
+      deep = c.requires.depth-most;
       some = c.requires.spans-least;
       drawable = drawable a.shape a.plan c.requires a.controls.now 0 0 (controls-facts a.shape.count a.controls.now 0 0 none (omega arith));
-      near = omega (arith, c.if-tolerance-gt-MOST_TOLERANCE.false);
     }
-
-pub count_all-requires : goal.count_all-requires
-count_all-requires c = walkable c
 
 pub returns-in_err-cuts : goal.returns-in_err-cuts
 returns-in_err-cuts c =
@@ -71,11 +66,11 @@ counted c =
 
 pub fill_plan-requires-clause-choosable : goal.fill_plan-requires-clause-choosable
 fill_plan-requires-clause-choosable c =
-    let k = c.before in
-    record { walkable = walkable k.before.before.before; sound = λ s h. (counted k).all_sound s (omega arith) (omega arith) }
+    let k = c.before.before in
+    record { near = omega (arith, c.if-tolerance-gt-MOST_TOLERANCE.false); sound = λ s h. (counted k).all_sound s (omega arith) (omega arith) }
 
 pub fill_plan-requires-clause-cuts_value : goal.fill_plan-requires-clause-cuts_value
-fill_plan-requires-clause-cuts_value c = (counted c.before).count ∙ zero-add _
+fill_plan-requires-clause-cuts_value c = (counted c.before.before).count ∙ zero-add _
 
 pub returns : goal.returns
 returns c =

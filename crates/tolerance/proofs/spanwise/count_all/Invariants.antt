@@ -8,4 +8,4 @@ use Rattle.tolerance.proofs.spanwise.count_all.Given as goal
 abbrev pub invariant-loop-span : goal.invariant-loop-span
 invariant-loop-span l =
     let f = l.fn in
-    (l.span ≤ f.plan.spans) × (walk_all f.most l.made (tab (tree_of f.plan f.tolerance f.controls) l.span (f.plan.spans - l.span)) ≡ walk_of f.plan f.tolerance f.most f.controls)
+    (l.span ≤ f.draft.plan.spans) × (walk_all f.most l.made (tab (tree_of f.draft.plan f.tolerance f.draft.controls.now) l.span (f.draft.plan.spans - l.span)) ≡ walk_of f.draft.plan f.tolerance f.most f.draft.controls.now)

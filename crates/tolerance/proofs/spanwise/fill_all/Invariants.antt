@@ -8,8 +8,8 @@ use Rattle.tolerance.proofs.spanwise.fill_all.Given as goal
 abbrev pub invariant-loop-span : goal.invariant-loop-span
 invariant-loop-span l =
     let f = l.fn in
-    (l.span ≤ f.plan.spans)
+    (l.span ≤ f.draft.plan.spans)
     × (l.filled.exact ≤ l.filled.next)
-    × (l.filled.next + length (rest f.plan f.tolerance f.controls l.span) ≤ length l.points)
+    × (l.filled.next + length (rest f.draft.plan f.tolerance f.draft.controls.now l.span) ≤ length l.points)
     × (length l.points ≡ length f.points)
-    × (writes (rest f.plan f.tolerance f.controls l.span) l.filled l.points ≡ writes (values_of f.plan f.tolerance f.controls) unfilled f.points)
+    × (writes (rest f.draft.plan f.tolerance f.draft.controls.now l.span) l.filled l.points ≡ writes (values_of f.draft.plan f.tolerance f.draft.controls.now) unfilled f.points)
