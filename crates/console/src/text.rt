@@ -27,7 +27,6 @@ impl<const N: usize> Model for Text<N> {
 
 impl<const N: usize> Text<N> {
     ghost use Rattle.std.specs.Prelude.{◌≡◌, ◌≤◌, [], ◌∷◌, ℕ, List, length};
-    ghost use Rattle.std.specs.Fmt.{decimal};
     ghost use Rattle.console.specs.Text.{with_word, with_spaced, with_each, with_between};
 
     // No character.
@@ -64,33 +63,18 @@ impl<const N: usize> Text<N> {
     }
 
     // A whole number, with a minus sign where it is negative.
-    pub fn add_number<I: Integer>(&mut self, n: I)
+    fn add_number<I: Integer>(&mut self, n: I)
         ensures { self.new ≡ with_word N self.old (I.text n) }
     {
         self.add_word(Buffer::new().format(n).as_bytes());
     }
 
     // A space and a whole number.
-    pub fn add_spaced_number<I: Integer>(&mut self, n: I)
+    fn add_spaced_number<I: Integer>(&mut self, n: I)
         ensures { self.new ≡ with_spaced N self.old (I.text n) }
     {
         self.add_word(b" ");
         self.add_number(n);
-    }
-
-    // A word, a space and a natural number.
-    pub fn add_phrase(&mut self, word: &[u8], n: usize)
-        ensures { self.new ≡ with_spaced N (with_word N self.old word.now) (decimal n) }
-    {
-        self.add_word(word);
-        self.add_spaced_number(n);
-    }
-
-    // Whole numbers, a space before each.
-    pub fn add_spaced_numbers<I: Integer>(&mut self, numbers: &[I])
-        ensures { self.new ≡ with_each N I.text self.old numbers.now }
-    {
-        self.add_each(numbers, |n| n);
     }
 
     // Whole numbers with a space between them.
@@ -103,13 +87,6 @@ impl<const N: usize> Text<N> {
     // The bit patterns of doubles with a space between them; of every NaN the quiet one's.
     pub fn add_patterns(&mut self, doubles: &[f64]) {
         self.add_between(doubles, pattern_of);
-    }
-
-    // The x of the first `count` pairs that a list holds, a space before each.
-    pub fn add_x(&mut self, pairs: &[i32], count: usize) {
-        let (pairs, _) = pairs.as_chunks::<2>();
-        let most = count.min(pairs.len());
-        self.add_each(&pairs[..most], |[x, _]| x);
     }
 
     // The number that each item has, a space before each.

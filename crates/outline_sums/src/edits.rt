@@ -2,7 +2,7 @@
 use crate::Text;
 use crate::outlines::{Abscissas, Basis, Outline, put_outline, put_refusal};
 use edit::{Change, Edit, insert_record, move_record, remove_record};
-use shape::{Refusal, Shape, check_shape};
+use shape::{Refusal, Shape, SoundShape};
 use std::fmt;
 use std::fmt::Write;
 
@@ -102,8 +102,8 @@ fn put_change(text: &mut Text, change: Change, points: &[i32]) -> fmt::Result {
 
 // The number of points of a shape, 0 where it is not sound.
 fn point_count(shape: Shape) -> usize {
-    match check_shape(shape) {
-        Ok(plan) => plan.points(),
+    match SoundShape::try_from(shape) {
+        Ok(sound) => sound.plan.points(),
         Err(_) => 0,
     }
 }

@@ -1,6 +1,6 @@
 // The calls of the library, on the lent lists, and what they answer.
 use crate::bench::Bench;
-use crate::text::{say, say_change, say_numbers, say_patterns, say_refusal, say_state};
+use crate::text::{say, say_change, say_numbers, say_patterns, say_refusal, say_shape, say_state};
 use crate::trial::{Call, List, Way};
 use drawing::Step;
 use edit::{Edit, insert_record, move_record, remove_record};
@@ -36,7 +36,7 @@ impl Bench {
             Way::Differences => by_differences(self.shape, controls, points),
         };
         match drawn {
-            Ok(Figures { points, exact }) => say(rt, b"drawn", &[points, exact]),
+            Ok(Figures { points, exact }) => say(rt, format_args!("drawn {points} {exact}")),
             Err(refusal) => say_refusal(rt, refusal),
         }
     }
@@ -52,7 +52,7 @@ impl Bench {
                     cuts,
                     exact,
                 },
-            ) => say(rt, b"cut", &[points, cuts, exact]),
+            ) => say(rt, format_args!("cut {points} {cuts} {exact}")),
             Err(refusal) => say_refusal(rt, refusal),
         }
     }
@@ -78,7 +78,7 @@ impl Bench {
     // The view of a span: its length, and its numbers where there are any.
     fn view(&self, rt: &(impl Print + Eprint), span: usize) -> io::Result<()> {
         let part = outline::view(self.shape, span, self.points.as_slice());
-        say(rt, b"view", &[part.len()])?;
+        say(rt, format_args!("view {}", part.len()))?;
         if part.is_empty() {
             return Ok(());
         }
@@ -91,7 +91,7 @@ impl Bench {
             self.controls.as_slice(),
             self.preview.as_mut_slice(),
         ) {
-            Ok(count) => say(rt, b"previewed", &[count]),
+            Ok(count) => say(rt, format_args!("previewed {count}")),
             Err(refusal) => say_refusal(rt, refusal),
         }
     }
@@ -112,11 +112,7 @@ impl Bench {
         match read(self.file.as_slice(), self.controls.as_mut_slice()) {
             Ok(shape) => {
                 self.shape = shape;
-                say(
-                    rt,
-                    b"read",
-                    &[shape.basis, shape.depth, shape.count, shape.parameter],
-                )
+                say_shape(rt, shape)
             }
             Err(refusal) => say_refusal(rt, refusal),
         }

@@ -3,8 +3,9 @@ use crate::bench::{LONGEST_POINTS, LONGEST_PREVIEW};
 use console::{Text, tell, write_output};
 use drawing::State;
 use edit::Change;
-use shape::Refusal;
-use std::io;
+use shape::{Refusal, Shape};
+use std::fmt::Write;
+use std::{fmt, io};
 
 // Room for a line of a few numbers, for one of all numbers of the longest list, and for one of the longest preview: a number has a sign and up to 10 digits, a pattern up to 20 digits, and each has one character after it.
 const SHORT: usize = 160;
@@ -19,17 +20,17 @@ fn send<const N: usize>(rt: &(impl Print + Eprint), line: &mut Text<N>) -> io::R
     write_output(rt, line.written())
 }
 
-// The line of a word and naturals.
-pub(crate) fn say(rt: &(impl Print + Eprint), name: &[u8], numbers: &[usize]) -> io::Result<()> {
+// The line of an answer.
+pub(crate) fn say(rt: &(impl Print + Eprint), answer: impl fmt::Display + Drop) -> io::Result<()> {
     let mut line = Text::<SHORT>::new();
-    line.add_word(name);
-    line.add_spaced_numbers(numbers);
+    let _ = write!(line, "{answer}");
     send(rt, &mut line)
 }
 
 // The line of a refusal.
 pub(crate) fn say_refusal(rt: &(impl Print + Eprint), refusal: Refusal) -> io::Result<()> {
-    say(rt, b"refused", &[refusal.number, refusal.place])
+    let Refusal { number, place } = refusal;
+    say(rt, format_args!("refused {number} {place}"))
 }
 
 // The line of a list.
@@ -39,21 +40,34 @@ pub(crate) fn say_numbers(rt: &(impl Print + Eprint), numbers: &[i32]) -> io::Re
     send(rt, &mut line)
 }
 
+// The line of a file that was read: the shape that it gives.
+pub(crate) fn say_shape(rt: &(impl Print + Eprint), shape: Shape) -> io::Result<()> {
+    let Shape {
+        basis,
+        depth,
+        count,
+        parameter,
+    } = shape;
+    say(rt, format_args!("read {basis} {depth} {count} {parameter}"))
+}
+
 // The line of an edit: the shape that it leaves, but for its parameter, the spans worked afresh, how many coordinates are exact, and the parameter.
 pub(crate) fn say_change(rt: &(impl Print + Eprint), change: Change) -> io::Result<()> {
-    let shape = change.shape;
+    let Change {
+        shape,
+        first,
+        fresh,
+        exact,
+    } = change;
+    let Shape {
+        basis,
+        depth,
+        count,
+        parameter,
+    } = shape;
     say(
         rt,
-        b"edited",
-        &[
-            shape.basis,
-            shape.depth,
-            shape.count,
-            change.first,
-            change.fresh,
-            change.exact,
-            shape.parameter,
-        ],
+        format_args!("edited {basis} {depth} {count} {first} {fresh} {exact} {parameter}"),
     )
 }
 
@@ -65,10 +79,17 @@ pub(crate) fn say_state(rt: &(impl Print + Eprint), state: State) -> io::Result<
         current,
         closed,
     } = state;
-    let mut line = Text::<SHORT>::new();
-    line.add_phrase(b"state", count);
-    line.add_spaced_numbers(&[start.x, start.y, current.x, current.y, i32::from(closed)]);
-    send(rt, &mut line)
+    say(
+        rt,
+        format_args!(
+            "state {count} {} {} {} {} {}",
+            start.x,
+            start.y,
+            current.x,
+            current.y,
+            u8::from(closed)
+        ),
+    )
 }
 
 // The line of a list of doubles.
@@ -81,7 +102,7 @@ pub(crate) fn say_patterns(rt: &(impl Print + Eprint), doubles: &[f64]) -> io::R
 // The line of a bad record, which is told as well.
 pub(crate) fn say_bad(rt: &(impl Print + Eprint), number: usize) {
     let mut line = Text::<SHORT>::new();
-    line.add_phrase(b"bad record", number);
+    let _ = write!(line, "bad record {number}");
     if send(rt, &mut line).is_ok() {
         tell(rt, line.written());
     }
