@@ -18,7 +18,7 @@ fn read_some(reader: &mut impl Read, bytes: &mut [u8]) -> io::Result<usize>
     Err(io::Error::from(ErrorKind::Interrupted))
 }
 
-// Reads until the list is full or the input has ended.
+// Reads until the list is full or the input has ended. A loop by hand, since the library's `read_exact` takes an input that ends before for a failure, and says not how much was read.
 fn read_full(reader: &mut impl Read, bytes: &mut [u8]) -> io::Result<usize>
     ensures { ReadsAtMost result bytes.new }
 {

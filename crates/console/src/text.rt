@@ -2,6 +2,7 @@
 
 use itoa::{Buffer, Integer};
 use listing::put_word;
+use std::fmt;
 use std::marker::Model;
 
 // The bit pattern that stands for every NaN: the quiet one's.
@@ -25,7 +26,7 @@ impl<const N: usize> Model for Text<N> {
 }
 
 impl<const N: usize> Text<N> {
-    ghost use Rattle.std.specs.Prelude.{◌≡◌, [], ◌∷◌, ℕ, List};
+    ghost use Rattle.std.specs.Prelude.{◌≡◌, ◌≤◌, [], ◌∷◌, ℕ, List, length};
     ghost use Rattle.std.specs.Fmt.{decimal};
     ghost use Rattle.console.specs.Text.{with_word, with_spaced, with_each, with_between};
 
@@ -41,7 +42,8 @@ impl<const N: usize> Text<N> {
 
     // The characters.
     pub fn written(&self) -> &[u8]
-        ensures { result.now ≡ self.now }
+        ensures value { result.now ≡ self.now }
+        ensures fits { length result.now ≤ N }
     {
         &self.bytes[..self.end]
     }
@@ -129,6 +131,25 @@ impl<const N: usize> Text<N> {
             self.add_number(number(*first));
             self.add_each(others, number);
         }
+    }
+}
+
+// The text of a format, which is refused where it does not fit: then nothing is added.
+impl<const N: usize> fmt::Write for Text<N> {
+    ghost use Rattle.std.specs.Prelude.{◌≡◌, ◌+◌, ◌≤◌, ◌↔◌, ◌++◌, length, IsOk, OnErr};
+
+    ghost write_str_gives = { λ before word after. after ≡ before ++ word };
+
+    fn write_str(&mut self, s: &str) -> fmt::Result
+        ensures ok { IsOk result → self.new ≡ self.old ++ s.now }
+        ensures variant { IsOk result ↔ (length self.old + length s.now ≤ N) }
+        ensures err { OnErr result (self.new ≡ self.old) }
+    {
+        if N - self.written().len() < s.len() {
+            return Err(fmt::Error);
+        }
+        self.add_word(s.as_bytes());
+        Ok(())
     }
 }
 

@@ -1,35 +1,52 @@
 // The limits of depth, count and coordinate: the greatest that is drawn, and sums that are refused.
 use crate::Text;
-use crate::outlines::{BEZIER, ROOM, put_drawn, put_outline, shape_of};
+use crate::outlines::{Basis, Outline, POINTS, put_outline, put_refusal};
 use curve::{DEEPEST, LIMIT};
-use shape::MOST_RECORDS;
+use outline::{Figures, by_weights};
+use shape::{MOST_RECORDS, Refusal, Shape};
+use std::fmt;
+use std::fmt::Write;
 
 // Depth 6, the deepest and one more; the most records, 5 and 2^32; the farthest coordinate and one more.
-pub(crate) fn put_limits(text: &mut Text) {
-    put_last(text, 6, 4, false);
-    put_last(text, DEEPEST, 4, false);
-    put_last(text, DEEPEST + 1, 4, false);
-    put_counts(text);
-    put_last(text, 1, LIMIT, true);
-    put_last(text, 1, LIMIT + 1, true);
+pub(crate) fn put_limits(text: &mut Text) -> fmt::Result {
+    for depth in [6, DEEPEST, DEEPEST + 1] {
+        put_deep(text, depth)?;
+    }
+    for count in [MOST_RECORDS, 5, 1 << 32] {
+        put_zeros(text, count)?;
+    }
+    for x in [LIMIT, LIMIT + 1] {
+        put_outline(text, Outline::new(Basis::Bezier, 1, &[0, 0, 0, x]))?;
+    }
+    Ok(())
 }
 
-fn put_counts(text: &mut Text) {
-    put_zeros(text, MOST_RECORDS);
-    put_zeros(text, 5);
-    put_zeros(text, 4294967296);
+// The line of an outline of P1's records.
+fn put_deep(text: &mut Text, depth: usize) -> fmt::Result {
+    let outline = Outline::new(Basis::Bezier, depth, &[0, 0, 0, 4]);
+    let mut points = [0i32; POINTS];
+    write!(text, "{outline} depth {depth}:")?;
+    put_count(text, outline.draw(&mut points))
 }
 
-// The line of a Bezier sum of four records, of which only the last is not 0.
-fn put_last(text: &mut Text, depth: usize, x: i32, all: bool) {
-    let records = [0, 0, 0, 0, 0, 0, x, 0];
-    put_outline(text, shape_of(BEZIER, depth, 4), &records, all);
+// The line of an outline whose records are all 0.
+fn put_zeros(text: &mut Text, count: usize) -> fmt::Result {
+    let shape = Shape {
+        basis: Basis::Bezier as usize,
+        depth: 1,
+        count,
+        parameter: 0,
+    };
+    let mut points = [0i32; POINTS];
+    write!(text, "Bezier {count} records of 0 depth 1:")?;
+    put_count(text, by_weights(shape, &[0i32; POINTS], &mut points))
 }
 
-// The line of a Bezier sum whose records are all 0.
-fn put_zeros(text: &mut Text, count: usize) {
-    text.add_phrase(b"Bezier", count);
-    text.add_word(b" records of 0 depth 1:");
-    put_drawn(text, shape_of(BEZIER, 1, count), &[0i32; ROOM], false);
-    text.end_line();
+// What is drawn: how many points, and how many coordinates are exact; or the refusal.
+fn put_count(text: &mut Text, drawn: Result<Figures, Refusal>) -> fmt::Result {
+    match drawn {
+        Ok(Figures { points, exact }) => write!(text, " drawn {points} exact {exact}")?,
+        Err(refusal) => put_refusal(text, refusal)?,
+    }
+    writeln!(text)
 }

@@ -1,115 +1,169 @@
-// The line of an outline's sum: what is drawn, and its points or its refusal. A sum is over one axis: records stand as x then y, and every y is 0.
-ghost use Rattle.std.specs.Prelude.{◌<◌};
-
+// The line of an outline's sum: what is drawn, and its points or its refusal. A sum is over one axis: of a record or a point its x is told, and every y is 0.
 use crate::Text;
 use curve::DEEPEST;
-use outline::{Drawn, by_weights};
-use shape::Shape;
+use outline::{Figures, by_weights};
+use shape::{MOST_RECORDS, Refusal, Shape};
+use std::fmt;
+use std::fmt::Write;
 
-// The bases by their numbers.
-pub(crate) const BEZIER: usize = 1;
+// The bases, numbered as in a shape.
+#[derive(Clone, Copy)]
+pub(crate) enum Basis {
+    Bezier = 1,
+    BSpline,
+    Cardinal,
+    Hermite,
+    Loop,
+}
 
-pub(crate) const B_SPLINE: usize = 2;
-
-pub(crate) const CARDINAL: usize = 3;
-
-pub(crate) const LOOP: usize = 5;
-
-// Enough for the points of one span at the deepest, and for the most records.
-pub(crate) const ROOM: usize = 2 * ((1 << DEEPEST) + 1);
-
-// A shape without a parameter.
-pub(crate) fn shape_of(basis: usize, depth: usize, count: usize) -> Shape {
-    Shape {
-        basis,
-        depth,
-        count,
-        parameter: 0,
+impl fmt::Display for Basis {
+    fn fmt<W: fmt::Write>(&self, f: &mut fmt::Formatter<W>) -> fmt::Result {
+        f.write_str(match self {
+            Basis::Bezier => "Bezier",
+            Basis::BSpline => "B-spline",
+            Basis::Cardinal => "cardinal",
+            Basis::Hermite => "Hermite",
+            Basis::Loop => "loop",
+        })
     }
 }
 
-// P1 to P8.
-pub(crate) fn put_bases(text: &mut Text) {
-    for number in 1..9 {
-        put_base(text, number);
+// Room for the most records.
+const CONTROLS: usize = 2 * MOST_RECORDS;
+
+// Room for the points of one span at the deepest, which are more than the others draw.
+pub(crate) const POINTS: usize = 2 * ((1 << DEEPEST) + 1);
+
+// What is drawn: the basis, the depth, the parameter, and the x of each record.
+#[derive(Clone, Copy)]
+pub(crate) struct Outline<'a> {
+    pub basis: Basis,
+    pub depth: usize,
+    pub parameter: usize,
+    pub x: &'a [i32],
+}
+
+impl Outline<'_> {
+    // One without a parameter.
+    pub(crate) fn new(basis: Basis, depth: usize, x: &[i32]) -> Outline<'_> {
+        Outline {
+            basis,
+            depth,
+            parameter: 0,
+            x,
+        }
     }
-}
 
-// The line of one of them: two sums for each basis in turn.
-fn put_base(text: &mut Text, number: usize)
-    requires { number < 9 }
-{
-    text.add_word(&[b'P', b'0' + number as u8, b' ']);
-    let shape = shape_of((number + 1) / 2, depth_of(number), 4);
-    put_outline(text, shape, &records_of(number), true);
-}
-
-// The records of P1 to P8.
-fn records_of(number: usize) -> [i32; 8] {
-    match number {
-        1 => [0, 0, 0, 0, 0, 0, 4, 0],
-        2 => [0, 0, 0, 0, 0, 0, -4, 0],
-        3 => [0, 0, 6, 0, 12, 0, 18, 0],
-        4 => [0, 0, 1, 0, 0, 0, 0, 0],
-        5 => [0, 0, 1000, 0, 1000, 0, 0, 0],
-        6 => [-4000000, 0, 4000000, 0, 4000000, 0, -4000000, 0],
-        7 => [0, 0, 0, 0, 1000, 0, 0, 0],
-        _ => [0, 0, 8, 0, 0, 0, -8, 0],
+    pub(crate) fn shape(self) -> Shape {
+        Shape {
+            basis: self.basis as usize,
+            depth: self.depth,
+            count: self.x.len(),
+            parameter: self.parameter,
+        }
     }
-}
 
-fn depth_of(number: usize) -> usize {
-    if number == 7 { 2 } else { 1 }
-}
+    // The records, x then y, in a list with room for more.
+    pub(crate) fn controls(self) -> [i32; CONTROLS] {
+        let mut controls = [0i32; CONTROLS];
+        let (records, _) = controls.as_chunks_mut::<2>();
+        for (record, x) in records.iter_mut().zip(self.x) {
+            *record = [*x, 0];
+        }
+        controls
+    }
 
-// The line of an outline: the basis, the records' x and the depth, and what is drawn.
-pub(crate) fn put_outline(text: &mut Text, shape: Shape, controls: &[i32], all: bool) {
-    put_shape(text, shape, controls);
-    text.add_word(b":");
-    put_drawn(text, shape, controls, all);
-    text.end_line();
-}
+    // Draws its points in a list.
+    pub(crate) fn draw(self, points: &mut [i32]) -> Result<Figures, Refusal> {
+        by_weights(self.shape(), &self.controls(), points)
+    }
 
-// The basis, the records' x and the depth.
-pub(crate) fn put_shape(text: &mut Text, shape: Shape, controls: &[i32]) {
-    put_records(text, shape, controls);
-    text.add_phrase(b" depth", shape.depth);
+    // Its points, as far as they are drawn.
+    pub(crate) fn points(self) -> [i32; POINTS] {
+        let mut points = [0i32; POINTS];
+        let _ = self.draw(&mut points);
+        points
+    }
 }
 
 // The basis and the records' x.
-pub(crate) fn put_records(text: &mut Text, shape: Shape, controls: &[i32]) {
-    put_basis(text, shape.basis);
-    text.add_x(controls, shape.count);
-}
-
-fn put_basis(text: &mut Text, basis: usize) {
-    match basis {
-        BEZIER => text.add_word(b"Bezier"),
-        B_SPLINE => text.add_word(b"B-spline"),
-        CARDINAL => text.add_word(b"cardinal"),
-        LOOP => text.add_word(b"loop"),
-        _ => text.add_word(b"Hermite"),
-    }
-}
-
-// What is drawn: the x of all points, or only how many there are, and how many coordinates are exact; or the refusal.
-pub(crate) fn put_drawn(text: &mut Text, shape: Shape, controls: &[i32], all: bool) {
-    let mut points = [0i32; ROOM];
-    match by_weights(shape, controls, &mut points) {
-        Drawn::Done(figures) => {
-            if all {
-                text.add_x(&points, figures.points);
-            } else {
-                text.add_phrase(b" drawn", figures.points);
-            }
-            text.add_phrase(b" exact", figures.exact);
+impl fmt::Display for Outline<'_> {
+    fn fmt<W: fmt::Write>(&self, f: &mut fmt::Formatter<W>) -> fmt::Result {
+        let basis = self.basis;
+        write!(f, "{basis}")?;
+        for x in self.x {
+            write!(f, " {x}")?;
         }
-        Drawn::Refused(refusal) => put_refusal(text, refusal.number, refusal.place),
+        Ok(())
     }
+}
+
+// The x of the first `count` points of a list.
+#[derive(Clone, Copy)]
+pub(crate) struct Abscissas<'a> {
+    pub points: &'a [i32],
+    pub count: usize,
+}
+
+impl fmt::Display for Abscissas<'_> {
+    fn fmt<W: fmt::Write>(&self, f: &mut fmt::Formatter<W>) -> fmt::Result {
+        let (points, _) = self.points.as_chunks::<2>();
+        for [x, _] in points.iter().take(self.count) {
+            write!(f, " {x}")?;
+        }
+        Ok(())
+    }
+}
+
+// P1 to P8, two for each open basis.
+pub(crate) fn put_bases(text: &mut Text) -> fmt::Result {
+    let outlines = [
+        Outline::new(Basis::Bezier, 1, &[0, 0, 0, 4]),
+        Outline::new(Basis::Bezier, 1, &[0, 0, 0, -4]),
+        Outline::new(Basis::BSpline, 1, &[0, 6, 12, 18]),
+        Outline::new(Basis::BSpline, 1, &[0, 1, 0, 0]),
+        Outline::new(Basis::Cardinal, 1, &[0, 1000, 1000, 0]),
+        Outline::new(
+            Basis::Cardinal,
+            1,
+            &[-4_000_000, 4_000_000, 4_000_000, -4_000_000],
+        ),
+        Outline::new(Basis::Hermite, 2, &[0, 0, 1000, 0]),
+        Outline::new(Basis::Hermite, 1, &[0, 8, 0, -8]),
+    ];
+    for (i, outline) in outlines.iter().enumerate() {
+        write!(text, "P{} ", i + 1)?;
+        put_outline(text, *outline)?;
+    }
+    Ok(())
+}
+
+// The line of an outline: the basis, the records' x and the depth, and what is drawn.
+pub(crate) fn put_outline(text: &mut Text, outline: Outline) -> fmt::Result {
+    let depth = outline.depth;
+    write!(text, "{outline} depth {depth}:")?;
+    put_points(text, outline)
+}
+
+// What is drawn: the x of all points, and how many coordinates are exact; or the refusal.
+pub(crate) fn put_points(text: &mut Text, outline: Outline) -> fmt::Result {
+    let mut points = [0i32; POINTS];
+    match outline.draw(&mut points) {
+        Ok(figures) => {
+            let points = Abscissas {
+                points: &points,
+                count: figures.points,
+            };
+            let exact = figures.exact;
+            write!(text, "{points} exact {exact}")?;
+        }
+        Err(refusal) => put_refusal(text, refusal)?,
+    }
+    writeln!(text)
 }
 
 // A refusal: its number and its place.
-pub(crate) fn put_refusal(text: &mut Text, number: usize, place: usize) {
-    text.add_phrase(b" refused", number);
-    text.add_spaced_number(place);
+pub(crate) fn put_refusal(text: &mut Text, refusal: Refusal) -> fmt::Result {
+    let Refusal { number, place } = refusal;
+    write!(text, " refused {number} {place}")
 }

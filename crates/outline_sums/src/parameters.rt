@@ -1,43 +1,27 @@
-// Sums of cardinal curves with a parameter (document 02, request 7).
+// Sums of cardinal curves with a parameter.
 use crate::Text;
-use crate::outlines::{B_SPLINE, CARDINAL, put_drawn, put_shape};
+use crate::outlines::{Basis, Outline, put_points};
 use curve::{LIMIT, MOST_PARAMETER};
-use shape::Shape;
+use std::fmt;
+use std::fmt::Write;
 
 // P5 at parameters 0, 16, 64 and one more; the farthest points, either way; and a basis whose parameter is not looked at.
-pub(crate) fn put_parameters(text: &mut Text) {
-    put_swelling(text, 0);
-    put_swelling(text, 16);
-    put_swelling(text, MOST_PARAMETER);
-    put_swelling(text, MOST_PARAMETER + 1);
-    put_farthest(text, LIMIT, -LIMIT);
-    put_farthest(text, -LIMIT, LIMIT);
-    let records = [0, 0, 6, 0, 12, 0, 18, 0];
-    put_with(text, B_SPLINE, MOST_PARAMETER + 1, &records);
+pub(crate) fn put_parameters(text: &mut Text) -> fmt::Result {
+    for parameter in [0, 16, MOST_PARAMETER, MOST_PARAMETER + 1] {
+        put_with(text, Basis::Cardinal, parameter, &[0, 1000, 1000, 0])?;
+    }
+    for x in [LIMIT, -LIMIT] {
+        put_with(text, Basis::Cardinal, MOST_PARAMETER, &[-x, x, x, -x])?;
+    }
+    put_with(text, Basis::BSpline, MOST_PARAMETER + 1, &[0, 6, 12, 18])
 }
 
-fn put_swelling(text: &mut Text, parameter: usize) {
-    let records = [0, 0, 1000, 0, 1000, 0, 0, 0];
-    put_with(text, CARDINAL, parameter, &records);
-}
-
-// The ends of the span at a coordinate, and their neighbours at another.
-fn put_farthest(text: &mut Text, x: i32, beside: i32) {
-    let records = [beside, 0, x, 0, x, 0, beside, 0];
-    put_with(text, CARDINAL, MOST_PARAMETER, &records);
-}
-
-// The line of a sum of four records at depth 1 with a parameter.
-fn put_with(text: &mut Text, basis: usize, parameter: usize, controls: &[i32]) {
-    let shape = Shape {
-        basis,
-        depth: 1,
-        count: 4,
+// The line of an outline at depth 1 with a parameter.
+fn put_with(text: &mut Text, basis: Basis, parameter: usize, x: &[i32]) -> fmt::Result {
+    let outline = Outline {
         parameter,
+        ..Outline::new(basis, 1, x)
     };
-    put_shape(text, shape, controls);
-    text.add_phrase(b" parameter", parameter);
-    text.add_word(b":");
-    put_drawn(text, shape, controls, true);
-    text.end_line();
+    write!(text, "{outline} depth 1 parameter {parameter}:")?;
+    put_points(text, outline)
 }

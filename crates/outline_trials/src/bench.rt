@@ -1,31 +1,61 @@
 // The bench that a trials file works on.
-
+use crate::trial::{Lengths, Setting, Trial};
+use arrayvec::ArrayVec;
+use doubles::double_of;
 use drawing::State;
 use shape::Shape;
+use std::default::MadeWith;
+use std::{io, iter};
 
-// What a trials file works on, beside the lists: the shape, the drawing state, and how much of each list and of the file is lent.
-#[derive(Clone, Copy)]
+// The longest lists, and the longest file.
+pub(crate) const LONGEST_CONTROLS: usize = 160;
+
+pub(crate) const LONGEST_POINTS: usize = 33000;
+
+pub(crate) const LONGEST_PREVIEW: usize = 11000;
+
+const LONGEST_FILE: usize = 800;
+
+// What a trials file works on: the shape, the drawing state, the lists, as long as they are lent, and the file.
+#[derive(Drop)]
 pub(crate) struct Bench {
     pub shape: Shape,
     pub state: State,
-    pub controls: usize,
-    pub points: usize,
-    pub preview: usize,
-    pub file: usize,
+    pub controls: ArrayVec<i32, LONGEST_CONTROLS>,
+    pub points: ArrayVec<i32, LONGEST_POINTS>,
+    pub preview: ArrayVec<f64, LONGEST_PREVIEW>,
+    pub file: ArrayVec<u8, LONGEST_FILE>,
 }
 
-// What playing a record comes to: the bench afterwards, that the record is bad, or that the run has ended: with the input, or at a read or a write that failed.
-#[derive(Clone, Copy)]
-pub(crate) enum Turn {
-    Next(Bench),
+// Why a run stops: a record is bad, or the run has ended, with the input, or at a read or a write that failed.
+#[derive(Clone, Copy, Debug, PartialEq, Eq)]
+pub(crate) enum Stop {
     Bad,
     End,
+}
+
+impl From<io::Error> for Stop {
+    fn from(_error: io::Error) -> Stop {
+        Stop::End
+    }
+}
+
+// A list becomes so many times the same number.
+fn fill<T: Copy + MadeWith<()>, const N: usize>(
+    list: &mut ArrayVec<T, N>,
+    length: usize,
+    number: T,
+) -> Result<(), Stop> {
+    list.clear();
+    for _ in 0..length {
+        list.try_push(number).map_err(|_| Stop::Bad)?;
+    }
+    Ok(())
 }
 
 impl Bench {
     // The bench before the first record.
     pub(crate) fn new() -> Bench {
-        let state = State::new();
         Bench {
             shape: Shape {
                 basis: 0,
@@ -33,65 +63,46 @@ impl Bench {
                 count: 0,
                 parameter: 0,
             },
-            state,
-            controls: 0,
-            points: 0,
-            preview: 0,
-            file: 0,
+            state: State::new(),
+            controls: ArrayVec::new(),
+            points: ArrayVec::new(),
+            preview: ArrayVec::new(),
+            file: ArrayVec::new(),
         }
     }
 
-    // The bench with another shape.
-    pub(crate) fn with_shape(self, shape: Shape) -> Bench {
-        let state = self.state;
-        Bench {
-            shape,
-            state,
-            controls: self.controls,
-            points: self.points,
-            preview: self.preview,
-            file: self.file,
+    // One record's trial.
+    pub(crate) fn play(&mut self, rt: &(impl Print + Eprint), trial: Trial) -> Result<(), Stop> {
+        match trial {
+            Trial::Set(setting) => self.set(setting),
+            Trial::Call(call) => Ok(self.call(rt, call)?),
+            Trial::Show(list) => Ok(self.show(rt, list)?),
         }
     }
 
-    // The bench with another drawing state.
-    pub(crate) fn with_state(self, state: State) -> Bench {
-        let shape = self.shape;
-        Bench {
-            shape,
-            state,
-            controls: self.controls,
-            points: self.points,
-            preview: self.preview,
-            file: self.file,
+    // Sets the bench up, and writes nothing.
+    fn set(&mut self, setting: Setting) -> Result<(), Stop> {
+        match setting {
+            Setting::Lists(lengths, number) => self.lend(lengths, number)?,
+            Setting::Shape(shape) => self.shape = shape,
+            Setting::Control(at, number) => {
+                *self.controls.get_mut(at).ok_or(Stop::Bad)? = number;
+            }
+            Setting::Point(at, number) => *self.points.get_mut(at).ok_or(Stop::Bad)? = number,
+            Setting::EmptyFile => self.file.clear(),
+            Setting::MoreFile(bytes) => self
+                .file
+                .try_extend_from_slice(bytes)
+                .map_err(|_| Stop::Bad)?,
+            Setting::State(state) => self.state = state,
         }
+        Ok(())
     }
 
-    // The bench with other lengths lent.
-    pub(crate) fn with_lists(self, controls: usize, points: usize, preview: usize) -> Bench {
-        let shape = self.shape;
-        let state = self.state;
-        Bench {
-            shape,
-            state,
-            controls,
-            points,
-            preview,
-            file: self.file,
-        }
-    }
-
-    // The bench with another end of the file.
-    pub(crate) fn with_file(self, file: usize) -> Bench {
-        let shape = self.shape;
-        let state = self.state;
-        Bench {
-            shape,
-            state,
-            controls: self.controls,
-            points: self.points,
-            preview: self.preview,
-            file,
-        }
+    // Lends so much of each list, and every number in them becomes the same.
+    fn lend(&mut self, lengths: Lengths, number: i32) -> Result<(), Stop> {
+        fill(&mut self.controls, lengths.controls, number)?;
+        fill(&mut self.points, lengths.points, number)?;
+        fill(&mut self.preview, lengths.preview, double_of(number))
     }
 }

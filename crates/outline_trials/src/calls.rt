@@ -1,225 +1,139 @@
-// The records that call the library, on the lent parts of the lists, and write what it answers.
-use crate::bench::{Bench, Turn};
-use crate::record::{Placed, Record, control, step_of};
-use crate::text::{say, say_numbers, say_refusal, say_state};
-use drawing::{Control, State, Stepped};
-use edit::Edited;
+// The calls of the library, on the lent lists, and what they answer.
+use crate::bench::Bench;
+use crate::text::{say, say_change, say_numbers, say_patterns, say_refusal, say_state};
+use crate::trial::{Call, List, Way};
+use drawing::Step;
+use edit::{Edit, insert_record, move_record, remove_record};
 use list_output::write_file;
-use outline::Drawn;
-use preview::Previewed;
-use record_file::Reading;
-use shape::Shape;
-use tolerance::{Chosen, by_tolerance};
+use outline::{Figures, by_differences, by_halving, by_weights};
+use preview::preview;
+use record_file::read;
+use std::io;
+use tolerance::{Steps, by_tolerance};
 
-// Places, tolerances and numbers of cuts are below 2^63.
-const PAST_LAST: u64 = 9223372036854775808;
-
-// What a call came to once its line is written: the bench afterwards. Where the line was not written the run ends.
-pub(crate) fn go_on(is_written: bool, bench: Bench) -> Turn {
-    if is_written {
-        Turn::Next(bench)
-    } else {
-        Turn::End
-    }
-}
-
-// What drawing answered, said.
-fn say_drawn(rt: &(impl Print + Eprint), answer: Drawn) -> bool {
-    match answer {
-        Drawn::Refused(refusal) => say_refusal(rt, refusal),
-        Drawn::Done(figures) => say(rt, b"drawn", &[figures.points, figures.exact]),
-    }
-}
-
-// The outline, by the way that the operation names.
-pub(crate) fn draw(
-    rt: &(impl Print + Eprint),
-    shape: Shape,
-    op: u8,
-    controls: &[i32],
-    points: &mut [i32],
-) -> bool {
-    match op {
-        10 => say_drawn(rt, outline::by_weights(shape, controls, points)),
-        11 => say_drawn(rt, outline::by_halving(shape, controls, points)),
-        _ => say_drawn(rt, outline::by_differences(shape, controls, points)),
-    }
-}
-
-// What drawing by tolerance answered, said.
-fn say_chosen(rt: &(impl Print + Eprint), answer: Chosen) -> bool {
-    match answer {
-        Chosen::Refused(refusal) => say_refusal(rt, refusal),
-        Chosen::Done(steps) => say(rt, b"cut", &[steps.points, steps.cuts, steps.exact]),
-    }
-}
-
-// The outline within a tolerance, by at most so many cuts.
-pub(crate) fn cut(
-    rt: &(impl Print + Eprint),
-    bench: Bench,
-    r: Record,
-    controls: &[i32],
-    points: &mut [i32],
-) -> Turn {
-    if r.a >= PAST_LAST {
-        return Turn::Bad;
-    }
-    if r.b >= PAST_LAST {
-        return Turn::Bad;
-    }
-    let shape = bench.shape;
-    let answer = by_tolerance(shape, r.a as usize, r.b as usize, controls, points);
-    go_on(say_chosen(rt, answer), bench)
-}
-
-// What an edit answered, said, and the shape that it leaves.
-fn edited(rt: &(impl Print + Eprint), bench: Bench, answer: Edited) -> Turn {
-    match answer {
-        Edited::Refused(refusal) => go_on(say_refusal(rt, refusal), bench),
-        Edited::Done(change) => {
-            let shape = change.shape;
-            let is_written = say(
-                rt,
-                b"edited",
-                &[
-                    shape.basis,
-                    shape.depth,
-                    shape.count,
-                    change.first,
-                    change.fresh,
-                    change.exact,
-                    shape.parameter,
-                ],
-            );
-            go_on(is_written, bench.with_shape(shape))
+impl Bench {
+    // A call, and the line of its answer.
+    pub(crate) fn call(&mut self, rt: &(impl Print + Eprint), call: Call) -> io::Result<()> {
+        match call {
+            Call::Draw(way) => self.draw(rt, way),
+            Call::Cut(tolerance, most) => self.cut(rt, tolerance, most),
+            Call::Edit(place, edit) => self.edit(rt, place, edit),
+            Call::View(span) => self.view(rt, span),
+            Call::Preview => self.draw_preview(rt),
+            Call::Step(step) => self.step(rt, step),
+            Call::ReadFile => self.read_file(rt),
+            Call::ListFile => self.list_file(rt),
         }
     }
-}
 
-// A record moved, or a new one before it, as the operation names.
-fn place_at(
-    op: u8,
-    shape: Shape,
-    place: usize,
-    at: Control,
-    controls: &mut [i32],
-    points: &mut [i32],
-) -> Edited {
-    match op {
-        20 => edit::move_record(shape, place, at.x, at.y, controls, points),
-        _ => edit::insert_record(shape, place, at.x, at.y, controls, points),
-    }
-}
-
-pub(crate) fn place_record(
-    rt: &(impl Print + Eprint),
-    bench: Bench,
-    r: Record,
-    controls: &mut [i32],
-    points: &mut [i32],
-) -> Turn {
-    if r.a >= PAST_LAST {
-        return Turn::Bad;
-    }
-    let Placed::At(at) = control(r.b, r.c) else {
-        return Turn::Bad;
-    };
-    let op = r.op;
-    let shape = bench.shape;
-    let answer = place_at(op, shape, r.a as usize, at, controls, points);
-    edited(rt, bench, answer)
-}
-
-pub(crate) fn remove_record(
-    rt: &(impl Print + Eprint),
-    bench: Bench,
-    r: Record,
-    controls: &mut [i32],
-    points: &mut [i32],
-) -> Turn {
-    if r.a >= PAST_LAST {
-        return Turn::Bad;
-    }
-    let shape = bench.shape;
-    let answer = edit::remove_record(shape, r.a as usize, controls, points);
-    edited(rt, bench, answer)
-}
-
-// The view of a span: its length, and its numbers where there are any.
-pub(crate) fn view(rt: &(impl Print + Eprint), bench: Bench, r: Record, points: &[i32]) -> Turn {
-    if r.a >= PAST_LAST {
-        return Turn::Bad;
-    }
-    let shape = bench.shape;
-    let part = outline::view(shape, r.a as usize, points);
-    let is_written = say(rt, b"view", &[part.len()]);
-    if is_written && part.len() != 0 {
-        return go_on(say_numbers(rt, part), bench);
-    }
-    go_on(is_written, bench)
-}
-
-pub(crate) fn draw_preview(
-    rt: &(impl Print + Eprint),
-    bench: Bench,
-    controls: &[i32],
-    preview: &mut [f64],
-) -> Turn {
-    let shape = bench.shape;
-    let is_written = match preview::preview(shape, controls, preview) {
-        Previewed::Refused(refusal) => say_refusal(rt, refusal),
-        Previewed::Drawn(count) => say(rt, b"previewed", &[count]),
-    };
-    go_on(is_written, bench)
-}
-
-fn show_state(rt: &(impl Print + Eprint), state: State) -> bool {
-    let start = state.start;
-    let current = state.current;
-    let closed = if state.closed { 1 } else { 0 };
-    say_state(
-        rt,
-        state.count,
-        &[start.x, start.y, current.x, current.y, closed],
-    )
-}
-
-// A step of the drawing.
-pub(crate) fn step(
-    rt: &(impl Print + Eprint),
-    bench: Bench,
-    r: Record,
-    controls: &mut [i32],
-) -> Turn {
-    let state = bench.state;
-    match state.step(step_of(r), controls) {
-        Stepped::Refused(refusal) => go_on(say_refusal(rt, refusal), bench),
-        Stepped::Next(next) => go_on(show_state(rt, next), bench.with_state(next)),
-    }
-}
-
-// The file read into the controls.
-pub(crate) fn read_file(
-    rt: &(impl Print + Eprint),
-    bench: Bench,
-    file: &[u8],
-    controls: &mut [i32],
-) -> Turn {
-    match record_file::read(file, controls) {
-        Reading::Refused(refusal) => go_on(say_refusal(rt, refusal), bench),
-        Reading::Read(shape) => {
-            let is_written = say(
-                rt,
-                b"read",
-                &[shape.basis, shape.depth, shape.count, shape.parameter],
-            );
-            go_on(is_written, bench.with_shape(shape))
+    // The outline, in one of the three ways.
+    fn draw(&mut self, rt: &(impl Print + Eprint), way: Way) -> io::Result<()> {
+        let controls = self.controls.as_slice();
+        let points = self.points.as_mut_slice();
+        let drawn = match way {
+            Way::Weights => by_weights(self.shape, controls, points),
+            Way::Halving => by_halving(self.shape, controls, points),
+            Way::Differences => by_differences(self.shape, controls, points),
+        };
+        match drawn {
+            Ok(Figures { points, exact }) => say(rt, b"drawn", &[points, exact]),
+            Err(refusal) => say_refusal(rt, refusal),
         }
     }
-}
 
-// The file listed as outline-list does.
-pub(crate) fn show_file(rt: &(impl Print + Eprint), file: &[u8]) -> bool {
-    write_file(rt, file).written.is_ok()
+    // The outline within a tolerance, by at most so many cuts.
+    fn cut(&mut self, rt: &(impl Print + Eprint), tolerance: usize, most: usize) -> io::Result<()> {
+        let controls = self.controls.as_slice();
+        let points = self.points.as_mut_slice();
+        match by_tolerance(self.shape, tolerance, most, controls, points) {
+            Ok(
+                Steps {
+                    points,
+                    cuts,
+                    exact,
+                },
+            ) => say(rt, b"cut", &[points, cuts, exact]),
+            Err(refusal) => say_refusal(rt, refusal),
+        }
+    }
+
+    // An edit, and the shape that it leaves.
+    fn edit(&mut self, rt: &(impl Print + Eprint), place: usize, edit: Edit) -> io::Result<()> {
+        let controls = self.controls.as_mut_slice();
+        let points = self.points.as_mut_slice();
+        let edited = match edit {
+            Edit::Move(x, y) => move_record(self.shape, place, x, y, controls, points),
+            Edit::Insert(x, y) => insert_record(self.shape, place, x, y, controls, points),
+            Edit::Remove => remove_record(self.shape, place, controls, points),
+        };
+        match edited {
+            Ok(change) => {
+                self.shape = change.shape;
+                say_change(rt, change)
+            }
+            Err(refusal) => say_refusal(rt, refusal),
+        }
+    }
+
+    // The view of a span: its length, and its numbers where there are any.
+    fn view(&self, rt: &(impl Print + Eprint), span: usize) -> io::Result<()> {
+        let part = outline::view(self.shape, span, self.points.as_slice());
+        say(rt, b"view", &[part.len()])?;
+        if part.is_empty() {
+            return Ok(());
+        }
+        say_numbers(rt, part)
+    }
+
+    fn draw_preview(&mut self, rt: &(impl Print + Eprint)) -> io::Result<()> {
+        match preview(
+            self.shape,
+            self.controls.as_slice(),
+            self.preview.as_mut_slice(),
+        ) {
+            Ok(count) => say(rt, b"previewed", &[count]),
+            Err(refusal) => say_refusal(rt, refusal),
+        }
+    }
+
+    // A step of the drawing, and the state that it leaves.
+    fn step(&mut self, rt: &(impl Print + Eprint), step: Step) -> io::Result<()> {
+        match self.state.step(step, self.controls.as_mut_slice()) {
+            Ok(state) => {
+                self.state = state;
+                say_state(rt, state)
+            }
+            Err(refusal) => say_refusal(rt, refusal),
+        }
+    }
+
+    // The file read into the controls, and the shape that it gives.
+    fn read_file(&mut self, rt: &(impl Print + Eprint)) -> io::Result<()> {
+        match read(self.file.as_slice(), self.controls.as_mut_slice()) {
+            Ok(shape) => {
+                self.shape = shape;
+                say(
+                    rt,
+                    b"read",
+                    &[shape.basis, shape.depth, shape.count, shape.parameter],
+                )
+            }
+            Err(refusal) => say_refusal(rt, refusal),
+        }
+    }
+
+    // The file listed as outline-list does.
+    fn list_file(&self, rt: &(impl Print + Eprint)) -> io::Result<()> {
+        write_file(rt, self.file.as_slice()).written?;
+        Ok(())
+    }
+
+    // A list in one line.
+    pub(crate) fn show(&self, rt: &(impl Print + Eprint), list: List) -> io::Result<()> {
+        match list {
+            List::Controls => say_numbers(rt, self.controls.as_slice()),
+            List::Points => say_numbers(rt, self.points.as_slice()),
+            List::Preview => say_patterns(rt, self.preview.as_slice()),
+        }
+    }
 }

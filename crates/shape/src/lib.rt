@@ -7,11 +7,13 @@ ghost use Rattle.shape.specs.Shape.{sixty_fourths, basis_of, tail, spans_of, las
 ghost use Rattle.shape.specs.Refusals.{judge_numbers, judge_shape, judge_controls, judge_lists, outside, first_outside};
 
 mod reason;
+mod sound;
 
 use curve::bounds::is_beyond;
 use curve::records::{first_record, is_loop, stride_of};
 use curve::{Basis, DEEPEST, LIMIT, MOST_PARAMETER};
 pub use reason::Reason;
+pub use sound::SoundShape;
 
 // A shape as a caller passes it: basis, depth, control count and parameter, right or wrong. The parameter is looked at for basis 3 alone, and is handed on as it came.
 #[derive(Clone, Copy, Debug, PartialEq, Eq)]
