@@ -3,12 +3,13 @@ ghost use Rattle.std.specs.Prelude.{◌≡◌, ◌^◌, ◌≤◌, pos, nat_abs,
 ghost use Rattle.curve.specs.Bend.{bend};
 ghost use Rattle.curve.specs.Limits.{Inside};
 ghost use Rattle.curve.specs.Span.{divisor};
-ghost use Rattle.pieces.specs.Tree.{finest, flat_on, is_flat, most_tolerance};
+ghost use Rattle.pieces.specs.Tree.{finest, flat_on, is_flat};
 ghost use Rattle.pieces.specs.Inner.{Halvable};
 
 use crate::Piece;
+use crate::rule::Rule;
 use curve::rounding::divisor_bits;
-use curve::{Basis, Four, SIX};
+use curve::{Four, SIX};
 use whole::magnitude;
 
 // The second difference of three controls in a row, in size.
@@ -30,22 +31,21 @@ fn bend_of(q: Four) -> u64
 }
 
 // Whether three times that is at most four times the tolerance, over the divisor of a level.
-fn is_flat_on(basis: Basis, q: Four, level: usize, tolerance: usize) -> bool
+fn is_flat_on(rule: Rule, q: Four, level: usize) -> bool
     requires inside { Inside (2 ^ 59) q }
-    requires level_le_finest { (level ≤ finest) × (tolerance ≤ most_tolerance) }
-    ensures { result ≡ flat_on (divisor basis level) tolerance q }
+    requires level_le_finest { level ≤ finest }
+    ensures { result ≡ flat_on (divisor rule.basis level) rule.tolerance q }
 {
-    let divisor = (SIX as u64) << divisor_bits(basis, level);
-    3 * bend_of(q) <= 4 * (tolerance as u64 * divisor)
+    let divisor = (SIX as u64) << divisor_bits(rule.basis, level);
+    3 * bend_of(q) <= 4 * (rule.tolerance as u64 * divisor)
 }
 
 impl Piece {
     // Whether a piece is flat: on both axes.
-    pub(crate) fn is_flat(self, basis: Basis, tolerance: usize) -> bool
-        requires { Halvable self × (tolerance ≤ most_tolerance) }
-        ensures { result ≡ is_flat (divisor basis) tolerance self }
+    pub(crate) fn is_flat(self, rule: Rule) -> bool
+        requires { Halvable self }
+        ensures { result ≡ is_flat (divisor rule.basis) rule.tolerance self }
     {
-        is_flat_on(basis, self.x, self.level, tolerance)
-            && is_flat_on(basis, self.y, self.level, tolerance)
+        is_flat_on(rule, self.x, self.level) && is_flat_on(rule, self.y, self.level)
     }
 }

@@ -9,6 +9,7 @@ ghost use Rattle.pieces.specs.Inner.{Halvable};
 
 pub mod fill;
 mod flat;
+pub mod rule;
 pub mod walk;
 
 use curve::Four;

@@ -24,7 +24,7 @@ use Rattle.pieces.proofs.Walks.{Counted, walk-all-counted}
 use Rattle.pieces.proofs.Writes.{length-numbers}
 use Rattle.tolerance.specs.declared.Steps.{Steps}
 use Rattle.tolerance.specs.Reading.{tree_of, walk_of, values_of, cuts_of, points_for, steps_of, is_too_deep, is_too_many, plan_rows, choose_rows, chosen, chooses}
-use Rattle.tolerance.specs.Inner.{Choosable}
+use Rattle.tolerance.specs.Inner.{AllSound}
 use Rattle.pieces.specs.declared.Uncut.{Uncut}
 use Rattle.pieces.specs.declared.Uncut.TheVariants.{TooDeep, TooMany}
 use Rattle.tolerance.proofs.Left.{values_length}
@@ -62,8 +62,8 @@ module _ (s : Shape) (tolerance most : ℕ) (controls lent : List ℤ) (none : N
   all-counted = walk-all-counted (tree_of p tolerance controls) most 0 walked.0 0 p.spans walked.1
 
   -- every piece of every span is flat or cut
-  pub choosable : Choosable p tolerance controls
-  choosable = record { near = near; sound = λ t h. all-counted.all_sound t (omega arith) (omega arith) }
+  pub all-sound : AllSound p tolerance controls
+  all-sound = λ t h. all-counted.all_sound t (omega arith) (omega arith)
 
   -- by no more cuts than the caller's most
   pub within-most : cuts_of p tolerance controls ≤ most
@@ -87,7 +87,7 @@ module _ (s : Shape) (tolerance most : ℕ) (controls lent : List ℤ) (f : Step
   answered-points = sym (ap (λ (g : Steps). g.points) steps) ∙ ap (points_for (plan_of s)) (sym answered-cuts)
 
   pub answered-sound : (t : ℕ) → t < (plan_of s).spans → Sound (tree_of (plan_of s) tolerance controls t)
-  answered-sound = (choosable s tolerance most controls lent none).sound
+  answered-sound = all-sound s tolerance most controls lent none
 
   -- so many numbers are chosen, and everything past them is kept
   pub answered-length : length (numbers (values_of (plan_of s) tolerance controls)) ≡ 2 * f.points

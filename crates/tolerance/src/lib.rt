@@ -5,14 +5,14 @@
 ghost use Rattle.std.specs.Prelude.{◌≡◌};
 ghost use Rattle.whole.specs.Outcome.{outcome};
 ghost use Rattle.tolerance.specs.Reading.{chooses, chooses_last, chooses_plan, cuts_of};
-ghost use Rattle.tolerance.specs.Inner.{Choosable};
+ghost use Rattle.tolerance.specs.Inner.{AllSound};
 
 mod spanwise;
 
 use pieces::MOST_TOLERANCE;
 use shape::{Reason, Refusal, Shape, SoundShape, check_controls};
 use spans::draft::Draft;
-use spanwise::{count_all, fill_all};
+use spanwise::Cutting;
 
 // How many points stand in the list now, how many cuts chose them, and how many of their coordinates are exact.
 #[derive(Clone, Copy, Debug, PartialEq, Eq)]
@@ -53,26 +53,22 @@ fn choose_plan(
         return Err(Reason::TooCoarse.into());
     }
     let draft = Draft { plan, controls };
-    let cuts = count_all(&draft, tolerance, most)?;
-    fill_plan(&draft, tolerance, cuts, points)
+    let cutting = Cutting { draft, tolerance };
+    let cuts = cutting.count(most)?;
+    fill_plan(&cutting, cuts, points)
 }
 
 // Room for the points, row 9, and the points where there is.
-fn fill_plan(
-    draft: &Draft,
-    tolerance: usize,
-    cuts: usize,
-    points: &mut [i32],
-) -> Result<Steps, Refusal>
-    requires choosable { Choosable draft.now.plan tolerance draft.now.controls.now }
-    requires cuts_value { cuts ≡ cuts_of draft.now.plan tolerance draft.now.controls.now }
-    ensures { outcome result points.new ≡ chooses_last draft.now.plan tolerance draft.now.controls.now points.old }
+fn fill_plan(cutting: &Cutting, cuts: usize, points: &mut [i32]) -> Result<Steps, Refusal>
+    requires sound { AllSound cutting.now.draft.plan cutting.now.tolerance cutting.now.draft.controls.now }
+    requires cuts_value { cuts ≡ cuts_of cutting.now.draft.plan cutting.now.tolerance cutting.now.draft.controls.now }
+    ensures { outcome result points.new ≡ chooses_last cutting.now.draft.plan cutting.now.tolerance cutting.now.draft.controls.now points.old }
 {
-    let count = draft.plan.spans + cuts + 1;
+    let count = cutting.draft.plan.spans + cuts + 1;
     if points.len() < 2 * count {
         return Err(Reason::ShortPoints.into());
     }
-    let exact = fill_all(draft, tolerance, points);
+    let exact = cutting.fill(points);
     Ok(Steps {
         points: count,
         cuts,

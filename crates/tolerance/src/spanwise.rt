@@ -5,50 +5,71 @@ ghost use Rattle.whole.specs.Outcome.{outcome};
 ghost use Rattle.pieces.specs.Tree.{most_tolerance, piece};
 ghost use Rattle.pieces.specs.Values.{exact_of, numbers};
 ghost use Rattle.tolerance.specs.Reading.{controls_of, values_of, walk_of};
-ghost use Rattle.tolerance.specs.Inner.{Choosable};
+ghost use Rattle.tolerance.specs.Inner.{AllSound};
 
 use curve::rounding::divisor_bits;
 use pieces::fill::fill_starts;
+use pieces::rule::Rule;
 use pieces::walk::count_cuts;
 use pieces::{Filled, Piece, Uncut};
 use spans::draft::Draft;
 use spans::point::put_point;
 
-// A span before any cut.
-fn whole_span(draft: &Draft, span: usize) -> Piece
-    requires { span < draft.now.plan.spans }
-    ensures { result ≡ piece 0 (controls_of draft.now.plan draft.now.controls.now span 0) (controls_of draft.now.plan draft.now.controls.now span 1) }
-{
-    Piece::whole(draft.span_controls(span, 0), draft.span_controls(span, 1))
+// A draft and the tolerance by which its spans are cut.
+#[derive(Clone, Copy)]
+pub(crate) struct Cutting<'a> {
+    pub(crate) draft: Draft<'a>,
+    pub(crate) tolerance: usize,
+    ghost near: { tolerance ≤ most_tolerance },
 }
 
-// The walk over a plan's spans from the left: how many cuts it makes.
-pub(crate) fn count_all(draft: &Draft, tolerance: usize, most: usize) -> Result<usize, Uncut>
-    requires { tolerance ≤ most_tolerance }
-    ensures { result ≡ walk_of draft.now.plan tolerance most draft.now.controls.now }
-{
-    let plan = draft.plan;
-    let mut made = 0;
-    for span in 0..plan.spans {
-        let piece = whole_span(draft, span);
-        made = count_cuts(piece, plan.basis, tolerance, most, made)?;
+impl Cutting<'_> {
+    // A span before any cut.
+    fn whole_span(&self, span: usize) -> Piece
+        requires { span < self.now.draft.plan.spans }
+        ensures { result ≡ piece 0 (controls_of self.now.draft.plan self.now.draft.controls.now span 0) (controls_of self.now.draft.plan self.now.draft.controls.now span 1) }
+    {
+        Piece::whole(
+            self.draft.span_controls(span, 0),
+            self.draft.span_controls(span, 1),
+        )
     }
-    Ok(made)
-}
 
-// The starts of the flat pieces of all spans, and the last end. It answers how many of their numbers are exact.
-pub(crate) fn fill_all(draft: &Draft, tolerance: usize, points: &mut [i32]) -> usize
-    requires choosable { Choosable draft.now.plan tolerance draft.now.controls.now }
-    requires controls_in_bounds { length (values_of draft.now.plan tolerance draft.now.controls.now) ≤ length points.old }
-    ensures { outcome result points.new ≡ outcome (exact_of (values_of draft.now.plan tolerance draft.now.controls.now)) (sets points.old 0 (numbers (values_of draft.now.plan tolerance draft.now.controls.now))) }
-{
-    let plan = draft.plan;
-    let mut filled = Filled { next: 0, exact: 0 };
-    for span in 0..plan.spans {
-        let piece = whole_span(draft, span);
-        filled = fill_starts(points, filled, piece, plan.basis, tolerance);
+    // The walk over all spans from the left: how many cuts it makes.
+    pub(crate) fn count(&self, most: usize) -> Result<usize, Uncut>
+        ensures { result ≡ walk_of self.now.draft.plan self.now.tolerance most self.now.draft.controls.now }
+    {
+        let plan = self.draft.plan;
+        let rule = Rule {
+            basis: plan.basis,
+            tolerance: self.tolerance,
+        };
+        let mut made = 0;
+        for span in 0..plan.spans {
+            let piece = self.whole_span(span);
+            made = count_cuts(piece, rule, most, made)?;
+        }
+        Ok(made)
     }
-    let last = whole_span(draft, plan.spans - 1);
-    let bits = divisor_bits(plan.basis, 0);
-    put_point(points, filled.next, bits, last.x.d, last.y.d, filled.exact)
+
+    // The starts of the flat pieces of all spans, and the last end. It answers how many of their numbers are exact.
+    pub(crate) fn fill(&self, points: &mut [i32]) -> usize
+        requires sound { AllSound self.now.draft.plan self.now.tolerance self.now.draft.controls.now }
+        requires controls_in_bounds { length (values_of self.now.draft.plan self.now.tolerance self.now.draft.controls.now) ≤ length points.old }
+        ensures { outcome result points.new ≡ outcome (exact_of (values_of self.now.draft.plan self.now.tolerance self.now.draft.controls.now)) (sets points.old 0 (numbers (values_of self.now.draft.plan self.now.tolerance self.now.draft.controls.now))) }
+    {
+        let plan = self.draft.plan;
+        let rule = Rule {
+            basis: plan.basis,
+            tolerance: self.tolerance,
+        };
+        let mut filled = Filled { next: 0, exact: 0 };
+        for span in 0..plan.spans {
+            let piece = self.whole_span(span);
+            filled = fill_starts(points, filled, piece, rule);
+        }
+        let last = self.whole_span(plan.spans - 1);
+        let bits = divisor_bits(plan.basis, 0);
+        put_point(points, filled.next, bits, last.x.d, last.y.d, filled.exact)
+    }
 }

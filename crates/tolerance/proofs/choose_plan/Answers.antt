@@ -51,7 +51,7 @@ returns-in_err-cuts c =
     let why = c.in_err-cuts.field-0.0 in
     let out : c.from_residual-in_err-cuts.result ≡ Err (refusal_of why) = search rules in
     ap (λ x. outcome x a.points.now) out
-    ∙ sym (plan-ended a.sound.shape.count a.sound.plan a.tolerance a.most a.controls.now a.points.now (sym c.check_controls.ensures ∙ c.in_ok-check_controls.was) why (omega (arith, c.if-tolerance-gt-MOST_TOLERANCE.false)) (sym c.count_all.ensures ∙ c.in_err-cuts.was))
+    ∙ sym (plan-ended a.sound.shape.count a.sound.plan a.tolerance a.most a.controls.now a.points.now (sym c.check_controls.ensures ∙ c.in_ok-check_controls.was) why (omega (arith, c.if-tolerance-gt-MOST_TOLERANCE.false)) (sym c.count.ensures ∙ c.in_err-cuts.was))
 
 -- what the walk counted
 counted : (c : In_ok-cuts)
@@ -62,12 +62,10 @@ counted : (c : In_ok-cuts)
     c.in_ok-cuts.cuts
 counted c =
     let a = c.args in
-    walk-all-counted (tree_of a.sound.plan a.tolerance a.controls.now) a.most 0 c.in_ok-cuts.cuts 0 a.sound.plan.spans (sym c.count_all.ensures ∙ c.in_ok-cuts.was)
+    walk-all-counted (tree_of a.sound.plan a.tolerance a.controls.now) a.most 0 c.in_ok-cuts.cuts 0 a.sound.plan.spans (sym c.count.ensures ∙ c.in_ok-cuts.was)
 
-pub fill_plan-requires-clause-choosable : goal.fill_plan-requires-clause-choosable
-fill_plan-requires-clause-choosable c =
-    let k = c.before.before in
-    record { near = omega (arith, c.if-tolerance-gt-MOST_TOLERANCE.false); sound = λ s h. (counted k).all_sound s (omega arith) (omega arith) }
+pub fill_plan-requires-clause-sound : goal.fill_plan-requires-clause-sound
+fill_plan-requires-clause-sound c = let k = c.before.before in λ s h. (counted k).all_sound s (omega arith) (omega arith)
 
 pub fill_plan-requires-clause-cuts_value : goal.fill_plan-requires-clause-cuts_value
 fill_plan-requires-clause-cuts_value c = (counted c.before.before).count ∙ zero-add _
@@ -76,4 +74,4 @@ pub returns : goal.returns
 returns c =
     let a = c.args in
     c.fill_plan.ensures
-    ∙ sym (plan-last a.sound.shape.count a.sound.plan a.tolerance a.most a.controls.now a.points.now (sym c.check_controls.ensures ∙ c.in_ok-check_controls.was) c.in_ok-cuts.cuts (omega (arith, c.if-tolerance-gt-MOST_TOLERANCE.false)) (sym c.count_all.ensures ∙ c.in_ok-cuts.was))
+    ∙ sym (plan-last a.sound.shape.count a.sound.plan a.tolerance a.most a.controls.now a.points.now (sym c.check_controls.ensures ∙ c.in_ok-check_controls.was) c.in_ok-cuts.cuts (omega (arith, c.if-tolerance-gt-MOST_TOLERANCE.false)) (sym c.count.ensures ∙ c.in_ok-cuts.was))

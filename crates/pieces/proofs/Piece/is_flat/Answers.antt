@@ -10,10 +10,10 @@ unfolding is_flat
 returns-then-is_flat_on c =
     let a = c.args in
     c.is_flat_on-then-is_flat_on.ensures
-    ∙ sym (ap (λ t. t && flat_on (divisor a.basis a.self.level) a.tolerance a.self.y) (sym c.is_flat_on.ensures ∙ c.if-is_flat_on.true))
+    ∙ sym (ap (λ t. t && flat_on (divisor a.rule.basis a.self.level) a.rule.tolerance a.self.y) (sym c.is_flat_on.ensures ∙ c.if-is_flat_on.true))
 
 pub returns-else-is_flat_on : goal.returns-else-is_flat_on
 unfolding is_flat
 returns-else-is_flat_on c =
     let a = c.args in
-    c.if-is_flat_on.false ∙ sym (ap (λ t. t && flat_on (divisor a.basis a.self.level) a.tolerance a.self.y) (sym c.is_flat_on.ensures ∙ c.if-is_flat_on.false))
+    c.if-is_flat_on.false ∙ sym (ap (λ t. t && flat_on (divisor a.rule.basis a.self.level) a.rule.tolerance a.self.y) (sym c.is_flat_on.ensures ∙ c.if-is_flat_on.false))

@@ -15,17 +15,17 @@ use Rattle.pieces.proofs.walk.+count_cuts.Goals as goal
 use Rattle.pieces.proofs.walk.+count_cuts.Goals.{Else-piece-eq-FINEST, Else-most-made, After-count_cuts}
 
 pub is_flat-requires : goal.is_flat-requires
-is_flat-requires t c = (halvable c.args.basis c.args.piece c.requires.walkable, c.requires.tolerance_le_most_tolerance)
+is_flat-requires t c = halvable c.args.rule.basis c.args.piece c.requires
 
 pub returns-then-is_flat : goal.returns-then-is_flat
 returns-then-is_flat t c =
     let a = c.args in
-    walk-flat a.most a.made _ _ (at-flat a.basis a.tolerance a.piece.level a.piece.x a.piece.y (sym c.is_flat.ensures ∙ c.if-is_flat.true))
+    walk-flat a.most a.made _ _ (at-flat a.rule.basis a.rule.tolerance a.piece.level a.piece.x a.piece.y (sym c.is_flat.ensures ∙ c.if-is_flat.true))
 
 pub returns-then-piece-eq-FINEST : goal.returns-then-piece-eq-FINEST
 returns-then-piece-eq-FINEST t c =
     let a = c.args in
-    walk-rough a.most a.made _ _ (at-finest a.basis a.tolerance a.piece.level a.piece.x a.piece.y (sym c.is_flat.ensures ∙ c.if-is_flat.false) c.if-piece-eq-FINEST.true)
+    walk-rough a.most a.made _ _ (at-finest a.rule.basis a.rule.tolerance a.piece.level a.piece.x a.piece.y (sym c.is_flat.ensures ∙ c.if-is_flat.false) c.if-piece-eq-FINEST.true)
 
 -- a piece that is not flat and not at the finest level is cut
 module _ (t : ℕ) (c : Else-piece-eq-FINEST t) where
@@ -33,25 +33,25 @@ module _ (t : ℕ) (c : Else-piece-eq-FINEST t) where
   p = c.args.piece
 
   abbrev tree_of : Piece → Tree
-  tree_of q = tree_at c.args.basis c.args.tolerance q.level q.x q.y
+  tree_of q = tree_at c.args.rule.basis c.args.rule.tolerance q.level q.x q.y
 
   shallow : p.level < finest
-  shallow = omega (arith, c.if-piece-eq-FINEST.false, c.requires.walkable.shallow)
+  shallow = omega (arith, c.if-piece-eq-FINEST.false, c.requires.shallow)
 
   is_cut : tree_of p ≡ Cut (tree_of (left_piece p)) (tree_of (right_piece p))
-  is_cut = at_cut c.args.basis c.args.tolerance p.level p.x p.y (sym c.is_flat.ensures ∙ c.if-is_flat.false) shallow
+  is_cut = at_cut c.args.rule.basis c.args.rule.tolerance p.level p.x p.y (sym c.is_flat.ensures ∙ c.if-is_flat.false) shallow
 
-  left : Walkable c.args.basis (p.level + 1) (left_piece p).x (left_piece p).y
-  left = walkable-left c.args.basis p.level p.x p.y shallow c.requires.walkable
+  left : Walkable c.args.rule.basis (p.level + 1) (left_piece p).x (left_piece p).y
+  left = walkable-left c.args.rule.basis p.level p.x p.y shallow c.requires
 
-  right : Walkable c.args.basis (p.level + 1) (right_piece p).x (right_piece p).y
-  right = walkable-right c.args.basis p.level p.x p.y shallow c.requires.walkable
+  right : Walkable c.args.rule.basis (p.level + 1) (right_piece p).x (right_piece p).y
+  right = walkable-right c.args.rule.basis p.level p.x p.y shallow c.requires
 
 pub returns-then-most-made : goal.returns-then-most-made
 returns-then-most-made t c = let a = c.args in walk-too-many a.most a.made _ _ _ (is_cut t c.before) c.if-most-made.true
 
 pub left_half-requires : goal.left_half-requires
-left_half-requires t c = halvable c.args.basis c.args.piece c.requires.walkable
+left_half-requires t c = halvable c.args.rule.basis c.args.piece c.requires
 
 -- a half that is walked is at the next level
 walked : (t : ℕ) (c : Else-most-made t) (half : Piece → Piece) (q : Piece) → q ≡ half c.args.piece → (half c.args.piece).level ≡ c.args.piece.level + 1 → finest - q.level < t
@@ -60,9 +60,9 @@ walked t c half q e next = omega (arith, ap (λ (r : Piece). r.level) e, next, s
 pub count_cuts-requires : goal.count_cuts-requires
 count_cuts-requires t c =
     let e = c.left_half.ensures in
-    let b = c.args.basis in (
+    let b = c.args.rule.basis in (
       walked t c.before left_piece c.left_half.result e refl,
-      (subst (λ (q : Piece). Walkable b q.level q.x q.y) (sym e) (left t c.before.before), c.requires.tolerance_le_most_tolerance),
+      subst (λ (q : Piece). Walkable b q.level q.x q.y) (sym e) (left t c.before.before),
     )
 
 -- the walk goes on from what the left half's came to
@@ -83,14 +83,14 @@ returns-in_err-so_far t c =
     out ∙ sym (cut-walked t k ∙ ap (λ w. and_then w (λ n. walk c.args.most n (tree_of t k.before.before.before (right_piece c.args.piece)))) c.in_err-so_far.was)
 
 pub right_half-requires : goal.right_half-requires
-right_half-requires t c = halvable c.args.basis c.args.piece c.requires.walkable
+right_half-requires t c = halvable c.args.rule.basis c.args.piece c.requires
 
 pub count_cuts-requires-2 : goal.count_cuts-requires-2
 count_cuts-requires-2 t c =
     let e = c.right_half.ensures in
     let s = c.before.before.before.before.before in (
       walked t s right_piece c.right_half.result e refl,
-      (subst (λ (q : Piece). Walkable c.args.basis q.level q.x q.y) (sym e) (right t s.before), c.requires.tolerance_le_most_tolerance),
+      subst (λ (q : Piece). Walkable c.args.rule.basis q.level q.x q.y) (sym e) (right t s.before),
     )
 
 pub returns : goal.returns
