@@ -1,7 +1,6 @@
 // The listing of a file whose outline has steps chosen by tolerance, written whole.
 ghost use Rattle.std.specs.Prelude.{◌≡◌};
 ghost use Rattle.whole.specs.Outcome.{outcome};
-ghost use Rattle.shape.specs.Refusals.{plan_of};
 ghost use Rattle.listing.specs.Written.{Within, written};
 ghost use Rattle.file_list.specs.Files.{by_tolerance, cut_file_text, writes};
 
@@ -9,7 +8,7 @@ use crate::{LINE, MOST_SPANS, count_of, put_refusal};
 use listing::list_chosen;
 use pieces::FINEST;
 use record_file::{MOST_CONTROLS, read};
-use shape::{Shape, check_shape};
+use shape::{Shape, SoundShape};
 use tolerance::by_tolerance;
 
 // The most points that can be chosen, and their numbers.
@@ -53,24 +52,23 @@ fn put_shape(
 ) -> Option<usize>
     ensures { outcome result text.new ≡ written text.old 0 (by_tolerance tolerance most shape controls.now) }
 {
-    match check_shape(shape) {
+    match SoundShape::try_from(shape) {
         Err(refusal) => put_refusal(refusal, text),
-        Ok(plan) => put_chosen(shape, plan.spans, tolerance, most, controls, text),
+        Ok(sound) => put_chosen(sound, tolerance, most, controls, text),
     }
 }
 
-// The outline of a shape of so many spans, listed.
+// The outline of a sound shape, listed.
 fn put_chosen(
-    shape: Shape,
-    spans: usize,
+    sound: SoundShape,
     tolerance: usize,
     most: usize,
     controls: &[i32],
     text: &mut [u8],
 ) -> Option<usize>
-    requires { spans ≡ (plan_of shape).spans }
-    ensures { outcome result text.new ≡ written text.old 0 (by_tolerance tolerance most shape controls.now) }
+    ensures { outcome result text.new ≡ written text.old 0 (by_tolerance tolerance most sound.shape controls.now) }
 {
+    let SoundShape { shape, plan } = sound;
     let mut points = [0i32; MOST_NUMBERS];
     match by_tolerance(shape, tolerance, most, controls, &mut points) {
         Err(refusal) => put_refusal(refusal, text),
@@ -78,7 +76,7 @@ fn put_chosen(
             text,
             shape.basis,
             tolerance,
-            spans,
+            plan.spans,
             &points,
             steps.points,
             steps.cuts,

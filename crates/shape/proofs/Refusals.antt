@@ -25,7 +25,7 @@ use Rattle.shape.specs.Shape.{last_basis, cardinal, sixty_fourths, basis_of, bas
 use Rattle.shape.specs.Refusals.{Row, judge, First, NoRow, shape_rows, plan_of, judge_shape, outside, first_outside, limits_row, control_rows, judge_controls, list_rows, judge_lists}
 use Rattle.shape.specs.Inner.{RunsRound, Good, Lent}
 use Rattle.shape.proofs.Tests.{passes, and-true, or-false}
-use Rattle.shape.proofs.Spans.{allowed-facts, spans-least, spans-at-most, loop-runs, has-record}
+use Rattle.shape.proofs.Spans.{allowed-facts, spans-records, spans-least, spans-at-most, loop-runs, has-record}
 use Rattle.shape.proofs.Seek.{seek-fails}
 
 -- ---- any table
@@ -177,6 +177,11 @@ none-sound s h = judge-none (shape_rows s) Err (Ok (plan_of s)) h
 pub sound-plan : (s : Shape) (p : Plan) → judge_shape s ≡ Ok p → p ≡ plan_of s
 unfolding judge_shape
 sound-plan s p e = rows-value (shape_rows s) (plan_of s) e
+
+-- a sound shape has the spans of its plan
+pub good-spans : (s : Shape) (p : Plan) → Good s p → p.spans ≡ (plan_of s).spans
+unfolding plan_of
+good-spans s p good = sym (spans-records p.basis p.spans) ∙ (λ i. spans_of (good.basis i) (good.records i))
 
 -- a call whose table starts with these rows
 pub unsound {ℓ} : {A : Type ℓ} (s : Shape) (r : Refusal) → judge_shape s ≡ Err r → (rest : List Row) (f : Refusal → A) (a : A) → judge (shape_rows s ++ rest) f a ≡ f r

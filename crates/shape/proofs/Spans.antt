@@ -193,25 +193,6 @@ pub facts-allowed : (b : Basis) (n : ℕ) → least_records ≤ n → n ≤ most
 unfolding allowed
 facts-allowed b n least most whole = simp (le-leb least_records n least, le-leb n most_records most, eq-eqb (records_of b (spans_of b n)) n whole)
 
--- the spans of an allowed count, or 0: which it is shows
-pub spans-or-none : (b : Basis) (n : ℕ) → cond (allowed b n) (spans_of b n) 0 ≡ 0 → allowed b n ≡ false
-spans-or-none b n e =
-    ⊎_elim
-    (λ t. let h = spans-least b n (allowed-facts b n t).0 in let s : spans_of b n ≡ 0 = ap (λ a. cond a (spans_of b n) 0) (sym t) ∙ e in absurd (omega arith))
-    (λ t. t)
-    (passes (allowed b n))
-
-pub spans-or-some : (b : Basis) (n : ℕ) → (cond (allowed b n) (spans_of b n) 0 ≡ 0 → ⊥) → (allowed b n ≡ true) × (cond (allowed b n) (spans_of b n) 0 ≡ spans_of b n)
-spans-or-some b n h = ⊎_elim (λ t. (t, ap (λ a. cond a (spans_of b n) 0) t)) (λ t. absurd (h (ap (λ a. cond a (spans_of b n) 0) t))) (passes (allowed b n))
-
--- 0 where the count is below four, above 64 or not the records of its spans, else the spans
-pub spans-refused : (b : Basis) (n : ℕ) → (least_records ≤ n → n ≤ most_records → records_of b (spans_of b n) ≡ n → ⊥) → 0 ≡ cond (allowed b n) (spans_of b n) 0
-spans-refused b n h =
-    ⊎_elim (λ t. let (least, most, whole) = allowed-facts b n t in absurd (h least most whole)) (λ t. sym (ap (λ a. cond a (spans_of b n) 0) t)) (passes (allowed b n))
-
-pub spans-counted : (b : Basis) (n : ℕ) → least_records ≤ n → n ≤ most_records → records_of b (spans_of b n) ≡ n → spans_of b n ≡ cond (allowed b n) (spans_of b n) 0
-spans-counted b n least most whole = sym (ap (λ a. cond a (spans_of b n) 0) (facts-allowed b n least most whole))
-
 -- ---- points
 
 pub points-at-most : (k m : ℕ) → k ≤ deepest → m ≤ most_records → points_of k m ≤ most_points

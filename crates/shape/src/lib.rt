@@ -1,7 +1,7 @@
 // Shapes, refusals, and the checks that calls share. No call here has a `requires`, but those that say so: they are for crates of this project that have checked it.
 #![tactic(auto)]
 
-ghost use Rattle.std.specs.Prelude.{cond, ◌≡◌, ◌+◌, ◌*◌, ◌^◌, ◌≤◌, ◌<◌, length};
+ghost use Rattle.std.specs.Prelude.{cond, None, Some, ◌≡◌, ◌+◌, ◌*◌, ◌^◌, ◌≤◌, ◌<◌, length};
 ghost use Rattle.curve.specs.Ways.{deepest};
 ghost use Rattle.shape.specs.Shape.{sixty_fourths, basis_of, tail, spans_of, last_using, records_of, allowed, points_of, most_records, most_points};
 ghost use Rattle.shape.specs.Refusals.{judge_numbers, judge_shape, judge_controls, judge_lists, outside, first_outside};
@@ -49,6 +49,7 @@ impl Plan {
     }
 
     // The points of the outline: m·2^k + 1.
+    #[tactic(auto, unfolding(crate::specs::Shape::points_of))]
     pub fn points(self) -> usize
         requires { (self.depth ≤ deepest) × (self.spans ≤ most_records) }
         ensures { result ≡ points_of self.depth self.spans }
@@ -78,6 +79,7 @@ pub const LEAST_RECORDS: usize = 4;
 pub const MOST_RECORDS: usize = 64;
 
 // A parameter in 64ths, where nought stands for one half.
+#[tactic(auto, unfolding(crate::specs::Shape::sixty_fourths))]
 fn sixty_fourths(parameter: usize) -> usize
     ensures { result ≡ sixty_fourths parameter }
 {
@@ -85,6 +87,7 @@ fn sixty_fourths(parameter: usize) -> usize
 }
 
 // The basis of a number from 1 to 5, the cardinal one with its parameter, the loop with its control count.
+#[tactic(auto, unfolding(crate::specs::Shape::basis_of))]
 fn basis_of(number: usize, parameter: usize, count: usize) -> Basis
     ensures { result ≡ basis_of number parameter count }
 {
@@ -102,24 +105,23 @@ fn tail_of(basis: Basis) -> usize
     ensures { result ≡ tail basis }
 {
     if is_loop(basis) {
-        return 0;
+        0
+    } else {
+        LEAST_RECORDS - stride_of(basis)
     }
-    LEAST_RECORDS - stride_of(basis)
 }
 
 // The spans of `count` records: of an open basis, those that have all four of theirs among the first `count`.
+#[tactic(auto, unfolding(crate::specs::Shape::spans_of))]
 pub fn spans_of(basis: Basis, count: usize) -> usize
     requires { count ≤ most_records }
     ensures { result ≡ spans_of basis count }
 {
-    let tail = tail_of(basis);
-    if count < tail {
-        return 0;
-    }
-    (count - tail) / stride_of(basis)
+    count.saturating_sub(tail_of(basis)) / stride_of(basis)
 }
 
 // The last span that uses record `place` of an open basis; the first is `spans_of` of the same number.
+#[tactic(auto, unfolding(crate::specs::Shape::last_using))]
 pub fn last_using(basis: Basis, place: usize) -> usize
     requires { place ≤ most_records }
     ensures { result ≡ last_using basis place }
@@ -128,6 +130,7 @@ pub fn last_using(basis: Basis, place: usize) -> usize
 }
 
 // The records of a number of spans.
+#[tactic(auto, unfolding(crate::specs::Shape::records_of, curve::specs::Span::first_record))]
 fn records_of(basis: Basis, spans: usize) -> usize
     requires { spans ≤ most_records }
     ensures { result ≡ records_of basis spans }
@@ -135,55 +138,46 @@ fn records_of(basis: Basis, spans: usize) -> usize
     first_record(basis, spans) + tail_of(basis)
 }
 
-// The spans of a number of records that is allowed for the basis, or 0.
-fn allowed_spans(basis: Basis, count: usize) -> usize
-    ensures { result ≡ cond (allowed basis count) (spans_of basis count) 0 }
+// The spans of a number of records that is allowed for the basis; none where it is not.
+#[tactic(auto, unfolding(crate::specs::Shape::allowed))]
+fn allowed_spans(basis: Basis, count: usize) -> Option<usize>
+    ensures { result ≡ cond (allowed basis count) (Some (spans_of basis count)) None }
 {
-    if count < LEAST_RECORDS {
-        return 0;
-    }
-    if MOST_RECORDS < count {
-        return 0;
+    if !(LEAST_RECORDS..=MOST_RECORDS).contains(&count) {
+        return None;
     }
     let spans = spans_of(basis, count);
     if records_of(basis, spans) != count {
-        return 0;
+        return None;
     }
-    spans
+    Some(spans)
 }
 
 // The checks of a shape's basis, depth and parameter in the paper's order, 1, 2, 24.
+#[tactic(auto, unfolding(crate::specs::Refusals::judge_numbers, crate::specs::Refusals::judge))]
 fn check_numbers(shape: Shape) -> Result<(), Refusal>
     ensures { result ≡ judge_numbers shape }
 {
-    let number = shape.basis;
-    if number < FIRST_BASIS {
-        return Err(Reason::UnknownBasis.into());
-    }
-    if LAST_BASIS < number {
+    if !(FIRST_BASIS..=LAST_BASIS).contains(&shape.basis) {
         return Err(Reason::UnknownBasis.into());
     }
     if DEEPEST < shape.depth {
         return Err(Reason::TooDeep.into());
     }
-    if number == CARDINAL {
-        if MOST_PARAMETER < shape.parameter {
-            return Err(Reason::TooTaut.into());
-        }
+    if shape.basis == CARDINAL && MOST_PARAMETER < shape.parameter {
+        return Err(Reason::TooTaut.into());
     }
     Ok(())
 }
 
 // The checks of a shape in the paper's order, 1, 2, 24, 3: whatever numbers it holds, a refusal or the plan.
+#[tactic(auto, unfolding(crate::specs::Refusals::judge_shape, crate::specs::Refusals::judge_numbers, crate::specs::Refusals::plan_of, crate::specs::Refusals::judge))]
 pub fn check_shape(shape: Shape) -> Result<Plan, Refusal>
     ensures { result ≡ judge_shape shape }
 {
     check_numbers(shape)?;
     let basis = basis_of(shape.basis, shape.parameter, shape.count);
-    let spans = allowed_spans(basis, shape.count);
-    if spans == 0 {
-        return Err(Reason::WrongCount.into());
-    }
+    let spans = allowed_spans(basis, shape.count).ok_or(Reason::WrongCount)?;
     Ok(Plan {
         basis,
         depth: shape.depth,
@@ -216,6 +210,7 @@ pub fn first_outside(controls: &[i32], count: usize) -> usize
 }
 
 // The checks of the lent controls in the paper's order, 7 and 8: `count` records in the list, inside the limits. For crates that have checked the shape.
+#[tactic(auto, unfolding(crate::specs::Refusals::judge_controls, crate::specs::Refusals::judge))]
 pub fn check_controls(count: usize, controls: &[i32]) -> Result<(), Refusal>
     requires { count ≤ most_records }
     ensures { result ≡ judge_controls count controls.now }
@@ -231,6 +226,7 @@ pub fn check_controls(count: usize, controls: &[i32]) -> Result<(), Refusal>
 }
 
 // The checks of the lent lists, 7, 8, 9: the controls, and room for `points` points in a list of `len` numbers. For crates that have checked the shape.
+#[tactic(auto, unfolding(crate::specs::Refusals::judge_lists, crate::specs::Refusals::judge_controls, crate::specs::Refusals::judge))]
 pub fn check_lists(count: usize, controls: &[i32], points: usize, len: usize) -> Result<(), Refusal>
     requires { (count ≤ most_records) × (points ≤ most_points) }
     ensures { result ≡ judge_lists count controls.now points len }

@@ -1,15 +1,20 @@
--- A shape that is not sound has the line of its refusal; of a sound one the heading names the plan's spans.
-use mathlib.Core.Path.{sym, ap, ◌∙◌}
-use Rattle.shape.specs.declared.Plan.{Plan}
-use Rattle.shape.proofs.Refusals.{sound-plan}
+-- A shape that is not sound has the line of its refusal; of a sound one the lines are its outline's.
+use mathlib.Core.Path.{sym, ap, ◌∙◌, subst}
+use Rattle.shape.specs.declared.Shape.{Shape}
+use Rattle.shape.specs.Sound.{Found}
 use Rattle.listing.specs.Written.{written}
+use Rattle.file_list.specs.Files.{by_tolerance}
 use Rattle.file_list.proofs.Texts.{unsound-cut}
 use Rattle.file_list.proofs.cut.put_shape.Goals as goal
-
-pub put_chosen-requires : goal.put_chosen-requires
-put_chosen-requires c = ap (λ (p : Plan). p.spans) (sound-plan c.args.shape c.in-Ok.plan (sym c.check_shape.ensures ∙ c.in-Ok.is))
 
 pub returns-in-Err : goal.returns-in-Err
 returns-in-Err c =
     let a = c.args in
-    c.put_refusal.ensures ∙ ap (written a.text.now 0) (sym (unsound-cut a.tolerance a.most a.shape a.controls.now c.in-Err.refusal (sym c.check_shape.ensures ∙ c.in-Err.is)))
+    let judged = subst (Found a.shape) c.in-Err.is c.try_from.ensures in
+    c.put_refusal.ensures ∙ ap (written a.text.now 0) (sym (unsound-cut a.tolerance a.most a.shape a.controls.now c.in-Err.refusal judged))
+
+pub returns-in-Ok : goal.returns-in-Ok
+returns-in-Ok c =
+    let a = c.args in
+    let (same, _) = subst (Found a.shape) c.in-Ok.is c.try_from.ensures in
+    c.put_chosen.ensures ∙ ap (λ (s : Shape). written a.text.now 0 (by_tolerance a.tolerance a.most s a.controls.now)) same
