@@ -10,14 +10,13 @@ use crate::Piece;
 use crate::rule::Rule;
 use curve::rounding::divisor_bits;
 use curve::{Four, SIX};
-use whole::magnitude;
 
 // The second difference of three controls in a row, in size.
 fn second_difference(a: i64, b: i64, c: i64) -> u64
     requires { (nat_abs a ≤ 2 ^ 59) × (nat_abs b ≤ 2 ^ 59) × (nat_abs c ≤ 2 ^ 59) }
     ensures { result ≡ nat_abs (a -ℤ pos 2 *ℤ b +ℤ c) }
 {
-    magnitude(a - 2 * b + c)
+    (a - 2 * b + c).unsigned_abs()
 }
 
 // The larger, in size, of the two second differences of four controls.

@@ -14,13 +14,6 @@ pub fn half_up(size: u64, multiple: u32, bits: u32) -> u64
     ((size >> bits) + (multiple / 2) as u64) / multiple as u64
 }
 
-// A number without its sign.
-pub fn magnitude(z: i64) -> u64
-    ensures { result ≡ nat_abs z }
-{
-    z.unsigned_abs()
-}
-
 // A fraction rounded once: the whole number, and what is left over, the exact value less that number, over the same divisor.
 #[derive(Clone, Copy, Debug, PartialEq, Eq)]
 pub struct Rounding {

@@ -12,5 +12,5 @@ pub returns : goal.returns
 returns c =
     let a = c.args in
     let most : List ℕ = 2 ^ 59 ∷ 2 ^ 59 ∷ 2 ^ 59 ∷ [] in
-    c.magnitude.ensures
+    c.unsigned_abs.ensures.value
     ∙ ap nat_abs (exact w64 (a.a ∷ a.b ∷ a.c ∷ []) most (c.requires.0, (c.requires.1, (c.requires.2, tt))) (var 0 ⊖ lit (pos 2) ⊗ var 1 ⊕ var 2) tt)
