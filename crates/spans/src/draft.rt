@@ -28,6 +28,16 @@ pub struct Draft<'a> {
     pub ghost drawable: { Drawable plan controls.now } by { Drawable-prop plan controls.now },
 }
 
+// The whole controls of a span on an axis: 0 is x, 1 is y. A plan of any depth has them, so this asks for no draft.
+pub fn span_controls(controls: &[i32], plan: Plan, span: usize, axis: usize) -> Four
+    requires span_lt_spans { (span < plan.spans) × (axis < 2) }
+    requires drawable { Drawable plan controls.now }
+    ensures { result ≡ whole_controls plan.basis (records plan.basis span (coordinate controls.now axis)) }
+{
+    let basis = plan.basis;
+    whole_controls(basis, four_records(controls, basis, span, axis))
+}
+
 // The sum at the end of a span, which is its last control alone, times 2^(3 depth) as every sum is.
 fn end_sum(q: Four, depth: usize) -> i64
     requires depth_le_deepest { depth ≤ deepest }
@@ -49,15 +59,6 @@ fn put_end(points: &mut [i32], at: usize, span: Span) -> usize
 }
 
 impl Draft<'_> {
-    // The whole controls of a span on an axis: 0 is x, 1 is y.
-    pub fn span_controls(&self, span: usize, axis: usize) -> Four
-        requires { (span < self.now.plan.spans) × (axis < 2) }
-        ensures { result ≡ whole_controls self.now.plan.basis (records self.now.plan.basis span (coordinate self.now.controls.now axis)) }
-    {
-        let basis = self.plan.basis;
-        whole_controls(basis, four_records(self.controls, basis, span, axis))
-    }
-
     // A span, as the ways draw it.
     fn span(&self, span: usize) -> Span
         requires { span < self.now.plan.spans }
@@ -69,8 +70,8 @@ impl Draft<'_> {
         Span {
             depth: plan.depth,
             bits: divisor_bits(plan.basis, plan.depth),
-            x: self.span_controls(span, 0),
-            y: self.span_controls(span, 1),
+            x: span_controls(self.controls, plan, span, 0),
+            y: span_controls(self.controls, plan, span, 1),
         }
     }
 

@@ -12,7 +12,7 @@ use pieces::fill::fill_starts;
 use pieces::rule::Rule;
 use pieces::walk::count_cuts;
 use pieces::{Filled, Piece, Uncut};
-use spans::draft::Draft;
+use spans::draft::{Draft, span_controls};
 use spans::point::put_point;
 
 // A draft and the tolerance by which its spans are cut.
@@ -29,9 +29,10 @@ impl Cutting<'_> {
         requires { span < self.now.draft.plan.spans }
         ensures { result ≡ piece 0 (controls_of self.now.draft.plan self.now.draft.controls.now span 0) (controls_of self.now.draft.plan self.now.draft.controls.now span 1) }
     {
+        let Draft { plan, controls } = self.draft;
         Piece::whole(
-            self.draft.span_controls(span, 0),
-            self.draft.span_controls(span, 1),
+            span_controls(controls, plan, span, 0),
+            span_controls(controls, plan, span, 1),
         )
     }
 
