@@ -8,7 +8,7 @@ use std::marker::Model;
 // The bit pattern that stands for every NaN: the quiet one's.
 const QUIET_NAN: u64 = 0x7ff8_0000_0000_0000;
 
-// A text of up to N characters.
+// A text of up to N characters. An array and its end, and no `ArrayVec`: `put_word`, which README names, writes into a list from a place on, and leaves the list as it was where a word does not fit.
 #[derive(Drop)]
 pub struct Text<const N: usize> {
     bytes: [u8; N],

@@ -5,7 +5,7 @@ ghost use Rattle.drawing.specs.Drawing.{flat};
 
 use crate::Control;
 
-// Records, one after the other, from a number of the list on.
+// Records, one after the other, from a number of the list on. The list goes whole, as the contract speaks of it.
 pub(crate) fn put(controls: &mut [i32], at: usize, records: &[Control])
     requires { at + 2 * length records.now ≤ length controls.old }
     ensures { controls.new ≡ sets controls.old at (flat records.now) }

@@ -195,6 +195,7 @@ impl State {
         ensures { outcome result controls.new ≡ stepped self step controls.old }
     {
         self.check(step.opens())?;
+        // One match over all four kinds: docs/FORMS.md names it as document 01's form.
         match step {
             Step::Move(x, y) => self.move_to(Point { x, y }, controls),
             Step::Line(x, y) => self.line_to(Point { x, y }, controls),

@@ -22,6 +22,8 @@ use preview::preview;
 use shape::{Refusal, Shape};
 use tolerance::{Steps, by_tolerance};
 
+// The answers that C reads: a number, 0 where all is well, beside the values, since C has no `Result`.
+
 // The answer of a drawing: how many points stand in the list now, and how many of their coordinates are exact.
 #[repr(C)]
 #[derive(Clone, Copy, Debug, Default, PartialEq, Eq)]

@@ -92,7 +92,7 @@ fn room_under(room: usize, first: usize, points: &[[i32; 2]]) -> Option<usize>
     Some(left)
 }
 
-// Writes the lines of the points from place `at` on, the first of them with the number `first`.
+// Writes the lines of the points from place `at` on, the first of them with the number `first`. A text and a place, as `put_word` takes them.
 fn put_points(text: &mut [u8], at: usize, first: usize, points: &[[i32; 2]]) -> Option<usize>
     requires first_bound { first < 2 ^ 32 }
     requires points_in_bounds { at + length (pair_lines first points.now) ≤ length text.old }

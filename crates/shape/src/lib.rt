@@ -16,6 +16,7 @@ pub use reason::Reason;
 pub use sound::SoundShape;
 
 // A shape as a caller passes it: basis, depth, control count and parameter, right or wrong. The parameter is looked at for basis 3 alone, and is handed on as it came.
+// These are numbers and no enums: each wrong one has its refusal, so a type may not leave it out.
 #[derive(Clone, Copy, Debug, PartialEq, Eq)]
 pub struct Shape {
     pub basis: usize,
@@ -32,7 +33,7 @@ pub struct Plan {
     pub spans: usize,
 }
 
-// A refusal of document 01: its number, and the place.
+// A refusal of document 01: its number, and the place. The number is one and no `Reason`: the call of C hands it on, and README's `list_part` lists whatever number it is given.
 #[derive(Clone, Copy, Debug, PartialEq, Eq)]
 pub struct Refusal {
     pub number: usize,

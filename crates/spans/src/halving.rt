@@ -15,7 +15,7 @@ use curve::Four;
 // The way that halves.
 pub struct ByHalving;
 
-// The 2^left starts of the pieces of a piece with `left` more cuts to make, from number `at` on. It answers how many of their numbers are exact.
+// The 2^left starts of the pieces of a piece with `left` more cuts to make, from number `at` on. It answers how many of their numbers are exact. Two halves lent apart by `split_at_mut` would each need the length that `left` gives already.
 fn fill_pieces(points: &mut [i32], at: usize, left: usize, bits: u32, x: Four, y: Four) -> usize
     requires left_le_deepest { (left ≤ deepest) × (bits ≤ most_bits) }
     requires cuttable { Cuttable left (divisor_of bits) x × Cuttable left (divisor_of bits) y }
