@@ -5,7 +5,7 @@ pub mod afresh;
 pub mod asking;
 pub mod counts;
 
-// The spans that an edit works afresh: the first of them, going round in a loop, and how many.
+// The spans that an edit works afresh: the first of them, going round in a loop, and how many. Where there are none both are 0, and no `Option`: an accepted edit gives out these two numbers.
 #[derive(Clone, Copy, Debug, Default, PartialEq, Eq)]
 pub struct Run {
     pub first: usize,

@@ -33,7 +33,7 @@ fn all_digits(text: &[u8]) -> bool
     text.iter().all(u8::is_ascii_digit)
 }
 
-// What digits mean, the most significant first.
+// What digits mean, the most significant first. The library's `parse` refuses a number past 64 bits, where this answers the greatest.
 fn worth(text: &[u8]) -> usize
     ensures { result ≡ held (worth_after 0 text.now) }
 {

@@ -20,7 +20,7 @@ pub enum Basis {
     Loop(usize),
 }
 
-// Four whole numbers of one axis: the records of a span, or its Bezier controls.
+// Four whole numbers of one axis: the records of a span, or its Bezier controls. How large they may be each function says: it is one bound for records, one for whole controls and one for a cut piece, so a type that kept it would be three.
 #[derive(Clone, Copy, Debug, PartialEq, Eq)]
 pub struct Four {
     pub a: i64,

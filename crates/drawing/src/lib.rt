@@ -23,7 +23,7 @@ pub struct Control {
     pub y: i32,
 }
 
-// The drawing state: how many records there are, the first and the last of them, and whether the drawing is closed.
+// The drawing state: how many records there are, the first and the last of them, and whether the drawing is closed. Before the first record those two are 0, 0, and no `Option`: the state that a caller keeps is the one that the theorems of drawings speak of.
 #[derive(Clone, Copy, Debug, PartialEq, Eq)]
 pub struct State {
     pub count: usize,

@@ -31,6 +31,7 @@ impl Point {
 fn number(mm: f64, place: usize) -> Result<i32, Refusal>
     ensures { result ≡ judge_number place mm }
 {
+    // No `From` turns the one into the other: both are types of other crates.
     match micrometres(mm) {
         Err(Unmeasured::NotFinite) => Err(Reason::NotFinite.at(place)),
         Err(Unmeasured::Outside) => Err(Reason::TooFar.at(place)),

@@ -65,7 +65,7 @@ fn rework_round(draft: &Draft, run: Run, points: &mut [i32]) -> usize
     fill_ends(draft, from, past - spans, points)
 }
 
-// The spans of a run, where it has any, and how many of their numbers are exact.
+// The spans of a run, where it has any, and how many of their numbers are exact. The room is said of a draft and a list together, here and above, and no type has both.
 fn rework(draft: &Draft, run: Run, points: &mut [i32]) -> usize
     requires runnable { Runnable run draft.now.plan }
     requires room { HasRoom draft.now.plan (length points.old) }

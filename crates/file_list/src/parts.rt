@@ -135,7 +135,7 @@ fn own_records(controls: &[i32], basis: Basis, span: usize) -> Option<[i32; OWN_
     Some(own)
 }
 
-// The number of the basis that a span has by itself: a loop's span is a B-spline's.
+// The number of the basis that a span has by itself: a loop's span is a B-spline's. A shape's basis is a number, so this takes and gives one.
 fn alone_basis(number: usize) -> usize
     ensures { result ≡ alone_basis number }
 {

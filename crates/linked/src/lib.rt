@@ -98,6 +98,8 @@ impl From<Result<Figures, Refusal>> for Drawing {
     }
 }
 
+// Calls that differ in a name stand one by one: C has no generic ones.
+
 // The outline of a shape in the lent points, by weights: `outline::by_weights`. The controls are only read, and every number past the last point keeps what it held.
 #[unsafe(no_mangle)]
 pub extern "C" fn quorilanth_by_weights(

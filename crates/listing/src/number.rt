@@ -7,7 +7,7 @@ ghost use Rattle.listing.specs.Written.{written};
 use crate::word::put_word;
 use itoa::Buffer;
 
-// Writes n from place `at` on, if it fits.
+// Writes n from place `at` on, if it fits. README names this call and the next, so neither goes into the other; what they share is `put_word`.
 pub fn put_natural(text: &mut [u8], at: usize, n: u64) -> Option<usize>
     ensures { outcome result text.new ≡ written text.old at (natural n) }
 {

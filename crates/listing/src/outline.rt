@@ -23,7 +23,7 @@ pub fn list_heading(
 }
 
 // Writes the lines of the first `count` points, which stand in `points` as x then y, from the start of
-// `text`, if they fit. The first of them has the number `first`. None, too, where `points` holds fewer.
+// `text`, if they fit. The first of them has the number `first`. None, too, where `points` holds fewer. README names this call with a list and a count.
 pub fn list_points(text: &mut [u8], first: u32, points: &[i32], count: usize) -> Option<usize>
     ensures { outcome result text.new ≡ listed_by (point_lines first) text.old points.now count }
 {

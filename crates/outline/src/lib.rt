@@ -21,7 +21,7 @@ pub struct Figures {
 }
 
 // The outline of a shape: its controls are only read, all its points stand in the list from its start, and every number past them keeps what it held. A refusal
-// changes nothing. This one by weights: each point by a row of the table.
+// changes nothing. This one by weights: each point by a row of the table. README names this call and the next two, with these arguments.
 pub fn by_weights(shape: Shape, controls: &[i32], points: &mut [i32]) -> Result<Figures, Refusal>
     ensures { outcome result points.new ≡ draws shape controls.now points.old }
 {
@@ -74,7 +74,7 @@ fn draw_plan<W: Way>(
 }
 
 // The part of the caller's points that is a span, its 2^depth + 1 points; the empty part for a shape that 1, 2, 24 or 3 would refuse, a span that is not there, or a list
-// shorter than all points. The part lies in the caller's own list: nothing is copied.
+// shorter than all points. The part lies in the caller's own list: nothing is copied. An empty part and no `Option`: README promises it.
 pub fn view(shape: Shape, span: usize, points: &[i32]) -> &[i32]
     ensures result_value { result.now ≡ viewed (part_of shape span points.now) points.now }
     ensures ref_ptr_value { result.ref_ptr ≡ (points.entry.ref_ptr.0, (part_of shape span points.now).start * 4 + points.entry.ref_ptr.1) }

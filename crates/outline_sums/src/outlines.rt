@@ -6,7 +6,7 @@ use shape::{MOST_RECORDS, Refusal, Shape};
 use std::fmt;
 use std::fmt::Write;
 
-// The bases, numbered as in a shape.
+// The bases, numbered as in a shape. `curve::Basis` is what comes of a shape that was checked, and has no numbers.
 #[derive(Clone, Copy)]
 pub(crate) enum Basis {
     Bezier = 1,

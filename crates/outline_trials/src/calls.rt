@@ -26,7 +26,7 @@ impl Bench {
         }
     }
 
-    // The outline, in one of the three ways.
+    // The outline, in one of the three ways. The record says which, so it is known only here.
     fn draw(&mut self, rt: &(impl Print + Eprint), way: Way) -> io::Result<()> {
         let controls = self.controls.as_slice();
         let points = self.points.as_mut_slice();

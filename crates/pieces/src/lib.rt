@@ -67,7 +67,7 @@ impl Piece {
         }
     }
 
-    // The right half.
+    // The right half. One function of a half that the caller picks would be no plainer: these two would call it.
     pub(crate) fn right_half(self) -> Piece
         requires { Halvable self }
         ensures { result ≡ right_piece self }

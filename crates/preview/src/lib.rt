@@ -16,7 +16,7 @@ use curve::records::first_record;
 use doubles::{Pair, double_of, midpoint_pair};
 use shape::{Reason, Refusal, Shape, SoundShape, check_lists};
 
-// The basis that the preview is offered for.
+// The basis that the preview is offered for. Row 4 is about the shape's own number, so it is compared as one.
 const BEZIER: usize = 1;
 
 // Record r of the controls, as a point.

@@ -31,7 +31,7 @@ const X: usize = 4;
 
 const Y: usize = 8;
 
-// The basis that has a parameter, as a byte.
+// The basis that has a parameter, as a byte: it is compared with the file's, of which no shape is made yet.
 const CARDINAL: u8 = 3;
 
 // The coordinate in the four bytes from byte `at` on, low byte first, as two's complement.

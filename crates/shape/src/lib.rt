@@ -197,7 +197,7 @@ fn is_outside(controls: &[i32], place: usize) -> bool
     is_beyond(x, LIMIT) || is_beyond(y, LIMIT)
 }
 
-// The first of `count` records with a coordinate outside the limits, or `count` where all are inside.
+// The first of `count` records with a coordinate outside the limits, or `count` where all are inside. It stays a number: docs/PROMISES.md names this call, and its contract says which number it answers.
 pub fn first_outside(controls: &[i32], count: usize) -> usize
     requires { 2 * count ≤ length controls.now }
     ensures { result ≡ first_outside controls.now count }
@@ -226,7 +226,7 @@ pub fn check_controls(count: usize, controls: &[i32]) -> Result<(), Refusal>
     Ok(())
 }
 
-// The checks of the lent lists, 7, 8, 9: the controls, and room for `points` points in a list of `len` numbers. For crates that have checked the shape.
+// The checks of the lent lists, 7, 8, 9: the controls, and room for `points` points in a list of `len` numbers. For crates that have checked the shape. That list goes by its length, since the preview's holds doubles.
 #[tactic(auto, unfolding(crate::specs::Refusals::judge_lists, crate::specs::Refusals::judge_controls, crate::specs::Refusals::judge))]
 pub fn check_lists(count: usize, controls: &[i32], points: usize, len: usize) -> Result<(), Refusal>
     requires { (count ≤ most_records) × (points ≤ most_points) }

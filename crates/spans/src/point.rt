@@ -28,7 +28,7 @@ fn put_number(points: &mut [i32], at: usize, bits: u32, sum: i64, exact: usize) 
     }
 }
 
-// The two numbers of a point, each counted by itself.
+// The two numbers of a point, each counted by itself. That there is room is said of a list and a place: a type of both would be made anew at each point, and would be no plainer.
 pub fn put_point(points: &mut [i32], at: usize, bits: u32, x: i64, y: i64, exact: usize) -> usize
     requires bits_le_most_bits { bits ≤ most_bits }
     requires x_bound { (nat_abs x ≤ divisor_of bits * far_reach) × (nat_abs y ≤ divisor_of bits * far_reach) }
