@@ -1,7 +1,6 @@
 // The spans that an edit works afresh.
 ghost use Rattle.std.specs.Prelude.{◌≡◌, true, ◌≤◌};
 ghost use Rattle.curve.specs.Span.{is_loop};
-ghost use Rattle.curve.specs.Ways.{deepest};
 ghost use Rattle.shape.specs.Shape.{least_records, most_records};
 ghost use Rattle.asked.specs.Edits.{clipped, count_round, first_fresh, past_fresh, run_of, run_round};
 
@@ -16,10 +15,6 @@ pub struct Placed {
     pub place: usize,
     pub plan: Plan,
     ghost place_few: { place ≤ most_records },
-    ghost deep: { plan.depth ≤ deepest },
-    ghost some: { 1 ≤ plan.spans },
-    ghost few: { plan.spans ≤ most_records },
-    ghost loop_least: { is_loop plan.basis ≡ true → least_records ≤ plan.spans },
 }
 
 impl Placed {
@@ -57,7 +52,7 @@ impl Placed {
 
     // The run of a loop, counted round its spans from three before the place on.
     fn run_round(self) -> Run
-        requires { 3 ≤ self.plan.spans }
+        requires { (3 ≤ self.plan.spans) × (self.plan.spans ≤ most_records) }
         ensures { result ≡ run_round self.edit self.plan.spans self.place }
     {
         let spans = self.plan.spans;
@@ -69,6 +64,7 @@ impl Placed {
 
     // The spans that the edit works afresh.
     pub fn run(self) -> Run
+        requires { (self.plan.spans ≤ most_records) × (is_loop self.plan.basis ≡ true → least_records ≤ self.plan.spans) }
         ensures { result ≡ run_of self.edit self.plan self.place }
     {
         if is_loop(self.plan.basis) {

@@ -1,5 +1,7 @@
 // Carrying points by one span.
-ghost use Rattle.std.specs.Prelude.{◌≡◌, length};
+ghost use Rattle.std.specs.Prelude.{◌≡◌, ◌≤◌, length};
+ghost use Rattle.curve.specs.Ways.{deepest};
+ghost use Rattle.shape.specs.Shape.{most_records};
 ghost use Rattle.spans.specs.Numbers.{per_span};
 ghost use Rattle.edit.specs.Inner.{Carriable, carried};
 ghost use Rattle.asked.specs.Edits.{past_fresh};
@@ -9,7 +11,8 @@ use asked::afresh::Placed;
 
 // The numbers of the spans past the fresh ones become those of the span before (insert) or after (remove); a move carries nothing.
 pub(crate) fn carry(placed: Placed, points: &mut [i32])
-    requires { Carriable placed.edit (past_fresh placed.edit placed.plan placed.place) placed.plan.spans (per_span placed.plan.depth) (length points.old) }
+    requires small { (placed.plan.depth ≤ deepest) × (placed.plan.spans ≤ most_records) }
+    requires carriable { Carriable placed.edit (past_fresh placed.edit placed.plan placed.place) placed.plan.spans (per_span placed.plan.depth) (length points.old) }
     ensures { points.new ≡ carried placed.edit (past_fresh placed.edit placed.plan placed.place) placed.plan.spans (per_span placed.plan.depth) points.old }
 {
     let past = placed.past_fresh();

@@ -6,9 +6,10 @@ mod carrying;
 mod checks;
 mod working;
 
-ghost use Rattle.std.specs.Prelude.{Ok, ◌≡◌, ◌≤◌, length};
+ghost use Rattle.std.specs.Prelude.{Ok, true, ◌≡◌, ◌≤◌, length};
 ghost use Rattle.whole.specs.Outcome.{outcome};
-ghost use Rattle.shape.specs.Shape.{most_records};
+ghost use Rattle.curve.specs.Span.{is_loop};
+ghost use Rattle.shape.specs.Shape.{least_records, most_records};
 ghost use Rattle.edit.specs.Reading.{accepts, change, edits};
 ghost use Rattle.edit.specs.Inner.{Workable};
 
@@ -102,7 +103,8 @@ fn edit_lists(
 
 // The answer of an accepted edit, of which working it counted `exact` numbers.
 fn change_of(placed: Placed, shape: Shape, exact: usize) -> Change
-    requires { (1 ≤ shape.count) × (shape.count ≤ most_records) }
+    requires count { (1 ≤ shape.count) × (shape.count ≤ most_records) }
+    requires spans { (placed.plan.spans ≤ most_records) × (is_loop placed.plan.basis ≡ true → least_records ≤ placed.plan.spans) }
     ensures { result ≡ change placed.edit shape placed.plan placed.place exact }
 {
     let run = placed.run();

@@ -1,6 +1,7 @@
 // The points of an edited outline: the spans it names worked afresh, the others kept or carried.
 ghost use Rattle.std.specs.Prelude.{true, cond, ◌≡◌, ◌+◌, ◌*◌, ◌-◌, ◌≤◌, ◌<◌, eqb, length};
 ghost use Rattle.curve.specs.Span.{is_loop};
+ghost use Rattle.curve.specs.Ways.{deepest};
 ghost use Rattle.whole.specs.Outcome.{outcome};
 ghost use Rattle.spans.specs.Numbers.{per_span};
 ghost use Rattle.spans.specs.Filled.{filled, fills_run};
@@ -82,6 +83,7 @@ fn rework(draft: &Draft, run: Run, points: &mut [i32]) -> usize
 
 // All points of the outline that an edit asks for, from the points it was given: `controls` are the new ones. It answers how many numbers of the fresh spans are exact.
 pub(crate) fn work(placed: Placed, controls: &[i32], points: &mut [i32]) -> usize
+    requires deep { (placed.plan.depth ≤ deepest) × (1 ≤ placed.plan.spans) }
     requires drawable { Drawable placed.plan controls.now }
     requires runnable { Runnable (run_of placed.edit placed.plan placed.place) placed.plan }
     requires room { HasRoom placed.plan (length points.old) }

@@ -1,5 +1,5 @@
 -- What the checks found decides the edit.
-use Rattle.std.specs.Prelude.{Result, Ok, Err}
+use Rattle.std.specs.Prelude.{Result, Err}
 use mathlib.Core.Path.{◌≡◌, sym, ap, ◌∙◌, subst}
 use borrow.Author.Rules.{rules}
 use Rattle.whole.specs.Outcome.{outcome}

@@ -51,7 +51,7 @@ returns-in-Insert c =
     let x = c.in-Insert.field-0 in
     let y = c.in-Insert.field-1 in
     let w = ap (λ (n : ℕ). 2 * n) c.steps-width.ensures in
-    let can = subst (λ e. Carriable e (past_fresh p.edit p.plan p.place) p.plan.spans (per_span p.plan.depth) (length old)) c.in-Insert.is c.requires in
+    let can = subst (λ e. Carriable e (past_fresh p.edit p.plan p.place) p.plan.spans (per_span p.plan.depth) (length old)) c.in-Insert.is c.requires.carriable in
     let copied = c.copy_within.ensures in
     copied_on old c.copy_within.new.self c.past_fresh-past.result p.plan.spans (2 * c.steps-width.result) c.if-spans-past.false copied.len x y (omega (arith, can.0)) (omega (arith, can.1, ap (λ (n : ℕ). p.plan.spans * n) w)) copied.by_index
     ∙ (λ i. carried (Insert x y) (c.past_fresh-past.ensures i) p.plan.spans (w i) old)
@@ -62,7 +62,7 @@ returns-in-Remove c =
     let p = c.args.placed in
     let old = c.args.points.now in
     let w = ap (λ (n : ℕ). 2 * n) c.steps-width.ensures in
-    let can = subst (λ e. Carriable e (past_fresh p.edit p.plan p.place) p.plan.spans (per_span p.plan.depth) (length old)) c.in-Remove.is c.requires in
+    let can = subst (λ e. Carriable e (past_fresh p.edit p.plan p.place) p.plan.spans (per_span p.plan.depth) (length old)) c.in-Remove.is c.requires.carriable in
     let copied = c.copy_within-in-Remove.ensures in
     copied-back old c.copy_within-in-Remove.new.self c.past_fresh-past.result p.plan.spans (2 * c.steps-width.result) c.if-spans-past.false copied.len (omega (arith, can, ap (λ (n : ℕ). p.plan.spans * n) w, w)) copied.by_index
     ∙ (λ i. carried Remove (c.past_fresh-past.ensures i) p.plan.spans (w i) old)

@@ -1,5 +1,5 @@
 -- Each of the three checks answers its own rows, the last over the greater of the two numbers of points.
-use Rattle.std.specs.Prelude.{Result, Ok, Err}
+use Rattle.std.specs.Prelude.{Ok, Err}
 use mathlib.Core.Path.{◌≡◌, sym, ap, ◌∙◌, subst}
 use Prim.Native.Nat.{ℕ, ◌≤◌, max}
 use native.Mathlib.Nat.{max-le}

@@ -23,5 +23,5 @@ returns c =
     ∙ ap (refreshes fresh p a.controls.now) c.carry.ensures in
     record {
       value = ap (λ (o : Outcome ℕ (List ℤ)). o.answer) done;
-      points_after = ap (λ (o : Outcome ℕ (List ℤ)). o.held) done ∙ worked e p j a.controls.now lent c.requires.drawable.round a.placed.some c.requires.room;
+      points_after = ap (λ (o : Outcome ℕ (List ℤ)). o.held) done ∙ worked e p j a.controls.now lent c.requires.drawable.round c.requires.deep.1 c.requires.room;
     }
