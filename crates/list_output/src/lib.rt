@@ -12,13 +12,13 @@ use console::write_output;
 use file_list::{MOST_PART, list_part, parts_of};
 use record_file::{MOST_CONTROLS, read};
 use shape::{Refusal, Shape};
-use std::io;
+use std::io::ErrorKind;
 
-// What a file was read as, and how writing its listing ended: all of it was handed on, so many characters; or a write failed, which was said.
-#[derive(Drop)]
+// What a file was read as, and how writing its listing ended: all of it was handed on, so many characters; or a write failed, which was said, in this way.
+#[derive(Clone, Copy)]
 pub struct Listed {
     pub reading: Result<Shape, Refusal>,
-    pub written: io::Result<usize>,
+    pub written: Result<usize, ErrorKind>,
 }
 
 // Writes the listing of a file, or the line of its refusal.
@@ -37,7 +37,7 @@ fn write_parts(
     rt: &(impl Print + Eprint),
     reading: Result<Shape, Refusal>,
     controls: &[i32],
-) -> io::Result<usize>
+) -> Result<usize, ErrorKind>
     requires { Fitting reading controls.now }
     ensures { Handed result (joined (part_text reading controls.now) 0 (parts_of reading)) }
 {
@@ -45,7 +45,7 @@ fn write_parts(
     let mut count = 0;
     for part in 0..parts_of(reading) {
         let end = list_part(reading, part, controls, &mut text);
-        write_output(rt, &text[..end])?;
+        write_output(rt, &text[..end]).map_err(|error| error.kind())?;
         count += end;
     }
     Ok(count)
