@@ -56,7 +56,7 @@ by_digits P f g n = upto n n (omega arith)
     upto zero n h = f n (omega arith)
     upto (suc k) n h = cases n (f n) (λ many. g n many (upto k (n / 10) (omega arith)))
 
-width_few : (n : ℕ) → n < 10 → length (natural n) ≡ 1
+pub width_few : (n : ℕ) → n < 10 → length (natural n) ≡ 1
 width_few n h = ap length (natural-few n h)
 
 width-more : (n : ℕ) → 10 ≤ n → length (natural n) ≡ length (natural (n / 10)) + 1
@@ -74,3 +74,15 @@ at_most (suc k) n h =
 
 pub some-digit : (n : ℕ) → 0 < length (natural n)
 some-digit n = cases n (λ few. omega (arith, width_few n few)) (λ many. omega (arith, width-more n many))
+
+some-power : (k : ℕ) → 0 < 10 ^ k
+some-power zero = omega arith
+some-power (suc k) = omega (arith, some-power k, pow-suc 10 k)
+
+-- a number from 10 ^ k on has more than k digits
+pub at_least : (k n : ℕ) → 10 ^ k ≤ n → suc k ≤ length (natural n)
+at_least zero n h = some-digit n
+at_least (suc k) n h =
+    let ten : 10 ≤ n = omega (arith, h, some-power k, pow-suc 10 k) in
+    let rest : 10 ^ k ≤ n / 10 = omega (arith, h, pow-suc 10 k) in
+    omega (arith, width-more n ten, at_least k (n / 10) rest)

@@ -6,6 +6,7 @@ ghost use Rattle.listing.specs.Inner.{pair_lines};
 ghost use Rattle.listing.specs.Written.{written};
 
 use crate::line::{Line, add_number, numbers_line};
+use crate::number::{decimal_width, width};
 use crate::word::put_word;
 
 // Writes the first line of an outline's listing from the start of `text`, if it fits.
@@ -79,6 +80,13 @@ fn point_line(number: usize, x: i32, y: i32) -> Line
     line
 }
 
+// How many characters that line has: three numbers, and one after each.
+fn point_width(number: usize, x: i32, y: i32) -> usize
+    ensures { result ≡ length (point_line number x y) }
+{
+    width(number as u64) + decimal_width(x) + decimal_width(y) + 3
+}
+
 // How much of so much room is left under the lines of the points, the first of them with the number
 // `first`. None where they do not fit.
 fn room_under(room: usize, first: usize, points: &[[i32; 2]]) -> Option<usize>
@@ -87,7 +95,7 @@ fn room_under(room: usize, first: usize, points: &[[i32; 2]]) -> Option<usize>
 {
     let mut left = room;
     for (i, &[x, y]) in points.iter().enumerate() {
-        left = left.checked_sub(point_line(first + i, x, y).len())?;
+        left = left.checked_sub(point_width(first + i, x, y))?;
     }
     Some(left)
 }
