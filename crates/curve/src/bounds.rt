@@ -8,5 +8,5 @@ pub fn is_beyond(z: i32, most: i32) -> bool
     requires { T (non_neg most) }
     ensures { result ≡ beyond (nat_abs most) z }
 {
-    most.unsigned_abs() < z.unsigned_abs()
+    !(-most..=most).contains(&z)
 }
