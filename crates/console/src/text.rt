@@ -69,12 +69,12 @@ impl<const N: usize> Text<N> {
         self.add_word(Buffer::new().format(n).as_bytes());
     }
 
-    // A space and a whole number.
-    fn add_spaced_number<I: Integer>(&mut self, n: I)
-        ensures { self.new ≡ with_spaced N self.old (I.text n) }
+    // A space and a word.
+    fn add_spaced(&mut self, word: &[u8])
+        ensures { self.new ≡ with_spaced N self.old word.now }
     {
         self.add_word(b" ");
-        self.add_number(n);
+        self.add_word(word);
     }
 
     // Whole numbers with a space between them.
@@ -89,13 +89,14 @@ impl<const N: usize> Text<N> {
         self.add_between(doubles, pattern_of);
     }
 
-    // The number that each item has, a space before each.
+    // The number that each item has, a space before each. All are laid out in one buffer: a new one for each took a quarter more instructions, where the numbers are small.
     fn add_each<T: Copy, I: Integer, F: Fn(T) -> I>(&mut self, items: &[T], number: F)
         requires { F.IsAlwaysCallable number }
         ensures { (text : T → List ℕ) → ((x : T) (n : I) → F.post number x n → I.text n ≡ text x) → self.new ≡ with_each N text self.old items.now }
     {
+        let mut digits = Buffer::new();
         for item in items {
-            self.add_spaced_number(number(*item));
+            self.add_spaced(digits.format(number(*item)).as_bytes());
         }
     }
 

@@ -12,8 +12,8 @@ loop-item-preserved g c =
     λ text acts.
     let items = c.args.items.now in
     let before = c.loop-item.invariant text acts in
-    let word = acts c.item-item.result c.number.result c.number.ensures ∙ ap text c.item-item.is in
-    c.add_spaced_number.ensures
+    let word = c.as_bytes.ensures.value ∙ c.format.ensures.text ∙ acts c.item-item.result c.number.result c.number.ensures ∙ ap text c.item-item.is in
+    c.add_spaced.ensures
     ∙ (λ i. with_spaced g.row.N (before i) (word i))
     ∙ sym (fold_more (λ t x. with_spaced g.row.N t (text x)) c.args.self.now items c.loop-item.item-index c.item-item.result c.loop-item-test.true)
 
