@@ -4,8 +4,7 @@ use arrayvec::ArrayVec;
 use doubles::double_of;
 use drawing::State;
 use shape::Shape;
-use std::default::MadeWith;
-use std::{io, iter};
+use std::io;
 
 // The longest lists, and the longest file.
 pub(crate) const LONGEST_CONTROLS: usize = 160;
@@ -16,14 +15,16 @@ pub(crate) const LONGEST_PREVIEW: usize = 11000;
 
 const LONGEST_FILE: usize = 800;
 
-// What a trials file works on: the shape, the drawing state, the lists, as long as they are lent, and the file.
+// What a trials file works on: the shape, the drawing state, the lists and how much of each is lent, and the file. The lists are arrays with their lengths beside them, since an `ArrayVec` is filled number by
+// number, which made a record that lends all of them five times as dear.
 #[derive(Drop)]
 pub(crate) struct Bench {
     pub shape: Shape,
     pub state: State,
-    pub controls: ArrayVec<i32, LONGEST_CONTROLS>,
-    pub points: ArrayVec<i32, LONGEST_POINTS>,
-    pub preview: ArrayVec<f64, LONGEST_PREVIEW>,
+    pub lengths: Lengths,
+    pub controls: [i32; LONGEST_CONTROLS],
+    pub points: [i32; LONGEST_POINTS],
+    pub preview: [f64; LONGEST_PREVIEW],
     pub file: ArrayVec<u8, LONGEST_FILE>,
 }
 
@@ -40,17 +41,15 @@ impl From<io::Error> for Stop {
     }
 }
 
-// A list becomes so many times the same number.
-fn fill<T: Copy + MadeWith<()>, const N: usize>(
-    list: &mut ArrayVec<T, N>,
-    length: usize,
-    number: T,
-) -> Result<(), Stop> {
-    list.clear();
-    for _ in 0..length {
-        list.try_push(number).map_err(|_| Stop::Bad)?;
-    }
-    Ok(())
+// The part of a list that is lent: so many of its numbers, or all where it has no more.
+pub(crate) fn lent<T>(list: &[T], length: usize) -> &[T] {
+    &list[..length.min(list.len())]
+}
+
+// The same to be written.
+pub(crate) fn lent_mut<T>(list: &mut [T], length: usize) -> &mut [T] {
+    let length = length.min(list.len());
+    &mut list[..length]
 }
 
 impl Bench {
@@ -64,9 +63,14 @@ impl Bench {
                 parameter: 0,
             },
             state: State::new(),
-            controls: ArrayVec::new(),
-            points: ArrayVec::new(),
-            preview: ArrayVec::new(),
+            lengths: Lengths {
+                controls: 0,
+                points: 0,
+                preview: 0,
+            },
+            controls: [0; LONGEST_CONTROLS],
+            points: [0; LONGEST_POINTS],
+            preview: [0.0; LONGEST_PREVIEW],
             file: ArrayVec::new(),
         }
     }
@@ -83,13 +87,19 @@ impl Bench {
     // Sets the bench up, and writes nothing.
     fn set(&mut self, setting: Setting) -> Result<(), Stop> {
         match setting {
-            Setting::Lists(lengths, number) => self.lend(lengths, number)?,
+            Setting::Lists(lengths, number) => self.lend(lengths, number),
             Setting::Shape(shape) => self.shape = shape,
             Setting::Control(at, number) => {
-                *self.controls.get_mut(at).ok_or(Stop::Bad)? = number;
+                *lent_mut(&mut self.controls, self.lengths.controls)
+                    .get_mut(at)
+                    .ok_or(Stop::Bad)? = number;
             }
-            Setting::Point(at, number) => *self.points.get_mut(at).ok_or(Stop::Bad)? = number,
-            Setting::EmptyFile => self.file.clear(),
+            Setting::Point(at, number) => {
+                *lent_mut(&mut self.points, self.lengths.points)
+                    .get_mut(at)
+                    .ok_or(Stop::Bad)? = number;
+            }
+            Setting::EmptyFile => self.file = ArrayVec::new(),
             Setting::MoreFile(bytes) => self
                 .file
                 .try_extend_from_slice(bytes)
@@ -100,9 +110,10 @@ impl Bench {
     }
 
     // Lends so much of each list, and every number in them becomes the same.
-    fn lend(&mut self, lengths: Lengths, number: i32) -> Result<(), Stop> {
-        fill(&mut self.controls, lengths.controls, number)?;
-        fill(&mut self.points, lengths.points, number)?;
-        fill(&mut self.preview, lengths.preview, double_of(number))
+    fn lend(&mut self, lengths: Lengths, number: i32) {
+        self.lengths = lengths;
+        lent_mut(&mut self.controls, lengths.controls).fill(number);
+        lent_mut(&mut self.points, lengths.points).fill(number);
+        lent_mut(&mut self.preview, lengths.preview).fill(double_of(number));
     }
 }

@@ -1,5 +1,5 @@
 // The calls of the library, on the lent lists, and what they answer.
-use crate::bench::Bench;
+use crate::bench::{Bench, lent, lent_mut};
 use crate::text::{say, say_change, say_numbers, say_patterns, say_refusal, say_shape, say_state};
 use crate::trial::{Call, List, Way};
 use drawing::Step;
@@ -28,8 +28,8 @@ impl Bench {
 
     // The outline, in one of the three ways. The record says which, so it is known only here.
     fn draw(&mut self, rt: &(impl Print + Eprint), way: Way) -> io::Result<()> {
-        let controls = self.controls.as_slice();
-        let points = self.points.as_mut_slice();
+        let controls = lent(&self.controls, self.lengths.controls);
+        let points = lent_mut(&mut self.points, self.lengths.points);
         let drawn = match way {
             Way::Weights => by_weights(self.shape, controls, points),
             Way::Halving => by_halving(self.shape, controls, points),
@@ -43,8 +43,8 @@ impl Bench {
 
     // The outline within a tolerance, by at most so many cuts.
     fn cut(&mut self, rt: &(impl Print + Eprint), tolerance: usize, most: usize) -> io::Result<()> {
-        let controls = self.controls.as_slice();
-        let points = self.points.as_mut_slice();
+        let controls = lent(&self.controls, self.lengths.controls);
+        let points = lent_mut(&mut self.points, self.lengths.points);
         match by_tolerance(self.shape, tolerance, most, controls, points) {
             Ok(
                 Steps {
@@ -59,8 +59,8 @@ impl Bench {
 
     // An edit, and the shape that it leaves.
     fn edit(&mut self, rt: &(impl Print + Eprint), place: usize, edit: Edit) -> io::Result<()> {
-        let controls = self.controls.as_mut_slice();
-        let points = self.points.as_mut_slice();
+        let controls = lent_mut(&mut self.controls, self.lengths.controls);
+        let points = lent_mut(&mut self.points, self.lengths.points);
         let edited = match edit {
             Edit::Move(x, y) => move_record(self.shape, place, x, y, controls, points),
             Edit::Insert(x, y) => insert_record(self.shape, place, x, y, controls, points),
@@ -77,7 +77,7 @@ impl Bench {
 
     // The view of a span: its length, and its numbers where there are any.
     fn view(&self, rt: &(impl Print + Eprint), span: usize) -> io::Result<()> {
-        let part = outline::view(self.shape, span, self.points.as_slice());
+        let part = outline::view(self.shape, span, lent(&self.points, self.lengths.points));
         say(rt, format_args!("view {}", part.len()))?;
         if part.is_empty() {
             return Ok(());
@@ -88,8 +88,8 @@ impl Bench {
     fn draw_preview(&mut self, rt: &(impl Print + Eprint)) -> io::Result<()> {
         match preview(
             self.shape,
-            self.controls.as_slice(),
-            self.preview.as_mut_slice(),
+            lent(&self.controls, self.lengths.controls),
+            lent_mut(&mut self.preview, self.lengths.preview),
         ) {
             Ok(count) => say(rt, format_args!("previewed {count}")),
             Err(refusal) => say_refusal(rt, refusal),
@@ -98,7 +98,10 @@ impl Bench {
 
     // A step of the drawing, and the state that it leaves.
     fn step(&mut self, rt: &(impl Print + Eprint), step: Step) -> io::Result<()> {
-        match self.state.step(step, self.controls.as_mut_slice()) {
+        match self
+            .state
+            .step(step, lent_mut(&mut self.controls, self.lengths.controls))
+        {
             Ok(state) => {
                 self.state = state;
                 say_state(rt, state)
@@ -109,7 +112,10 @@ impl Bench {
 
     // The file read into the controls, and the shape that it gives.
     fn read_file(&mut self, rt: &(impl Print + Eprint)) -> io::Result<()> {
-        match read(self.file.as_slice(), self.controls.as_mut_slice()) {
+        match read(
+            self.file.as_slice(),
+            lent_mut(&mut self.controls, self.lengths.controls),
+        ) {
             Ok(shape) => {
                 self.shape = shape;
                 say_shape(rt, shape)
@@ -127,9 +133,9 @@ impl Bench {
     // A list in one line.
     pub(crate) fn show(&self, rt: &(impl Print + Eprint), list: List) -> io::Result<()> {
         match list {
-            List::Controls => say_numbers(rt, self.controls.as_slice()),
-            List::Points => say_numbers(rt, self.points.as_slice()),
-            List::Preview => say_patterns(rt, self.preview.as_slice()),
+            List::Controls => say_numbers(rt, lent(&self.controls, self.lengths.controls)),
+            List::Points => say_numbers(rt, lent(&self.points, self.lengths.points)),
+            List::Preview => say_patterns(rt, lent(&self.preview, self.lengths.preview)),
         }
     }
 }

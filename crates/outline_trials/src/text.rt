@@ -33,7 +33,8 @@ pub(crate) fn say_refusal(rt: &(impl Print + Eprint), refusal: Refusal) -> io::R
     say(rt, format_args!("refused {number} {place}"))
 }
 
-// The line of a list.
+// The line of a list. It and the line of doubles are called and not inlined: a function pays at entry for the size of its locals, page by page, and these texts have a hundred and fifty.
+#[inline(never)]
 pub(crate) fn say_numbers(rt: &(impl Print + Eprint), numbers: &[i32]) -> io::Result<()> {
     let mut line = Text::<NUMBERS>::new();
     line.add_numbers(numbers);
@@ -93,6 +94,7 @@ pub(crate) fn say_state(rt: &(impl Print + Eprint), state: State) -> io::Result<
 }
 
 // The line of a list of doubles.
+#[inline(never)]
 pub(crate) fn say_patterns(rt: &(impl Print + Eprint), doubles: &[f64]) -> io::Result<()> {
     let mut line = Text::<PATTERNS>::new();
     line.add_patterns(doubles);
