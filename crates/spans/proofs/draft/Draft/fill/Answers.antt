@@ -10,6 +10,7 @@ use Rattle.curve.specs.declared.Four.{Four}
 use Rattle.curve.specs.Inner.{divisor_of}
 use Rattle.curve.specs.Span.{divisor}
 use Rattle.curve.specs.Tab.{tab}
+use Rattle.curve.proofs.Tab.{length-tab}
 use Rattle.curve.specs.Ways.{deepest}
 use Rattle.shape.specs.declared.Plan.{Plan}
 use Rattle.shape.specs.Shape.{most_records}
@@ -67,6 +68,12 @@ module _ (draft : Draft) (from to : ℕ) (among : (from < to) × (to ≤ draft.p
   few : s ≤ to → n ≤ most_records * per_span deepest
   few h = omega (arith, so_far.few, place-small p.depth s draft.deep (omega (arith, among.1, draft.drawable.few)))
 
+-- and a span's are few, whatever its controls are
+span-few : (k d : ℕ) (x y : Four) (at : ℕ) (held : List ℤ) (m : ℕ) (new : List ℤ) → k ≤ deepest
+    → outcome m new ≡ rounds d (tab (paired k x y) 0 (per_span k)) at 0 held → m ≤ most_records * per_span deepest
+span-few k d x y at held m new deep done =
+    omega (arith, rounds-most d (tab (paired k x y) 0 (per_span k)) at 0 held (outcome m new) done, length-tab (paired k x y) 0 (per_span k), place-small k 1 deep (omega arith))
+
 pub loop-span-init : goal.loop-span-init
 loop-span-init g c = running-none c.args.self.now.plan c.args.self.now.controls.now c.args.run.start c.args.run.end c.args.points.now
 
@@ -85,34 +92,26 @@ overflow_add-exact g c =
     let a = c.args in
     let l = c.loop-span in
     let sp = c.span.result in
-    let e = c.span.ensures in
-    let next = turn a.self.now a.run.start a.run.end c.requires.among a.points.now l.span l.exact l.points l.invariant (omega (arith, c.loop-span-test.true)) sp.depth (divisor_of sp.bits) sp.x sp.y
-    (record { depth = e.depth_value.0; over = e.depth_value.1; on_x = e.x_value; on_y = e.y_value })
-    c.fill_span-exact.result c.fill_span-exact.new.points c.fill_span-exact.auto.points c.fill_span-exact.ensures in
-    omega (arith, few a.self.now a.run.start a.run.end c.requires.among a.points.now (l.span + 1) (l.exact + c.fill_span-exact.result) c.fill_span-exact.new.points next (omega (arith, c.loop-span-test.true)))
+    let before = few a.self.now a.run.start a.run.end c.requires.among a.points.now l.span l.exact l.points l.invariant (omega (arith, c.loop-span-test.true)) in
+    omega (arith, before, span-few sp.depth (divisor_of sp.bits) sp.x sp.y (l.span * (2 * 2 ^ a.self.now.plan.depth % 2 ^ 64)) l.points c.fill_span-exact.result c.fill_span-exact.new.points sp.shallow c.fill_span-exact.ensures)
 
 pub overflow_add-exact-2 : goal.overflow_add-exact-2
 overflow_add-exact-2 g c =
     let a = c.args in
     let l = c.loop-span in
     let sp = c.span-ending.result in
-    let e = c.span-ending.ensures in
-    let drawn : Drawn a.self.now.plan a.self.now.controls.now (a.run.end - 1) sp.depth (divisor_of sp.bits) sp.x sp.y = record { depth = e.depth_value.0; over = e.depth_value.1; on_x = e.x_value; on_y = e.y_value } in
-    let all = final a.self.now a.run.start a.run.end c.requires.among a.points.now l.span l.exact l.points l.invariant (omega (arith, l.auto.span-end, c.loop-span-test.false, c.requires.among.0)) sp.depth (divisor_of sp.bits) sp.x sp.y drawn
-    c.fill_span-exact-2.result c.fill_span-exact-2.new.points c.fill_span-exact-2.auto.points c.fill_span-exact-2.ensures in
-    omega (arith, few a.self.now a.run.start a.run.end c.requires.among a.points.now a.run.end (l.exact + c.fill_span-exact-2.result) c.fill_span-exact-2.new.points all (omega arith))
+    let before = few a.self.now a.run.start a.run.end c.requires.among a.points.now l.span l.exact l.points l.invariant (omega (arith, l.auto.span-end, c.requires.among.0)) in
+    omega (arith, before, span-few sp.depth (divisor_of sp.bits) sp.x sp.y ((a.run.end - 1) * (2 * 2 ^ a.self.now.plan.depth % 2 ^ 64)) l.points c.fill_span-exact-2.result c.fill_span-exact-2.new.points sp.shallow c.fill_span-exact-2.ensures)
 
 pub overflow_add-result : goal.overflow_add-result
 overflow_add-result g c =
     let a = c.args in
     let l = c.loop-span in
     let sp = c.span-ending.result in
-    let e = c.span-ending.ensures in
-    let drawn : Drawn a.self.now.plan a.self.now.controls.now (a.run.end - 1) sp.depth (divisor_of sp.bits) sp.x sp.y = record { depth = e.depth_value.0; over = e.depth_value.1; on_x = e.x_value; on_y = e.y_value } in
-    let all = final a.self.now a.run.start a.run.end c.requires.among a.points.now l.span l.exact l.points l.invariant (omega (arith, l.auto.span-end, c.loop-span-test.false, c.requires.among.0)) sp.depth (divisor_of sp.bits) sp.x sp.y drawn
-    c.fill_span-exact-2.result c.fill_span-exact-2.new.points c.fill_span-exact-2.auto.points c.fill_span-exact-2.ensures in
+    let before = few a.self.now a.run.start a.run.end c.requires.among a.points.now l.span l.exact l.points l.invariant (omega (arith, l.auto.span-end, c.requires.among.0)) in
+    let last = span-few sp.depth (divisor_of sp.bits) sp.x sp.y ((a.run.end - 1) * (2 * 2 ^ a.self.now.plan.depth % 2 ^ 64)) l.points c.fill_span-exact-2.result c.fill_span-exact-2.new.points sp.shallow c.fill_span-exact-2.ensures in
     let most = rounds-most (divisor_of sp.bits) (ending sp.depth sp.x sp.y) (a.run.end * (2 * 2 ^ a.self.now.plan.depth % 2 ^ 64)) 0 c.fill_span-exact-2.new.points (outcome c.put_end.result c.put_end.new.points) c.put_end.ensures in
-    omega (arith, most, few a.self.now a.run.start a.run.end c.requires.among a.points.now a.run.end (l.exact + c.fill_span-exact-2.result) c.fill_span-exact-2.new.points all (omega arith))
+    omega (arith, before, last, most)
 
 pub returns : goal.returns
 returns g c =
